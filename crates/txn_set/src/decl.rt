@@ -1,0 +1,25 @@
+//! Declarations of transactions, and the ceilings of an item.
+use rt_base::{ItemId, List, Prio, Tick};
+
+/// A transaction as declared: its priority (a greater number is a higher one), its period, offset and deadline in
+/// ticks, its number of steps, the quiet ones among them that come before its first lock, and the items that it may
+/// read and write.
+#[derive(Drop)]
+pub struct TxnDecl {
+    pub prio: Prio,
+    pub period: Tick,
+    pub offset: Tick,
+    pub deadline: Tick,
+    pub steps: u64,
+    pub quiet: u64,
+    pub reads: List<ItemId>,
+    pub writes: List<ItemId>,
+}
+
+/// The ceilings of an item, after Sha, Rajkumar, Son and Chang: the priority of the highest transaction that may write
+/// it, and that of the highest that may read or write it; 0 where there is none.
+#[derive(Clone, Copy, PartialEq, Eq, Debug)]
+pub struct Ceilings {
+    pub write: Prio,
+    pub absolute: Prio,
+}

@@ -1,0 +1,8 @@
+//! Sets of items, transactions and relative sets that meet the rules, with the ceilings of their items.
+#![tactic(auto)]
+
+mod compiled_set;
+mod decl;
+
+pub use compiled_set::CompiledSet;
+pub use decl::{Ceilings, TxnDecl};
