@@ -12,9 +12,9 @@ use Rattle.rt_base.specs.declared.operation.End.TheVariants as end
 use Rattle.rt_base.specs.declared.operation.Outcome.{Outcome}
 use Rattle.rt_base.specs.declared.operation.Outcome.TheVariants.{Got, Put, Computed, Closed}
 use Rattle.item_model.specs.declared.decl.ItemDecl.{ItemDecl}
-pub use Rattle.item_model.specs.declared.stored.Stored.{Stored}
-pub use Rattle.item_model.specs.declared.stored.OutsideRead.{OutsideRead}
-pub use Rattle.item_model.specs.declared.stored.OwnWrite.{OwnWrite}
+use Rattle.item_model.specs.declared.stored.Stored.{Stored}
+use Rattle.item_model.specs.declared.stored.OutsideRead.{OutsideRead}
+use Rattle.item_model.specs.declared.stored.OwnWrite.{OwnWrite}
 use Rattle.item_model.specs.Kinds.{validity_of, is_dated, is_derived}
 
 -- a job's outside reads, and its writes, each item with its last value

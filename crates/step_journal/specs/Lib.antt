@@ -1,0 +1,9 @@
+pub mod State
+pub mod LockRule
+pub mod Running
+pub mod Instant
+pub mod Step
+pub mod History
+pub mod Serial
+pub mod Timing
+pub mod Journal
