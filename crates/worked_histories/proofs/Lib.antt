@@ -1,0 +1,10 @@
+mod Base
+mod SharedReaders
+mod Bystander
+mod BackToBack
+mod Late
+mod Overrun
+mod Stale
+mod Quiet
+mod Together
+mod DerivedStamp
