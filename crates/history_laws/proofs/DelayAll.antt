@@ -1,9 +1,9 @@
 -- In every legal history at most one lower job delays a job, for at most its blocking.
-use Rattle.std.proofs.Common.{◌≡◌, ◌≢◌, ◌⊎◌, ℕ, zero, suc, ◌+◌, ◌<◌, ◌≤◌, ◌==◌, Bool, true, false, cond, ◌&&◌, List, [], ◌∷◌, ◌++◌, map, length, Option, None, Some, get_or, set as with_item, refl, ap, sym, ◌∙◌, subst, inl, inr, arith, get_or-set_same, append_assoc}
+use Rattle.std.proofs.Common.{◌≡◌, ◌≢◌, ◌⊎◌, ℕ, ◌+◌, ◌<◌, ◌≤◌, ◌==◌, Bool, true, false, cond, ◌&&◌, List, [], ◌∷◌, ◌++◌, map, length, Option, None, Some, get_or, set as with_item, refl, ap, sym, ◌∙◌, subst, inl, inr, arith, get_or-set_same, append_assoc}
 use Rattle.std.proofs.lemmas.List.{append-nil}
 use Rattle.std.proofs.lemmas.List.Elements.{filter_map-append}
 use Rattle.std.proofs.lemmas.Bool.{and_parts, leb-true, lt-ltb, le-ltb, lt-leb, eqb-true, eq-eqb}
-use Rattle.std.specs.Prelude.{nat_lt, nat_le, slice_get}
+use Rattle.std.specs.Prelude.{nat_lt, nat_le}
 use Rattle.std.specs.Option.{option_map, option_and_then}
 use Rattle.std.specs.List.{filter_map, cons_option, filter, fold, find}
 use Rattle.rt_base.specs.declared.ids.JobId.{JobId}
@@ -30,7 +30,7 @@ use Rattle.step_journal.specs.History.{event_of, state_given, entry_given, state
 use Rattle.step_journal.specs.Timing.{Span, delayer_in, delayers_within, pending_span, ended_span, delayers}
 use Rattle.txn_set.specs.Ceilings.{blocking}
 use Rattle.history_laws.specs.Protocol.{DelayedByOne}
-use Rattle.history_laws.proofs.Members.{In, pending_in, filter_in}
+use Rattle.history_laws.proofs.Members.{in_at, In, pending_in, filter_in}
 use Rattle.history_laws.proofs.Invariant.{IsPending, is_any, Runs, running_is, in_range, same_job_is, written, written_other, holder_from_ceiling, job_row_is}
 use Rattle.history_laws.proofs.Holding.{append_in}
 use Rattle.history_laws.proofs.Ends.{rows_without, left, stays}
@@ -524,11 +524,6 @@ of_span set entries s job None h e = of_pending set entries s job (job_row s.row
 of_span set entries s job (Some d) h e =
     let f = find_some s.ended job d e in
     subst (λ (k : JobId). IsOne set k (delayers_within set entries k (Some (span d.release d.tick)))) f.1 (h.done d f.0).is_one
-
-in_at : {A : Type 0} (xs : List A) (k : ℕ) (a : A) → slice_get xs k ≡ Some a → In a xs
-in_at [] k a h = absurd cc
-in_at (x ∷ xs) zero a h = inl (cc)
-in_at (x ∷ xs) (suc k) a h = inr (in_at xs k a h)
 
 pub one_delay : (set : Set) (entries : List Entry) (job : JobId) → IsCompiled set → IsLegal set entries → DelayedByOne set entries job
 one_delay set entries job ok legal =

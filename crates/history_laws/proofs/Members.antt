@@ -14,6 +14,11 @@ abbrev pub In : {A : Type 0} → A → List A → Type 0
 In x [] = ⊥
 In x (y ∷ ys) = (x ≡ y) ⊎ In x ys
 
+pub in_at : {A : Type 0} (xs : List A) (k : ℕ) (a : A) → slice_get xs k ≡ Some a → In a xs
+in_at [] k a h = absurd cc
+in_at (x ∷ xs) zero a h = inl (cc)
+in_at (x ∷ xs) (suc k) a h = inr (in_at xs k a h)
+
 in_filter_at : {A : Type 0} (p : A → Bool) (x y : A) (ys : List A) (b : Bool) → p y ≡ b → p x ≡ true → (x ≡ y) ⊎ In x (filter p ys) → In x (cond b (y ∷ filter p ys) (filter p ys))
 in_filter_at p x y ys true e t h = h
 in_filter_at p x y ys false e t (inl same) = absurd (cc (ap p same))

@@ -155,7 +155,7 @@ legal_sound set entries ok legal = history_goes set (λ _. false) (opening set) 
 
 -- no cycle
 
-waiter : (rows : List (Option Row)) (a b : JobId) (o : Option Row) → job_row rows a ≡ o → option_and_then (λ r. r.waits_on) o ≡ Some b → (x : Row) × IsPending rows x × (x.job ≡ a) × (x.waits_on ≡ Some b)
+pub waiter : (rows : List (Option Row)) (a b : JobId) (o : Option Row) → job_row rows a ≡ o → option_and_then (λ r. r.waits_on) o ≡ Some b → (x : Row) × IsPending rows x × (x.job ≡ a) × (x.waits_on ≡ Some b)
 waiter rows a b None e h = absurd cc
 waiter rows a b (Some x) e h = let j = job_row_is rows a x e in (x, j.0, j.1, h)
 
@@ -208,7 +208,7 @@ pub running_none : (set : Set) (rows : List (Option Row)) (refused : JobId → B
 unfolding running
 running_none set rows refused named inv h = runs_at set rows refused (highest set (pending rows)) named inv refl h
 
-pub never_stuck : (set : Set) (entries : List Entry) → IsCompiled set → IsLegal set entries → NeverStuck (state_of set entries) set
+pub never_stuck : (set : Set) (entries : List Entry) → IsCompiled set → IsLegal set entries → NeverStuck set (state_of set entries)
 never_stuck set entries ok legal =
     let sound = legal_sound set entries ok legal in
     record {

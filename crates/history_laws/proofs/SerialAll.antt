@@ -18,14 +18,18 @@ use Rattle.step_journal.specs.Instant.{with_row, arrived}
 use Rattle.step_journal.specs.Step.{Event, plan, ask, idle, given, plans_of, may_plan, next_job, with_plan, may_ask, lock_refusal, row_after, end_by, settled, after_effect, with_step, end_of, with_wait, answered, asked, next_tick, idled, step}
 use Rattle.step_journal.specs.History.{event_of, state_given, entry_given, state_after, states_after, IsLegalFrom, IsLegal, state_of}
 use Rattle.step_journal.specs.Serial.{ops_of, outcomes_of, work_alone, outcomes_alone, IsSerial}
-use Rattle.history_laws.proofs.Invariant.{IsPending, Runs, running_is, job_row_is, in_range, written}
+use Rattle.history_laws.proofs.Invariant.{IsPending, Runs, running_is, job_row_is, in_range, written, same_row}
 use Rattle.history_laws.proofs.Holding.{append_in}
 use Rattle.history_laws.proofs.Calendar.{Sound, named_from}
 use Rattle.history_laws.proofs.Histories.{may_plan_is, settled_sound, idle_early}
-use Rattle.history_laws.proofs.Never.{refused_after, step_goes, refused_all, entry_goes, opening_sound, nothing_at, legal_sound}
+use Rattle.history_laws.proofs.Never.{waiter, refused_after, step_goes, refused_all, entry_goes, opening_sound, nothing_at, legal_sound}
 use Rattle.history_laws.proofs.Serials.{IsUntouched, Serial, quiet_entry, rows_from}
 use Rattle.history_laws.proofs.SerialSteps.{arrived_serial, settled_serial}
 use Rattle.history_laws.proofs.Conflict.{conflict}
+use Rattle.history_laws.proofs.Members.{In, in_at}
+use Rattle.history_laws.specs.Protocol.{IsAloneSoFar, HoldsNothing}
+use Rattle.step_journal.specs.declared.entry.EndedJob.{EndedJob}
+use Rattle.std.specs.Prelude.{slice_get}
 
 -- a plan
 
@@ -196,7 +200,7 @@ serial set entries ok legal = let h = legal_serial set entries ok legal in recor
 
 -- no two pending jobs touch an item that one of them wrote
 
-pub no_conflict : (set : Set) (entries : List Entry) (a b : JobId) (x y : Row) (i : ℕ) → IsCompiled set → IsLegal set entries → job_row (state_of set entries).rows a ≡ Some x → job_row (state_of set entries).rows b ≡ Some y → a.tx.0 ≢ b.tx.0
+pub no_conflict : (set : Set) (entries : List Entry) (a b : JobId) (x y : Row) (i : ℕ) → IsCompiled set → IsLegal set entries → job_row (state_of set entries).rows a ≡ Some x → job_row (state_of set entries).rows b ≡ Some y → a ≢ b
     → has_written x.work i ≡ true → (has_read y.work i || has_written y.work i) ≡ false
 no_conflict set entries a b x y i ok legal hx hy ne wrote =
     let sound = legal_sound set entries ok legal in
@@ -205,4 +209,35 @@ no_conflict set entries a b x y i ok legal hx hy ne wrote =
     let py = job_row_is (state_of set entries).rows b y hy in
     false_from_ne_true _ (λ touched.
     conflict set (state_of set entries).rows (refused_all (λ _. false) entries) x y i (named_from set (state_of set entries).rows ok sound.frame) sound.protocol (omega (arith, sound.frame.count)) px.0 py.0
-    (λ e. ne (sym (ap (λ (k : JobId). k.tx.0) px.1) ∙ (e ∙ ap (λ (k : JobId). k.tx.0) py.1))) (h.declared x px.0) (h.declared y py.0) wrote touched)
+    (λ e. ne (sym px.1 ∙ (ap (λ (q : Row). q.job) (same_row (state_of set entries).rows x y px.0 py.0 e) ∙ py.1))) (h.declared x px.0) (h.declared y py.0) wrote touched)
+
+-- a pending job has been told what it would alone
+
+pub pending_alone : (set : Set) (entries : List Entry) (job : JobId) (row : Row) → IsCompiled set → IsLegal set entries → job_row (state_of set entries).rows job ≡ Some row → IsAloneSoFar set entries row
+pending_alone set entries job row ok legal h =
+    let a = (legal_serial set entries ok legal).alone row (job_row_is (state_of set entries).rows job row h).0 in
+    record { outcomes = a.outcomes; work = a.work }
+
+-- an ended job has no row, and no row waits on it
+
+none_by : (o : Option Row) → ((x : Row) → o ≡ Some x → ⊥) → o ≡ None
+none_by None h = refl
+none_by (Some x) h = absurd (h x refl)
+
+pub ended_hold_nothing : (set : Set) (entries : List Entry) (n : ℕ) (ended : EndedJob) → IsCompiled set → IsLegal set entries → slice_get (state_of set entries).ended n ≡ Some ended
+    → HoldsNothing (state_of set entries) ended.job
+ended_hold_nothing set entries n ended ok legal at =
+    let rows = (state_of set entries).rows in
+    let i : In ended (state_of set entries).ended = in_at (state_of set entries).ended n ended at in
+    let over : (x : Row) → IsPending rows x → x.job ≡ ended.job → ⊥ = λ x h e.
+    let less : ended.job.serial < x.job.serial = (legal_serial set entries ok legal).done_row ended x i h (ap (λ (k : JobId). k.tx.0) (sym e)) in
+    let same : x.job.serial ≡ ended.job.serial = ap (λ (k : JobId). k.serial) e in
+    omega arith in
+    record {
+      no_row = none_by (job_row rows ended.job) (λ x h. let p = job_row_is rows ended.job x h in over x p.0 p.1);
+      waits = λ other h. let w = waiter rows ended.job other (job_row rows ended.job) refl h in over w.0 w.1 w.2;
+      waited_on = λ other h.
+          let w = waiter rows other ended.job (job_row rows other) refl h in
+          let b = (legal_sound set entries ok legal).protocol.three w.0 ended.job w.1 w.3 in
+          over b.blocker b.here b.is;
+    }
