@@ -1,0 +1,17 @@
+pub mod Members
+pub mod Topmost
+pub mod Invariant
+pub mod Events
+pub mod Holding
+pub mod Ends
+pub mod Calendar
+pub mod Histories
+pub mod Never
+pub mod Conflict
+pub mod Alone
+pub mod Serials
+pub mod SerialSteps
+pub mod SerialAll
+pub mod Delays
+pub mod DelayAll
+pub mod Pushes

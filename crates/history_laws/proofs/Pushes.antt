@@ -1,0 +1,50 @@
+-- One more legal entry.
+use Rattle.std.proofs.Common.{◌≡◌, ℕ, ◌+◌, ◌<◌, ◌==◌, Bool, true, false, cond, List, [], ◌∷◌, ◌++◌, Some, set as with_item, refl, ap, sym, ◌∙◌, arith}
+use Rattle.std.proofs.lemmas.Bool.{ne_eqb}
+use Rattle.step_journal.specs.declared.entry.Entry.{Entry}
+use Rattle.step_journal.specs.declared.entry.Entry.TheVariants.{Planned}
+use Rattle.txn_set.specs.Set.{Set}
+use Rattle.step_journal.specs.State.{State, opening}
+use Rattle.step_journal.specs.Instant.{with_row}
+use Rattle.step_journal.specs.Step.{plan, given, plans_of, next_job, may_plan, with_plan, step}
+use Rattle.step_journal.specs.History.{event_of, state_given, entry_given, state_after, states_after, IsLegalEntry, IsLegalFrom, IsLegal, state_of}
+
+legal_more : (set : Set) (s : State) (es : List Entry) (e : Entry) → IsLegalFrom set s es → IsLegalEntry set (states_after set s es) e → IsLegalFrom set s (es ++ e ∷ [])
+legal_more set s [] e h l = (l, tt)
+legal_more set s (x ∷ es) e h l = (h.0, legal_more set (state_after set s x) es e h.1 l)
+
+state_more : (set : Set) (s : State) (es : List Entry) (e : Entry) → states_after set s (es ++ e ∷ []) ≡ state_after set (states_after set s es) e
+state_more set s [] e = refl
+state_more set s (x ∷ es) e = state_more set (state_after set s x) es e
+
+-- the history with one more entry is legal, and its state is the one that the step gives
+pub record Pushed (set : Set) (es : List Entry) (e : Entry) (next : State) : Type 0 where
+  pub legal : IsLegal set (es ++ e ∷ [])
+  pub state : next ≡ state_of set (es ++ e ∷ [])
+
+pub pushed : (set : Set) (es : List Entry) (e : Entry) (next : State) → IsLegal set es → step set (state_of set es) (event_of e) ≡ Some (e, next) → Pushed set es e next
+pushed set es e next legal h = record {
+  legal = legal_more set (opening set) es e legal (ap entry_given h);
+  state = sym (state_more set (opening set) es e ∙ ap (state_given (state_of set es)) h);
+}
+
+pub plan_later_is : (set : Set) (s : State) (tx tick : ℕ) → may_plan set s tx tick ≡ true → s.now < tick
+    → step set s (plan tx tick) ≡ Some (
+      Planned (record { 0 = tx }) tick,
+      record s {
+        plans = with_item s.plans tx (record { number = (plans_of s tx).number + 1; last = tick });
+        planned = s.planned ++ record { job = next_job s tx; tick = tick } ∷ [];
+      },
+    )
+unfolding step with_plan
+plan_later_is set s tx tick may later =
+    let e : (tick == s.now) ≡ false = ne_eqb tick s.now (λ q. omega arith) in
+    ap (λ (b : Bool). given b (Planned (record { 0 = tx }) tick, with_plan s tx tick)) may
+    ∙ ap (λ (b : Bool). Some (
+      Planned (record { 0 = tx }) tick,
+      record s {
+        plans = with_item s.plans tx (record { number = (plans_of s tx).number + 1; last = tick });
+        planned = cond b s.planned (s.planned ++ record { job = next_job s tx; tick = tick } ∷ []);
+        rows = cond b (with_row tick s.rows (next_job s tx)) s.rows;
+      },
+    )) e
