@@ -1,5 +1,5 @@
 -- What sources and sinks in memory stand for, and which of their calls fail.
-use Rattle.std.specs.Prelude.{◌≡◌, ℕ, ◌+◌, ◌-◌, ◌^◌, ◌<◌, ◌≤◌, ◌⊎◌, min, List, length}
+use Rattle.std.specs.Prelude.{◌≡◌, ℕ, ◌-◌, ◌^◌, ◌<◌, ◌≤◌, ◌⊎◌, List, length}
 use Rattle.std.specs.List.{Contains}
 
 -- the bytes still to come, the numbers of the calls that fail, the number of the next call, and how many failed
@@ -17,10 +17,6 @@ pub record SinkState : Type 0 where
   pub failing : List ℕ
   pub calls : ℕ
   pub faults : ℕ
-
--- one more, up to the greatest u64
-abbrev pub counted : ℕ → ℕ
-counted n = min (n + 1) (2 ^ 64 - 1)
 
 -- the call of this number fails: it is one of those given, or the greatest u64 of calls were made
 abbrev pub Fails : List ℕ → ℕ → Type 0

@@ -2,8 +2,8 @@
 ghost use Rattle.std.specs.Prelude.{◌≡◌, ◌+◌, ◌-◌, ◌^◌, ◌<◌, ◌≤◌, ◌↔◌, ◌⊎◌, [], Some, drop, take, min, length, IfOk, IsErr, IsTrue, OnErr, OnOk};
 ghost use Rattle.std.specs.Io.{ReadsAtMost};
 ghost use Rattle.std.specs.Io.KnownBytes.{ReadConsumes, WriteAppends};
-ghost use Rattle.io_edge.specs.Causes.{HasCause};
-ghost use Rattle.io_edge.specs.Memory.{Fails, IsFull, counted};
+ghost use Rattle.io_edge.specs.Causes.{HasCause, counted};
+ghost use Rattle.io_edge.specs.Memory.{Fails, IsFull};
 
 use crate::{Failed, Sink, Source};
 use rt_base::OutOfMemory;
@@ -28,10 +28,10 @@ impl Model for MemSource {
     ghost Value = { SourceState };
 
     ghost view = { λ s. record {
-        left = drop s.at s.bytes.items;
-        failing = s.failing.items;
-        calls = s.calls;
-        faults = s.faults;
+      left = drop s.at s.bytes.items;
+      failing = s.failing.items;
+      calls = s.calls;
+      faults = s.faults;
     } };
 
     ghost invariant = { λ s. s.at ≤ vec_len s.bytes };
@@ -89,8 +89,7 @@ impl Source for MemSource {
         let failed = fails(&self.failing, self.calls);
         self.calls = self.calls.saturating_add(1);
         if failed {
-            self.faults = self.faults.saturating_add(1);
-            return Err(Failed);
+            return Err(Failed::counted_in(&mut self.faults));
         }
         let count = copy_front(&self.bytes[self.at..], into);
         self.at += count;
@@ -161,12 +160,12 @@ impl Model for MemSink {
     ghost Value = { SinkState };
 
     ghost view = { λ s. record {
-        taken = s.bytes.items;
-        room = s.room;
-        most = s.most;
-        failing = s.failing.items;
-        calls = s.calls;
-        faults = s.faults;
+      taken = s.bytes.items;
+      room = s.room;
+      most = s.most;
+      failing = s.failing.items;
+      calls = s.calls;
+      faults = s.faults;
     } };
 
     ghost invariant = { λ s. (s.room ≤ vec_capacity s.bytes) × (vec_len s.bytes ≤ s.room) × (1 ≤ s.most) };
@@ -183,7 +182,13 @@ impl MemSink {
     ) -> Result<MemSink, OutOfMemory>
         requires { 1 ≤ most }
         ensures { IfOk result (λ s. s ≡ record {
-            taken = []; room = room; most = most; failing = failing.items; calls = 0; faults = 0 }) }
+          taken = [];
+          room = room;
+          most = most;
+          failing = failing.items;
+          calls = 0;
+          faults = 0;
+        }) }
     {
         let bytes = Vec::with_capacity(alloc, room)?;
         Ok(MemSink {
@@ -230,8 +235,7 @@ impl Sink for MemSink {
         let failed = fails(&self.failing, self.calls);
         self.calls = self.calls.saturating_add(1);
         if failed || full {
-            self.faults = self.faults.saturating_add(1);
-            return Err(Failed);
+            return Err(Failed::counted_in(&mut self.faults));
         }
         self.bytes.extend_from_slice(&bytes[..count]).unwrap();
         Ok(count)

@@ -2,8 +2,7 @@
 ghost use Rattle.std.specs.Prelude.{◌≡◌, ◌-◌, ◌^◌, ◌<◌, ◌≤◌, length, None, IfOk, IfSome, OnErr, OnOk};
 ghost use Rattle.std.specs.Io.{ReadsAtMost};
 ghost use Rattle.std.specs.Io.KnownBytes.{ReadConsumes, WriteAppends};
-ghost use Rattle.io_edge.specs.Causes.{HasCause};
-ghost use Rattle.io_edge.specs.Memory.{counted};
+ghost use Rattle.io_edge.specs.Causes.{HasCause, counted};
 
 use crate::{Failed, Sink, Source};
 use std::io::{Read, Write};
@@ -50,10 +49,7 @@ impl<R: Read> Source for StdSource<R> {
     {
         match self.reader.read(into) {
             Ok(count) => Ok(count),
-            Err(_) => {
-                self.faults = self.faults.saturating_add(1);
-                Err(Failed)
-            }
+            Err(_) => Err(Failed::counted_in(&mut self.faults)),
         }
     }
 }
@@ -114,10 +110,7 @@ impl<W: Write> Sink for StdSink<W> {
     {
         match write_some(&mut self.writer, bytes) {
             Some(count) => Ok(count),
-            None => {
-                self.faults = self.faults.saturating_add(1);
-                Err(Failed)
-            }
+            None => Err(Failed::counted_in(&mut self.faults)),
         }
     }
 }

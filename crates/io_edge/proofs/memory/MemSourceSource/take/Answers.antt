@@ -6,6 +6,7 @@ pub returns-clause-bytes : goal.returns-clause-bytes
 returns-clause-bytes c =
     let left = ap (λ s. s.left) c.self.view_is in
     let copied = rw c.deref-2.ensures.value at c.copy_front-count.ensures.copied in
-    let count = rw c.deref-2.ensures.value at c.copy_front-count.ensures.count in
-    (sym left ∙ copied_rest _ _ _ _ copied,
-     λ none some. nothing_left _ _ _ _ count none (omega (arith, some, c.copy_front-count.auto.into)))
+    let count = rw c.deref-2.ensures.value at c.copy_front-count.ensures.count in (
+      sym left ∙ copied_rest _ _ _ _ copied,
+      λ none some. nothing_left _ _ _ _ count none (omega (arith, some, c.copy_front-count.auto.into)),
+    )
