@@ -11,7 +11,8 @@ use std::alloc::Global;
 use std::marker::Model;
 
 /// Bytes in memory. Its calls are numbered from 0, and those whose numbers are given fail; after the first `u64::MAX`
-/// calls each call fails. Contracts see the bytes still to come, the given numbers, the next call's number and the count.
+/// calls each call fails. Contracts see the bytes still to come, the given numbers, the next call's number and how many
+/// calls failed. A call takes time in the given numbers and the bytes taken, and no memory.
 #[derive(Drop)]
 pub struct MemSource {
     bytes: Vec<u8>,
@@ -55,7 +56,7 @@ fn copy_front(from: &[u8], into: &mut [u8]) -> usize
 }
 
 impl MemSource {
-    /// These bytes; the calls of these numbers fail.
+    /// These bytes; the calls of these numbers fail. It takes no memory.
     pub fn new(bytes: Vec<u8>, failing: Vec<u64>) -> MemSource
         ensures { result ≡ record { left = bytes.items; failing = failing.items; calls = 0; faults = 0 } }
     {
@@ -97,7 +98,7 @@ impl Source for MemSource {
     }
 }
 
-/// Bytes in memory, and no call fails. Contracts see the bytes still to come.
+/// Bytes in memory, and no call fails. Contracts see the bytes still to come. A call takes no memory.
 #[derive(Drop)]
 pub struct SureSource {
     bytes: Vec<u8>,
@@ -115,7 +116,7 @@ impl Model for SureSource {
 }
 
 impl SureSource {
-    /// These bytes.
+    /// These bytes. It takes no memory.
     pub fn new(bytes: Vec<u8>) -> SureSource
         ensures { result ≡ bytes.items }
     {

@@ -54,8 +54,8 @@ impl<R: Read> Source for StdSource<R> {
     }
 }
 
-/// A writer, such as standard output. It tells nothing of bytes, flushes after each write, and counts a write that takes
-/// nothing as one that failed. Contracts see the count of calls that failed.
+/// A writer, such as standard output. It tells nothing of bytes, flushes after each write, and counts a write that
+/// takes nothing as one that failed. Contracts see the count of calls that failed.
 #[derive(Drop)]
 pub struct StdSink<W> {
     writer: W,

@@ -21,5 +21,12 @@ returns-then-is_err-clause-bytes g c =
     record {
       bytes = before ++ piece;
       consumed = consumes_then _ _ _ _ _ c.loop-count.invariant.so_far c.in-Ok.ensures.bytes.0;
-      many = omega (arith, length-append before piece, c.in-Ok.ensures.bound.1, c.len.ensures, c.if-count-limit.false, c.loop-count.invariant.within);
+      many = omega (
+        arith,
+        length-append before piece,
+        c.in-Ok.ensures.bound.1,
+        c.len.ensures,
+        c.if-count-limit.false,
+        c.loop-count.invariant.within,
+      );
     }
