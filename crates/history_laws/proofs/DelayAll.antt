@@ -210,8 +210,8 @@ pub record MayStop (s : State) (row : Row) : Type 0 where
   pub job : cur.job ≡ row.job
   pub release : cur.release ≡ row.release
 
-end_like : (rows : List (Option Row)) (job : JobId) (z : Row) → IsPending (rows_without rows job) z → Like rows z
-end_like rows job z h = let l = left rows job z h in record {
+pub left_like : (rows : List (Option Row)) (job : JobId) (z : Row) → IsPending (rows_without rows job) z → Like rows z
+left_like rows job z h = let l = left rows job z h in record {
   was = l.was;
   here = l.here;
   job = ap (λ (q : Row). q.job) l.is;
@@ -237,7 +237,7 @@ ended_delay set es t s row e items r past done o =
 
 end_delay : (set : Set) (es : List Entry) (t : ℕ) (s : State) (row : Row) (e : End) (items : List Stored) → MayStop s row → Delay set es t s → Delay set es t (with_end row e t (record s { items = items }))
 end_delay set es t s row e items m h =
-    let r = like_rest set es t s (rows_without s.rows row.job) (end_like s.rows row.job) h in
+    let r = like_rest set es t s (rows_without s.rows row.job) (left_like s.rows row.job) h in
     let o : IsOne set row.job (steps_since set es row.job row.release) = subst (λ (n : ℕ). IsOne set row.job (steps_since set es row.job n)) m.release (subst (λ (j : JobId). IsOne set j (steps_since set es j m.cur.release)) m.job (h.each m.cur m.here).is_one) in
     ended_delay set es t s row e items r h.past h.done o
 
@@ -377,7 +377,7 @@ module _ (set : Set) (es : List Entry) (s : State) (x : Row) (op : Op) (over : O
     done = step_done;
   }
   settled_delay (Some e) at =
-      let old = like_rest set es (s.now + 1) s (rows_without s.rows x.job) (end_like s.rows x.job) (delay_later set es s.now (s.now + 1) s (omega arith) h) in
+      let old = like_rest set es (s.now + 1) s (rows_without s.rows x.job) (left_like s.rows x.job) (delay_later set es s.now (s.now + 1) s (omega arith) h) in
       let here : IsPending (with_item s.rows x.job.tx.0 (Some (row_after s x op))) (row_after s x op) = get_or-set_same s.rows x.job.tx.0 (Some (row_after s x op)) None (in_range s.rows _ x run.here) in
       let own = (step_each (row_after s x op) here).is_one in
       ended_delay set (es ++ entry ∷ []) (s.now + 1) s (row_after s x op) e (items_after set.items (work_after s.items x.work op) x.release e s.items)

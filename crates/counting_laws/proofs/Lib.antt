@@ -1,0 +1,6 @@
+pub mod Sums
+pub mod Totals
+pub mod Rooms
+pub mod Counts
+pub mod JobCounts
+pub mod CountingAll
