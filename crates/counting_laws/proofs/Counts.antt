@@ -208,7 +208,7 @@ sum_bound : (f : ℕ → ℕ) (m n : ℕ) → ((k : ℕ) → f k ≤ m) → sum_
 sum_bound f m zero h = omega arith
 sum_bound f m (suc n) h = let e : suc n * m ≡ n * m + m = suc-mul n m in omega (arith, sum_bound f m n h, h n, e)
 
-greatest_bound : (ts : List TxnDecl) → All HasGoodTimes ts → greatest (map (λ t. t.period) ts) ≤ 2 ^ 30
+pub greatest_bound : (ts : List TxnDecl) → All HasGoodTimes ts → greatest (map (λ t. t.period) ts) ≤ 2 ^ 30
 greatest_bound [] h = omega arith
 greatest_bound (t ∷ ts) h = let p = (h zero t (omega arith)).period.1 in omega (arith, p, greatest_bound ts (λ n d lt. h (suc n) d (omega arith)))
 

@@ -1,5 +1,6 @@
 -- How many entries a legal history has, and how far its time goes.
 use Rattle.std.specs.Prelude.{◌≡◌, ℕ, suc, ◌+◌, ◌*◌, ◌^◌, ◌<◌, ◌≤◌, ◌==◌, if◌then◌else◌, List, [], ◌∷◌, map, length}
+use Rattle.std.specs.List.{filter}
 use Rattle.rt_base.specs.declared.ids.JobId.{JobId}
 use Rattle.txn_set.specs.declared.decl.TxnDecl.{TxnDecl}
 use Rattle.step_journal.specs.declared.entry.Entry.{Entry}
@@ -62,13 +63,16 @@ greatest_planned entries = greatest (map tick_in entries)
 abbrev pub greatest_period : Set → ℕ
 greatest_period set = greatest (map (λ t. t.period) set.txns)
 
--- the entries are few: each job has one plan, at most its steps and one refusal, and each idling releases a job
+-- The entries are few: each job has one plan, at most its steps and one refusal, and each idling releases a job. No more jobs
+-- of a transaction end than were planned.
 pub record IsCounted (set : Set) (entries : List Entry) : Type 0 where
   pub steps : (job : JobId) → length (ops_of entries job) ≤ (txn_of set job.tx.0).steps
   pub refusals : (job : JobId) → refusal_count entries job ≤ 1
   pub room : length entries ≤ planned_room set entries
   pub jobs : (jobs : ℕ → ℕ) → ((n : ℕ) → n < length set.txns → plan_count entries n ≤ jobs n) → length entries ≤ room_of_jobs set.txns jobs
   pub all : length entries < 2 ^ 42
+  pub planned : (n : ℕ) → plan_count entries n < 2 ^ 32
+  pub ended : (n : ℕ) → length (filter (λ e. e.job.tx.0 == n) (state_of set entries).ended) ≤ plan_count entries n
 
 -- the time goes at most a period beyond the last planned tick
 pub record IsTimed (set : Set) (entries : List Entry) : Type 0 where
@@ -76,6 +80,7 @@ pub record IsTimed (set : Set) (entries : List Entry) : Type 0 where
   pub last : (n : ℕ) → (plans_of (state_of set entries) n).last ≤ greatest_planned entries
   pub planned : greatest_planned entries ≤ 2 ^ 40
   pub now : (state_of set entries).now ≤ greatest_planned entries + greatest_period set
+  pub all : (state_of set entries).now ≤ 2 ^ 40 + 2 ^ 30
 
 abbrev pub EntriesAreFew : Type 0
 EntriesAreFew = (set : Set) (entries : List Entry) → IsCompiled set → IsLegal set entries → IsCounted set entries

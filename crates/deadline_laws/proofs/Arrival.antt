@@ -15,9 +15,9 @@ use Rattle.step_journal.specs.Instant.{with_row, with_end, with_late, is_due, wi
 use Rattle.history_laws.proofs.Members.{In, filter_in, pending_in}
 use Rattle.history_laws.proofs.Invariant.{IsPending}
 use Rattle.history_laws.proofs.Holding.{append_in}
-use Rattle.history_laws.proofs.Ends.{rows_without, left}
+use Rattle.history_laws.proofs.Ends.{rows_without}
 use Rattle.history_laws.proofs.Calendar.{Follows, AreSpaced, Calendar, Sound, times_at, period_of, sorted_in, spaced_two, late_rows, s1, due, after_late}
-use Rattle.history_laws.proofs.DelayAll.{Like, left_like}
+use Rattle.history_laws.proofs.DelayAll.{left_like}
 use Rattle.deadline_laws.specs.Response.{HoldsDemand}
 use Rattle.deadline_laws.proofs.Load.{pend_left}
 use Rattle.deadline_laws.proofs.Demand.{level, period_at}

@@ -6,8 +6,6 @@ use Rattle.step_journal.specs.declared.entry.Entry.{Entry}
 use Rattle.txn_set.specs.Set.{Set, IsCompiled}
 use Rattle.step_journal.specs.State.{State, Row, row_of}
 use Rattle.step_journal.specs.History.{IsLegal, state_of}
-use Rattle.txn_set.specs.Ceilings.{blocking}
-use Rattle.step_journal.specs.Base.{base, apart_set}
 use Rattle.deadline_laws.specs.Response.{demand, HoldsDemand, HasResponses, IsResponse, response}
 
 -- each ended job of the transaction ended within r ticks of its release, and not late; its pending job has time left
@@ -15,9 +13,15 @@ pub record IsInTime (tx r : ℕ) (s : State) : Type 0 where
   pub ended : All (λ e. e.job.tx.0 ≡ tx → (e.tick ≤ e.release + r) × (e.end ≢ Late)) s.ended
   pub pending : (row : Row) → row_of s.rows tx ≡ Some row → s.now < row.release + r
 
--- for every window that holds its demand, whatever the other transactions
-abbrev pub Deadlines : Type 0
-Deadlines = (set : Set) (entries : List Entry) (tx r : ℕ) → IsCompiled set → IsLegal set entries → HoldsDemand set tx r → IsInTime tx r (state_of set entries)
+-- for the response of the transaction, whether or not the other transactions have one
+abbrev pub EachIsInTime : Type 0
+EachIsInTime = (set : Set) (entries : List Entry) (tx r : ℕ) → IsCompiled set → IsLegal set entries
+    → response set tx ≡ Some r → IsInTime tx r (state_of set entries)
+
+-- for every window that holds its demand
+abbrev pub EachWindowIsKept : Type 0
+EachWindowIsKept = (set : Set) (entries : List Entry) (tx r : ℕ) → IsCompiled set → IsLegal set entries
+    → HoldsDemand set tx r → IsInTime tx r (state_of set entries)
 
 -- the response that is found by trying each window is the least, and where none is found no window holds its demand
 pub record IsFound (set : Set) (tx : ℕ) : Type 0 where
@@ -29,15 +33,10 @@ ResponseIsFound = (set : Set) (tx : ℕ) → IsFound set tx
 
 -- a window up to the response asks for no more than the response: so windows that grow to their demand reach it
 abbrev pub ResponseIsReached : Type 0
-ResponseIsReached = (set : Set) (tx r w : ℕ) → IsCompiled set → HoldsDemand set tx r → w ≤ r → demand set tx w ≤ r
+ResponseIsReached =
+    (set : Set) (tx r w : ℕ) → IsCompiled set → HoldsDemand set tx r → w ≤ r → demand set tx w ≤ r
 
 -- where each transaction has a response, no job ends late
 abbrev pub NoneIsLate : Type 0
-NoneIsLate = (set : Set) (entries : List Entry) → IsCompiled set → IsLegal set entries → HasResponses set → All (λ e. e.end ≢ Late) (state_of set entries).ended
-
--- the blocking and the responses of the first plant, and the responses of the plant with two sensors
-pub record BaseResponses : Type 0 where
-  pub sample : (blocking base 3 ≡ 5) × (response base 0 ≡ Some 7)
-  pub control : (blocking base 2 ≡ 5) × (response base 1 ≡ Some 13)
-  pub logger : (blocking base 1 ≡ 0) × (response base 2 ≡ Some 14)
-  pub apart : (response apart_set 0 ≡ Some 4) × (response apart_set 1 ≡ Some 6) × (response apart_set 2 ≡ Some 7)
+NoneIsLate = (set : Set) (entries : List Entry) → IsCompiled set → IsLegal set entries
+    → HasResponses set → All (λ e. e.end ≢ Late) (state_of set entries).ended

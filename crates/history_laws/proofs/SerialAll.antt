@@ -58,6 +58,7 @@ module _ (set : Set) (refused : JobId → Bool) (t : ℕ) (s : State) (tx tick :
       record {
         declared = h.declared;
         done_row = h.done_row;
+        rising = h.rising;
         done_plan = λ e q i j same. elim (append_in q s.planned (r ∷ []) j) [
           | inl old ↦ h.done_plan e q i old same
           | inr new ↦ elim new [ inl is ↦ omega (arith, h.done e i, ap (λ (k : ℕ). (plans_of s k).number) (same ∙ ap (λ (k : Release). k.job.tx.0) is), ap (λ (k : Release). k.job.serial) is) | inr none ↦ absurd none ]
@@ -88,6 +89,7 @@ module _ (set : Set) (refused : JobId → Bool) (t : ℕ) (s : State) (tx tick :
           | inr o ↦ h.done_row e y i o.1 same
         ];
         done_plan = h.done_plan;
+        rising = h.rising;
         done = λ e i. omega (arith, h.done e i, number_grows s.planned (with_row tick s.rows (next_job s tx)) e.job.tx.0);
         alone = λ y i. elim (case y i) [
           | inl e ↦ (let o : ops_of es y.job ≡ [] = ap (λ (q : Row). ops_of es q.job) e ∙ new_untouched.ops in
@@ -184,6 +186,7 @@ opening_serial set = record {
   declared = λ x h. absurd (nothing_at set.txns x.job.tx.0 x h);
   done_row = λ e x i j same. absurd i;
   done_plan = λ e r i j same. absurd i;
+  rising = tt;
   done = λ e i. absurd i;
   alone = λ x h. absurd (nothing_at set.txns x.job.tx.0 x h);
   planned_new = λ r i. absurd i;

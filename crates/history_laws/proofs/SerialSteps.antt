@@ -89,7 +89,7 @@ module _ (set : Set) (refused : JobId → Bool) (t : ℕ) (s : State) (ok : IsCo
   after_late_serial : Serial set es (s1 set refused t s ok sound)
   unfolding s1 late_rows
   after_late_serial =
-      let start : Serial set es (record s { now = t }) = record { declared = h.declared; done_row = h.done_row; done_plan = h.done_plan; done = h.done; alone = h.alone; planned_new = h.planned_new; future_new = h.future_new; items = h.items; outcomes = h.outcomes } in
+      let start : Serial set es (record s { now = t }) = record { declared = h.declared; done_row = h.done_row; done_plan = h.done_plan; rising = h.rising; done = h.done; alone = h.alone; planned_new = h.planned_new; future_new = h.future_new; items = h.items; outcomes = h.outcomes } in
       late_serial set es t (in_falling_priority set (filter (is_due set t) (pending s.rows))) (record s { now = t })
       (distinct_sorted set (filter (is_due set t) (pending s.rows)) (distinct_filter (is_due set t) (pending s.rows) (distinct_pending s.rows 0 (λ n x e. omega (arith, sound.frame.named n x e)))))
       (λ r i.
@@ -118,6 +118,7 @@ module _ (set : Set) (refused : JobId → Bool) (t : ℕ) (s : State) (ok : IsCo
               let d = k.done_plan e c.release i (filter_in (λ (r : Release). r.tick == t) c.release (s1 set refused t s ok sound).planned c.is_due).0 (same ∙ ap (λ (q : JobId). q.tx.0) b) in
               omega (arith, d, ap (λ (q : JobId). q.serial) b))
         ];
+        rising = k.rising;
         done_plan = λ e r i j same. k.done_plan e r i (filter_in (λ (q : Release). not (q.tick == t)) r (s1 set refused t s ok sound).planned j).0 same;
         done = k.done;
         alone = λ x i. elim (each x i) [
@@ -208,6 +209,7 @@ module _ (set : Set) (es : List Entry) (s : State) (x : Row) (op : Op) (over : O
       | inr o ↦ h.done_row e y i o.1 same
     ];
     done_plan = h.done_plan;
+    rising = h.rising;
     done = h.done;
     alone = λ y i. elim (row_case y i) [
       | inl e ↦ subst (IsAlone s.items longer) (sym e) next_alone

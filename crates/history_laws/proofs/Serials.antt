@@ -1,5 +1,5 @@
 -- Every legal history is serial, in order of ending.
-use Rattle.std.proofs.Common.{◌≡◌, ◌≢◌, ℕ, ◌<◌, ◌≤◌, true, List, [], ◌∷◌, ◌++◌, map, Option, None, ap, sym, ◌∙◌, inl, inr, arith}
+use Rattle.std.proofs.Common.{◌≡◌, ◌≢◌, ℕ, ◌<◌, ◌≤◌, true, List, [], ◌∷◌, ◌++◌, map, Option, None, refl, ap, sym, ◌∙◌, inl, inr, arith}
 use Rattle.std.proofs.lemmas.List.{append-nil, map-append}
 use Rattle.rt_base.specs.declared.ids.JobId.{JobId}
 use Rattle.rt_base.specs.declared.operation.Outcome.{Outcome}
@@ -31,10 +31,26 @@ pub record IsUntouched (es : List Entry) (job : JobId) : Type 0 where
   pub ops : ops_of es job ≡ []
   pub outcomes : outcomes_of es job ≡ []
 
+-- the jobs of a transaction end in the order of their serials
+abbrev pub AreRising : List EndedJob → Type 0
+AreRising [] = Unit {0}
+AreRising (e ∷ es) = ((d : EndedJob) → In d es → e.job.tx.0 ≡ d.job.tx.0 → e.job.serial < d.job.serial) × AreRising es
+
+pub rising_more : (es : List EndedJob) (e : EndedJob) → AreRising es → ((d : EndedJob) → In d es → d.job.tx.0 ≡ e.job.tx.0 → d.job.serial < e.job.serial) → AreRising (es ++ e ∷ [])
+rising_more [] e rising h = (λ d i. absurd i, tt)
+rising_more (x ∷ es) e rising h = (
+  λ d i same. elim (append_in d es (e ∷ []) i) [
+    | inl old ↦ rising.0 d old same
+    | inr new ↦ elim new [ inl is ↦ omega (arith, h x (inl refl) (same ∙ ap (λ (q : EndedJob). q.job.tx.0) is), ap (λ (q : EndedJob). q.job.serial) is) | inr none ↦ absurd none ]
+  ],
+  rising_more es e rising.1 (λ d i. h d (inr i)),
+)
+
 pub record Serial (set : Set) (es : List Entry) (s : State) : Type 0 where
   pub declared : (x : Row) → IsPending s.rows x → IsDeclared set x
   pub done_row : (e : EndedJob) (x : Row) → In e s.ended → IsPending s.rows x → e.job.tx.0 ≡ x.job.tx.0 → e.job.serial < x.job.serial
   pub done_plan : (e : EndedJob) (r : Release) → In e s.ended → In r s.planned → e.job.tx.0 ≡ r.job.tx.0 → e.job.serial < r.job.serial
+  pub rising : AreRising s.ended
   pub done : (e : EndedJob) → In e s.ended → e.job.serial < (plans_of s e.job.tx.0).number
   pub alone : (x : Row) → IsPending s.rows x → IsAlone s.items es x
   pub planned_new : (r : Release) → In r s.planned → IsUntouched es r.job
@@ -54,6 +70,7 @@ quiet_entry set es e s noop noout h =
       declared = h.declared;
       done_row = h.done_row;
       done_plan = h.done_plan;
+      rising = h.rising;
       done = h.done;
       alone = λ x i. let a = h.alone x i in record {
         work = a.work ∙ ap (work_alone s.items no_work) (sym (ops x.job));
@@ -89,6 +106,7 @@ rows_from set es s rows from h = record {
   declared = λ x i. let f = from x i in declared_from set f.was x f.job f.work (h.declared f.was f.here);
   done_row = λ e x i j same. let f = from x j in let d = h.done_row e f.was i f.here (same ∙ ap (λ (k : JobId). k.tx.0) f.job) in omega (arith, d, ap (λ (k : JobId). k.serial) f.job);
   done_plan = h.done_plan;
+  rising = h.rising;
   done = h.done;
   alone = λ x i. let f = from x i in alone_from s.items es f.was x f.job f.work (h.alone f.was f.here);
   planned_new = h.planned_new;
@@ -127,6 +145,9 @@ end_serial set es s row e tick items m after apart h =
             | inl old ↦ (let r = h.done_row d l.was old l.here (same ∙ ap (λ (q : JobId). q.tx.0) k) in omega (arith, r, ap (λ (q : JobId). q.serial) k))
             | inr new ↦ elim new [ inl is ↦ absurd (l.other (sym (ap (λ (q : JobId). q.tx.0) k) ∙ (sym same ∙ ap (λ (q : EndedJob). q.job.tx.0) is))) | inr none ↦ absurd none ]
           ];
+      rising = rising_more s.ended ended h.rising (λ d i same.
+          let r = h.done_row d m.row i m.here (same ∙ ap (λ (q : JobId). q.tx.0) (sym m.is)) in
+          omega (arith, r, ap (λ (q : JobId). q.serial) m.is));
       done_plan = λ d r i j same. elim (append_in d s.ended (ended ∷ []) i) [
         | inl old ↦ h.done_plan d r old j same
         | inr new ↦ elim new [ inl is ↦ (let b = m.behind r j (sym (ap (λ (q : EndedJob). q.job.tx.0) is) ∙ same) in omega (arith, b, ap (λ (q : EndedJob). q.job.serial) is)) | inr none ↦ absurd none ]

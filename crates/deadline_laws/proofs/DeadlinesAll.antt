@@ -15,9 +15,9 @@ use Rattle.history_laws.proofs.Invariant.{IsPending}
 use Rattle.history_laws.proofs.Never.{legal_sound}
 use Rattle.history_laws.proofs.Conflict.{in_get_or}
 use Rattle.history_laws.proofs.SerialAll.{legal_serial}
-use Rattle.deadline_laws.specs.Response.{HoldsDemand, HasResponses}
+use Rattle.deadline_laws.specs.Response.{HoldsDemand, HasResponses, response}
 use Rattle.deadline_laws.specs.Deadlines.{IsInTime}
-use Rattle.deadline_laws.proofs.Demand.{level}
+use Rattle.deadline_laws.proofs.Demand.{level, response_found}
 use Rattle.deadline_laws.proofs.InTime.{legal_timely}
 
 pub in_time : (set : Set) (entries : List Entry) (tx r : ℕ) → IsCompiled set → IsLegal set entries → HoldsDemand set tx r → IsInTime tx r (state_of set entries)
@@ -50,3 +50,8 @@ none_late set entries ok legal all k d lt =
     let own = planned_in_set set (state_of set entries) (get_or (state_of set entries).ended k d).job.tx.0 sound.calendar.plans_count (omega (arith, n)) in
     let r = all (get_or (state_of set entries).ended k d).job.tx.0 own in
     ((in_time set entries (get_or (state_of set entries).ended k d).job.tx.0 r.0 ok legal r.1.holds).ended k d lt refl).1
+
+-- the same of the response that is found
+
+pub in_response : (set : Set) (entries : List Entry) (tx r : ℕ) → IsCompiled set → IsLegal set entries → response set tx ≡ Some r → IsInTime tx r (state_of set entries)
+in_response set entries tx r ok legal found = in_time set entries tx r ok legal (response_found set tx r found).holds

@@ -1,0 +1,12 @@
+pub mod Lists
+pub mod Noted
+pub mod Stamps
+pub mod Known
+pub mod Arriving
+pub mod Installs
+pub mod Settling
+pub mod Planning
+pub mod Timed
+pub mod TimedSteps
+pub mod KnownAll
+pub mod Commits
