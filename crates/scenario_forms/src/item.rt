@@ -1,0 +1,169 @@
+//! Item objects.
+ghost use Rattle.std.specs.Prelude.{◌≡◌, List, codes, string_bytes, option_map, pos};
+ghost use Rattle.std.specs.List.{list_all};
+ghost use Rattle.std.specs.BTreeMap.{keys, get_by_text};
+ghost use Rattle.serde_json.specs.View.{view, items_view};
+ghost use Rattle.scenario_forms.specs.Reading.{Gives, GivesBy, member_at, fold_at};
+ghost use Rattle.scenario_forms.specs.Fields.{new_name, no_others};
+ghost use Rattle.scenario_forms.specs.Items.{is_item_member, kind_word, kind_form, item_kind, item_at, item_step, no_items_yet, table_view};
+
+use crate::error::{FormError, ItemMember, Place};
+use crate::fields::{integer_or, need, number};
+use crate::names::{fresh, note};
+use item_model::{ItemDecl, ItemKind};
+use rt_base::Name;
+use serde_json::{Map, Value};
+use std::alloc::Global;
+use std::collections::BTreeMap;
+
+const LONGEST: u64 = 1 << 40;
+
+/// The kinds of items by their words.
+#[derive(Clone, Copy)]
+pub(crate) enum KindWord {
+    Sensor,
+    Derived,
+    State,
+}
+
+/// The items of a scenario, with the places of their names.
+#[derive(Drop)]
+pub struct ItemTable {
+    pub places: BTreeMap<String, u32>,
+    pub names: Vec<Name>,
+    pub decls: Vec<ItemDecl>,
+}
+
+fn word_of(text: &str) -> Option<KindWord>
+    ensures { result ≡ kind_word text.now }
+{
+    if text == "sensor" {
+        Some(KindWord::Sensor)
+    } else if text == "derived" {
+        Some(KindWord::Derived)
+    } else if text == "state" {
+        Some(KindWord::State)
+    } else {
+        None
+    }
+}
+
+fn kind(value: &Value) -> Option<KindWord>
+    ensures { result ≡ kind_form (view value.now) }
+{
+    word_of(value.as_str()?)
+}
+
+fn is_member(text: &str) -> bool
+    ensures { result ≡ is_item_member text.now }
+{
+    text == "name" || text == "kind" || text == "validity" || text == "value"
+}
+
+// Whether the members are those of items alone.
+fn are_members(members: &Map<String, Value>) -> bool
+    ensures { result ≡ list_all (λ k. is_item_member (string_bytes k)) (keys members.now) }
+{
+    members.keys().all(|k| is_member(k.as_str()))
+}
+
+// Whether the value is an object with members of items alone.
+fn is_item(value: &Value) -> bool
+    ensures { result ≡ no_others is_item_member (view value.now) }
+{
+    match value.as_object() {
+        Some(members) => are_members(members),
+        None => false,
+    }
+}
+
+/// A name that is not taken yet.
+#[tactic(auto, unfolding(crate::specs::Reading::member_at))]
+pub(crate) fn name_at(
+    place: Place,
+    places: &BTreeMap<String, u32>,
+    value: &Value,
+) -> Result<Name, FormError>
+    ensures { result ≡ member_at place (new_name (get_by_text places.now)) (codes "name") (view value.now) }
+{
+    need(place, value.get("name").and_then(|v| fresh(places, v)))
+}
+
+#[tactic(auto, unfolding(crate::specs::Reading::member_at))]
+fn word_at(place: Place, value: &Value) -> Result<KindWord, FormError>
+    ensures { result ≡ member_at place kind_form (codes "kind") (view value.now) }
+{
+    need(place, value.get("kind").and_then(kind))
+}
+
+#[tactic(auto, unfolding(crate::specs::Items::item_kind))]
+fn kind_at(place: Place, word: KindWord, value: &Value) -> Result<ItemKind, FormError>
+    ensures { Gives result (item_kind place word (view value.now)) }
+{
+    match word {
+        KindWord::State => {
+            need(
+                place,
+                if value.get("validity").is_none() {
+                    Some(())
+                } else {
+                    None
+                },
+            )?;
+            Ok(ItemKind::State)
+        }
+        KindWord::Sensor => {
+            let validity = number(place, 1, LONGEST, "validity", value)?;
+            Ok(ItemKind::Sensor { validity })
+        }
+        KindWord::Derived => {
+            let validity = number(place, 1, LONGEST, "validity", value)?;
+            Ok(ItemKind::Derived { validity })
+        }
+    }
+}
+
+fn of_item(i: usize, member: ItemMember) -> Place
+    ensures { result ≡ Place.ItemMember i member }
+{
+    Place::ItemMember { i, member }
+}
+
+#[tactic(auto, unfolding(crate::specs::Items::item_at))]
+fn item(
+    places: &BTreeMap<String, u32>,
+    i: usize,
+    value: &Value,
+) -> Result<(Name, ItemDecl), FormError>
+    ensures { Gives result (item_at (get_by_text places.now) i (view value.now)) }
+{
+    need(
+        Place::Item { i },
+        if is_item(value) { Some(()) } else { None },
+    )?;
+    let name = name_at(of_item(i, ItemMember::Name), places, value)?;
+    let word = word_at(of_item(i, ItemMember::Kind), value)?;
+    let kind = kind_at(of_item(i, ItemMember::Validity), word, value)?;
+    let initial = integer_or(of_item(i, ItemMember::Value), 0, "value", value)?;
+    Ok((name, ItemDecl { kind, initial }))
+}
+
+/// The items of an array.
+pub(crate) fn items(alloc: Global, values: &[Value]) -> Result<ItemTable, FormError>
+    ensures { GivesBy table_view result (fold_at item_step no_items_yet (items_view values.now)) }
+{
+    let mut places = BTreeMap::new(alloc);
+    let mut names = Vec::new(alloc);
+    let mut decls = Vec::new(alloc);
+    for value in values {
+        let (name, decl) = item(&places, names.len(), value)?;
+        note(alloc, &mut places, &name, names.len())?;
+        names.push(name)?;
+        decls.push(decl)?;
+    }
+    Ok(ItemTable {
+        places,
+        names,
+        decls,
+    })
+}

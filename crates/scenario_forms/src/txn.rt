@@ -1,0 +1,317 @@
+//! Transaction objects.
+ghost use Rattle.std.specs.Prelude.{◌≡◌, List, codes, string_bytes, map};
+ghost use Rattle.std.specs.List.{list_all};
+ghost use Rattle.std.specs.BTreeMap.{keys, get_by_text};
+ghost use Rattle.serde_json.specs.View.{view, items_view};
+ghost use Rattle.scenario_forms.specs.Reading.{Gives, GivesBy, needed, fold_at};
+ghost use Rattle.scenario_forms.specs.Fields.{no_others};
+ghost use Rattle.scenario_forms.specs.Ops.{op_view};
+ghost use Rattle.scenario_forms.specs.Txns.{is_number_member, is_array_member, is_txn_member, txn_name, times_at, absent, fixed_at, counted_at, eager_at, releases_at, names_at, samples_at, script_at, txn_view, txn_at, txn_step, no_txns_yet, txns_view};
+
+use crate::arrays::{Owner, items_named, samples, script, ticks};
+use crate::error::{FormError, Place, TxnMember};
+use crate::fields::{array_or, need, number, number_or, small};
+use crate::item::name_at;
+use crate::names::note;
+use crate::ops::ReadOp;
+use rt_base::{ItemId, List, Name, Prio, Tick};
+use serde_json::{Map, Value};
+use std::alloc::Global;
+use std::collections::BTreeMap;
+
+const LAST_PRIO: u32 = 1 << 31;
+
+const LONGEST: u64 = 1 << 40;
+
+const MOST_JOBS: u32 = 1 << 31;
+
+/// The releases of a transaction's jobs.
+#[derive(Drop)]
+pub enum Releases {
+    /// At these ticks.
+    At(List<Tick>),
+    /// So many, the k-th, from 0 on, at the offset plus k periods.
+    Jobs(u32),
+    /// So many, each planned when the one before it has ended.
+    Eager(u32),
+}
+
+/// The numbers of a transaction: its priority, its times in ticks, and its steps.
+#[derive(Clone, Copy)]
+pub struct Times {
+    pub prio: Prio,
+    pub period: u64,
+    pub offset: u64,
+    pub deadline: u64,
+    pub steps: u64,
+    pub quiet: u64,
+}
+
+/// A transaction as it was read. None stands for a name that is no item's.
+#[derive(Drop)]
+pub struct ReadTxn {
+    pub times: Times,
+    pub reads: Vec<Option<ItemId>>,
+    pub writes: Vec<Option<ItemId>>,
+    pub releases: Releases,
+    pub samples: Vec<i64>,
+    pub script: Vec<ReadOp>,
+}
+
+/// The transactions of a scenario, with the places of their names.
+#[derive(Drop)]
+pub struct TxnTable {
+    pub places: BTreeMap<String, u32>,
+    pub names: Vec<Name>,
+    pub txns: Vec<ReadTxn>,
+}
+
+fn is_number(text: &str) -> bool
+    ensures { result ≡ is_number_member text.now }
+{
+    text == "name"
+        || text == "priority"
+        || text == "period"
+        || text == "offset"
+        || text == "deadline"
+        || text == "steps"
+}
+
+fn is_array(text: &str) -> bool
+    ensures { result ≡ is_array_member text.now }
+{
+    text == "reads"
+        || text == "writes"
+        || text == "releases"
+        || text == "jobs"
+        || text == "eager"
+        || text == "samples"
+        || text == "script"
+}
+
+// Quiet is a member in version 2 alone.
+fn is_member(second: bool, text: &str) -> bool
+    ensures { result ≡ is_txn_member second text.now }
+{
+    is_number(text) || is_array(text) || second && text == "quiet"
+}
+
+fn are_members(second: bool, members: &Map<String, Value>) -> bool
+    ensures { result ≡ list_all (λ k. is_txn_member second (string_bytes k)) (keys members.now) }
+{
+    members.keys().all(|k| is_member(second, k.as_str()))
+}
+
+fn is_txn(second: bool, value: &Value) -> bool
+    ensures { result ≡ no_others (is_txn_member second) (view value.now) }
+{
+    match value.as_object() {
+        Some(members) => are_members(second, members),
+        None => false,
+    }
+}
+
+fn of_txn(i: usize, member: TxnMember) -> Place
+    ensures { result ≡ Place.TxnMember i member }
+{
+    Place::TxnMember { i, member }
+}
+
+#[tactic(auto, unfolding(crate::specs::Txns::times_at))]
+fn numbers(i: usize, value: &Value) -> Result<Times, FormError>
+    ensures { result ≡ times_at i (view value.now) }
+{
+    let prio = small(
+        of_txn(i, TxnMember::Priority),
+        0,
+        LAST_PRIO,
+        "priority",
+        value,
+    )?;
+    let period = number(of_txn(i, TxnMember::Period), 0, LONGEST, "period", value)?;
+    let offset = number_or(of_txn(i, TxnMember::Offset), LONGEST, 0, "offset", value)?;
+    let deadline = number_or(
+        of_txn(i, TxnMember::Deadline),
+        LONGEST,
+        period,
+        "deadline",
+        value,
+    )?;
+    let steps = number(of_txn(i, TxnMember::Steps), 0, LONGEST, "steps", value)?;
+    let quiet = number_or(of_txn(i, TxnMember::Quiet), LONGEST, 0, "quiet", value)?;
+    Ok(Times {
+        prio,
+        period,
+        offset,
+        deadline,
+        steps,
+        quiet,
+    })
+}
+
+// That there is no such member.
+fn none_of(place: Place, name: &str, value: &Value) -> Result<(), FormError>
+    ensures { result ≡ absent place name.now (view value.now) }
+{
+    need(
+        place,
+        if value.get(name).is_none() {
+            Some(())
+        } else {
+            None
+        },
+    )
+}
+
+#[tactic(auto, unfolding(crate::specs::Txns::fixed_at))]
+fn fixed(alloc: Global, i: usize, value: &Value) -> Result<Releases, FormError>
+    ensures { Gives result (fixed_at i (view value.now)) }
+{
+    let values = array_or(of_txn(i, TxnMember::Releases), "releases", value)?;
+    let found = ticks(alloc, i, values)?;
+    none_of(of_txn(i, TxnMember::Jobs), "jobs", value)?;
+    none_of(of_txn(i, TxnMember::Eager), "eager", value)?;
+    Ok(Releases::At(List::of(found)))
+}
+
+#[tactic(auto, unfolding(crate::specs::Txns::counted_at))]
+fn counted(i: usize, value: &Value) -> Result<Releases, FormError>
+    ensures { result ≡ counted_at i (view value.now) }
+{
+    let count = small(of_txn(i, TxnMember::Jobs), 0, MOST_JOBS, "jobs", value)?;
+    none_of(of_txn(i, TxnMember::Eager), "eager", value)?;
+    Ok(Releases::Jobs(count))
+}
+
+#[tactic(auto, unfolding(crate::specs::Txns::eager_at))]
+fn eager(i: usize, value: &Value) -> Result<Releases, FormError>
+    ensures { result ≡ eager_at i (view value.now) }
+{
+    let count = small(of_txn(i, TxnMember::Eager), 0, MOST_JOBS, "eager", value)?;
+    Ok(Releases::Eager(count))
+}
+
+// Releases, else jobs, else eager, else none.
+#[tactic(auto, unfolding(crate::specs::Txns::releases_at))]
+fn planned(alloc: Global, i: usize, value: &Value) -> Result<Releases, FormError>
+    ensures { Gives result (releases_at i (view value.now)) }
+{
+    if value.get("releases").is_some() {
+        fixed(alloc, i, value)
+    } else if value.get("jobs").is_some() {
+        counted(i, value)
+    } else if value.get("eager").is_some() {
+        eager(i, value)
+    } else {
+        Ok(Releases::At(List::of(Vec::new(alloc))))
+    }
+}
+
+#[tactic(auto, unfolding(crate::specs::Txns::names_at))]
+fn names(
+    alloc: Global,
+    i: usize,
+    member: TxnMember,
+    name: &str,
+    items: &BTreeMap<String, u32>,
+    value: &Value,
+) -> Result<Vec<Option<ItemId>>, FormError>
+    ensures { GivesBy (λ v. v.items) result (names_at (get_by_text items.now) i member name.now (view value.now)) }
+{
+    let values = array_or(of_txn(i, member), name, value)?;
+    items_named(alloc, Owner::Txn { i, member }, items, values)
+}
+
+#[tactic(auto, unfolding(crate::specs::Txns::samples_at))]
+fn samples_of(alloc: Global, i: usize, value: &Value) -> Result<Vec<i64>, FormError>
+    ensures { GivesBy (λ v. v.items) result (samples_at i (view value.now)) }
+{
+    let values = array_or(of_txn(i, TxnMember::Samples), "samples", value)?;
+    samples(alloc, i, values)
+}
+
+#[tactic(auto, unfolding(crate::specs::Txns::script_at))]
+fn script_of(
+    alloc: Global,
+    i: usize,
+    items: &BTreeMap<String, u32>,
+    value: &Value,
+) -> Result<Vec<ReadOp>, FormError>
+    ensures { GivesBy (λ v. map op_view v.items) result (script_at (get_by_text items.now) i (view value.now)) }
+{
+    let values = array_or(of_txn(i, TxnMember::Script), "script", value)?;
+    script(alloc, i, items, values)
+}
+
+#[tactic(auto, unfolding(crate::specs::Txns::txn_at))]
+fn txn(
+    alloc: Global,
+    i: usize,
+    items: &BTreeMap<String, u32>,
+    value: &Value,
+) -> Result<ReadTxn, FormError>
+    ensures { GivesBy txn_view result (txn_at (get_by_text items.now) i (view value.now)) }
+{
+    let times = numbers(i, value)?;
+    let reads = names(alloc, i, TxnMember::Reads, "reads", items, value)?;
+    let writes = names(alloc, i, TxnMember::Writes, "writes", items, value)?;
+    let releases = planned(alloc, i, value)?;
+    let samples = samples_of(alloc, i, value)?;
+    let script = script_of(alloc, i, items, value)?;
+    Ok(ReadTxn {
+        times,
+        reads,
+        writes,
+        releases,
+        samples,
+        script,
+    })
+}
+
+// The name, after the object itself.
+#[tactic(auto, unfolding(crate::specs::Txns::txn_name))]
+fn named(
+    second: bool,
+    i: usize,
+    places: &BTreeMap<String, u32>,
+    value: &Value,
+) -> Result<Name, FormError>
+    ensures { result ≡ txn_name second (get_by_text places.now) i (view value.now) }
+{
+    need(
+        Place::Txn { i },
+        if is_txn(second, value) {
+            Some(())
+        } else {
+            None
+        },
+    )?;
+    name_at(of_txn(i, TxnMember::Name), places, value)
+}
+
+/// The transactions of an array.
+pub(crate) fn txns(
+    alloc: Global,
+    second: bool,
+    items: &BTreeMap<String, u32>,
+    values: &[Value],
+) -> Result<TxnTable, FormError>
+    ensures { GivesBy txns_view result
+        (fold_at (txn_step second (get_by_text items.now)) no_txns_yet (items_view values.now)) }
+{
+    let mut places = BTreeMap::new(alloc);
+    let mut names = Vec::new(alloc);
+    let mut txns = Vec::new(alloc);
+    for value in values {
+        let name = named(second, names.len(), &places, value)?;
+        let read = txn(alloc, names.len(), items, value)?;
+        note(alloc, &mut places, &name, names.len())?;
+        names.push(name)?;
+        txns.push(read)?;
+    }
+    Ok(TxnTable {
+        places,
+        names,
+        txns,
+    })
+}
