@@ -1,0 +1,4 @@
+mod RowOrder
+mod Table
+mod Tops
+mod Walks
