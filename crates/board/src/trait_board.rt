@@ -1,0 +1,121 @@
+//! What the calls of a board promise, for every history that it stands for.
+ghost use Rattle.std.specs.Prelude.{◌≡◌, ℕ, ◌+◌, ◌-◌, ◌<◌, ◌++◌, List, drop, take, min, length, slice_get, Some, vec_len, vec_capacity};
+ghost use Rattle.txn_set.specs.Set.{Set};
+ghost use Rattle.step_journal.specs.History.{state_of};
+ghost use Rattle.step_journal.specs.declared.entry.Entry.{Entry as Noted};
+ghost use Rattle.board.specs.Stories.{IsStory, noted, plan_entry, plan_next_entry, step_entry, idle_entry, plan_answer, plan_next_answer, step_answer, idle_answer, now_of, running_of, pending_of, ended_of, planned_of};
+
+use crate::replies::{IdleReply, StepReply};
+use item_model::Items;
+use rt_base::{ItemId, JobId, Op, PlanRefused, Tick, TxId, Value};
+use step_journal::Entry;
+use txn_set::CompiledSet;
+
+/// A board keeps one legal history of its set. No call changes its set or its room, and none takes memory. Each answer is
+/// that of the history's state, and after a refusal other than `Blocked` the same history stands. A board of which
+/// entries were drained may stand for several histories; then each clause holds of each.
+pub trait Board {
+    // The board stands for this history.
+    ghost stands: { Self → List Noted → Type 0 };
+
+    ghost set: { Self → Set };
+
+    ghost room: { Self → ℕ };
+
+    // How many entries of its history the board no longer keeps, and those that it keeps.
+    ghost first: { Self → ℕ };
+
+    ghost kept: { Self → List Noted };
+
+    /// Plans the transaction's next job for a tick. A job planned for the present tick is pending at once.
+    fn plan(&mut self, tx: TxId, tick: Tick) -> Result<JobId, PlanRefused>
+        requires { tx.0 < length (set self.old).txns }
+        ensures fixed { (set self.new ≡ set self.old) × (room self.new ≡ room self.old) × (first self.new ≡ first self.old) }
+        ensures answer { (story : List Noted) → stands self.old story → result ≡ plan_answer (set self.old) story (length (kept self.old)) (room self.old) tx.0 tick }
+        ensures after { (story : List Noted) → stands self.old story → stands self.new (noted story (plan_entry tx tick result)) };
+
+    /// Plans the transaction's next job for the earliest tick at which it may be planned, and answers that tick too.
+    fn plan_next(&mut self, tx: TxId) -> Result<(JobId, Tick), PlanRefused>
+        requires { tx.0 < length (set self.old).txns }
+        ensures fixed { (set self.new ≡ set self.old) × (room self.new ≡ room self.old) × (first self.new ≡ first self.old) }
+        ensures answer { (story : List Noted) → stands self.old story → result ≡ plan_next_answer (set self.old) story (length (kept self.old)) (room self.old) tx.0 }
+        ensures after { (story : List Noted) → stands self.old story → stands self.new (noted story (plan_next_entry tx result)) };
+
+    /// A job asks for an operation. A granted one takes one tick. The item may be any: one that is no item of the set is
+    /// Undeclared.
+    fn step(&mut self, job: JobId, op: Op) -> StepReply
+        requires { job.tx.0 < length (set self.old).txns }
+        ensures fixed { (set self.new ≡ set self.old) × (room self.new ≡ room self.old) × (first self.new ≡ first self.old) }
+        ensures answer { (story : List Noted) → stands self.old story → result ≡ step_answer (set self.old) story (length (kept self.old)) (room self.old) job op }
+        ensures after { (story : List Noted) → stands self.old story → stands self.new (noted story (step_entry (now_of (set self.old) story) job op result)) };
+
+    /// With nothing pending, the time goes on to the least planned tick.
+    fn idle(&mut self) -> IdleReply
+        ensures fixed { (set self.new ≡ set self.old) × (room self.new ≡ room self.old) × (first self.new ≡ first self.old) }
+        ensures answer { (story : List Noted) → stands self.old story → result ≡ idle_answer (set self.old) story (length (kept self.old)) (room self.old) }
+        ensures after { (story : List Noted) → stands self.old story → stands self.new (noted story (idle_entry (now_of (set self.old) story) result)) };
+
+    /// An item's installed value and stamp.
+    fn peek(&self, item: ItemId) -> (Value, Tick)
+        requires { item.0 < length (set self.now).items }
+        ensures { (story : List Noted) → stands self.now story → slice_get (state_of (set self.now) story).items item.0 ≡ Some (record { value = result.0; stamp = result.1 }) };
+
+    /// The present tick.
+    fn now(&self) -> Tick
+        ensures { (story : List Noted) → stands self.now story → result ≡ now_of (set self.now) story };
+
+    /// The running job; None exactly where nothing is pending.
+    fn running(&self) -> Option<JobId>
+        ensures { (story : List Noted) → stands self.now story → result ≡ running_of (set self.now) story };
+
+    /// The transaction's pending job.
+    fn pending(&self, tx: TxId) -> Option<JobId>
+        requires { tx.0 < length (set self.now).txns }
+        ensures { (story : List Noted) → stands self.now story → result ≡ pending_of (set self.now) story tx.0 };
+
+    /// How many jobs of the transaction have ended.
+    fn ended(&self, tx: TxId) -> u32
+        requires { tx.0 < length (set self.now).txns }
+        ensures { (story : List Noted) → stands self.now story → result ≡ ended_of (set self.now) story tx.0 };
+
+    /// How many releases are planned and did not take place yet.
+    fn planned(&self) -> usize
+        ensures { (story : List Noted) → stands self.now story → result ≡ planned_of (set self.now) story };
+
+    /// How many entries can be kept at once.
+    fn room(&self) -> usize
+        ensures { result ≡ room self.now };
+
+    /// The kept entries: those that were not drained.
+    fn entries(&self) -> &[Entry]
+        ensures { result.now ≡ kept self.now };
+
+    /// The set of the history.
+    fn set(&self) -> &CompiledSet
+        ensures { result.now ≡ set self.now };
+
+    /// Moves the oldest kept entries to the end of `into`, as many as it has places for and no more than `most`.
+    fn drain(&mut self, most: usize, into: &mut Vec<Entry>) -> usize
+        ensures count { result ≡ min most (min (length (kept self.old)) (vec_capacity into.old - vec_len into.old)) }
+        ensures moved { into.new.items ≡ into.old.items ++ take result (kept self.old) }
+        ensures left { kept self.new ≡ drop result (kept self.old) }
+        ensures places { vec_capacity into.new ≡ vec_capacity into.old }
+        ensures fixed { (set self.new ≡ set self.old) × (room self.new ≡ room self.old) × (first self.new ≡ first self.old + result) }
+        ensures after { (story : List Noted) → stands self.old story → stands self.new story };
+
+    /// How many entries were drained in all.
+    fn first(&self) -> u64
+        ensures { result ≡ first self.now };
+
+    /// How many entries the history has, the drained ones too.
+    fn count(&self) -> u64
+        ensures { (story : List Noted) → stands self.now story → length story ≡ result };
+
+    /// The items as they are installed, and the kept entries.
+    fn into_parts(self) -> (Items, Vec<Entry>)
+        ensures entries { result.1.items ≡ kept self }
+        ensures items { (story : List Noted) → stands self story → result.0 ≡ (state_of (set self) story).items };
+
+    // What a board stands for is legal for a compiled set, and its kept entries are the history from first on.
+    ghost is_story: { (b : Self) (story : List Noted) → stands b story → IsStory (set b) (room b) (first b) (kept b) story };
+}

@@ -1,0 +1,3 @@
+pub mod Fews
+pub mod Arrives
+pub mod Effects
