@@ -9,7 +9,7 @@ use Rattle.item_model.specs.Kinds.{is_dated, is_derived}
 use Rattle.txn_set.specs.Ceilings.{greatest}
 use Rattle.history_laws.proofs.Members.{In, filter_in}
 use Rattle.fresh_laws.specs.Ages.{IsAgeBound, first_writer, writer_of, age_by, AgesAreBounds}
-use Rattle.commit_laws.proofs.Lists.{in_any}
+use Rattle.history_laws.proofs.Lists.{in_any}
 use Rattle.commit_laws.proofs.Installs.{dated_in_range}
 
 -- a list of more than n numbers below n has one twice

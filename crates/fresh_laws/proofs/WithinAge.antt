@@ -27,9 +27,8 @@ use Rattle.history_laws.proofs.Never.{legal_sound}
 use Rattle.fresh_laws.specs.Ages.{IsAgeBound, IsAdmittedBy}
 use Rattle.deadline_laws.specs.Deadlines.{IsInTime}
 use Rattle.fresh_laws.specs.Freshness.{IsWithinAge, IsWithinSpread, EndsAreFresh}
-use Rattle.commit_laws.proofs.Lists.{all_from, all_at, in_any, find_some, two_members}
+use Rattle.history_laws.proofs.Lists.{all_from, all_at, in_any, find_some, two_members, any_in}
 use Rattle.commit_laws.proofs.Stamps.{newest_is, oldest_is, stamp_cases}
-use Rattle.commit_laws.proofs.Installs.{any_in}
 use Rattle.commit_laws.proofs.Known.{ByLast, Sourced, IsByCommit, Judged, IsEnd, AreEnds, Known, ends_more, by_here}
 use Rattle.commit_laws.proofs.Settling.{planned_in}
 use Rattle.commit_laws.proofs.KnownAll.{legal_known}
