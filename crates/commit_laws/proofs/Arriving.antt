@@ -1,6 +1,6 @@
 -- To arrive at a tick keeps what is known.
-use Rattle.std.proofs.Common.{◌≡◌, ◌≢◌, ℕ, ◌+◌, ◌<◌, ◌≤◌, ◌==◌, Bool, true, false, cond, not, List, [], ◌∷◌, length, map, Option, None, Some, get_or, refl, ap, sym, ◌∙◌, subst, inl, inr, arith}
-use Rattle.std.proofs.lemmas.Bool.{cases_eq, eqb-true, eq-eqb, not_from_false}
+use Rattle.std.proofs.Common.{◌≡◌, ◌≢◌, ℕ, ◌+◌, ◌<◌, ◌≤◌, ◌==◌, Bool, true, false, not, List, [], ◌∷◌, length, map, Option, None, Some, get_or, refl, ap, sym, ◌∙◌, subst, inl, inr, arith}
+use Rattle.std.proofs.lemmas.Bool.{eqb-true, not_from_false}
 use Rattle.std.proofs.lemmas.List.{length-set}
 use Rattle.std.specs.List.{fold, filter}
 use Rattle.rt_base.specs.declared.ids.JobId.{JobId}
@@ -12,10 +12,10 @@ use Rattle.step_journal.specs.State.{State, Row, pending, new_row}
 use Rattle.rt_base.specs.declared.release.Release.{Release}
 use Rattle.step_journal.specs.LockRule.{in_falling_priority}
 use Rattle.step_journal.specs.Instant.{freed, with_row, with_end, with_late, is_due, with_cancellations, with_releases, arrived}
-use Rattle.history_laws.proofs.Members.{In, in_filter, filter_in, in_pending, pending_in}
+use Rattle.history_laws.proofs.Members.{In, in_filter, filter_in, pending_in}
 use Rattle.history_laws.proofs.Invariant.{IsPending, written_here, written_other}
 use Rattle.history_laws.proofs.Ends.{stays}
-use Rattle.history_laws.proofs.Calendar.{period_of, deadline_of, Follows, AreSpaced, AreApart, Sound, times_at, deadline_le, sorted_in, in_sorted, late_rows, s1, after_late, planned_before, due, after_due}
+use Rattle.history_laws.proofs.Calendar.{period_of, deadline_of, AreApart, Sound, deadline_le, sorted_in, late_rows, s1, after_late, planned_before, due, after_due, apart_due, still_alive, period_pos, spaced_before}
 use Rattle.history_laws.proofs.SerialSteps.{AreDistinct, distinct_pending, distinct_filter, distinct_sorted}
 use Rattle.commit_laws.proofs.Known.{Known, Placed, WillEnd, ended_job, sourced_more, end_known}
 
@@ -50,35 +50,7 @@ came t (x ∷ rs) rows r apart lt (inl e) =
     (kept t rs (with_row t rows x.job) (new_row x.job t) (written_here rows x.job.tx.0 (new_row x.job t) (lt x (inl refl)) refl) (λ q i. apart.0 q i))
 came t (x ∷ rs) rows r apart lt (inr i) = came t rs (with_row t rows x.job) r apart.1 (λ q j. omega (arith, lt q (inr j), length-set rows x.job.tx.0 (Some (new_row x.job t)))) i
 
-apart_due_at : (set : Set) (t : ℕ) (r : Release) (rs : List Release) (b : Bool) → (r.tick == t) ≡ b → 1 ≤ period_of set r.job → ((q : Release) → In q rs → r.job.tx.0 ≡ q.job.tx.0 → Follows set r q)
-    → AreApart (filter (λ q. q.tick == t) rs) → AreApart (cond b (r ∷ filter (λ q. q.tick == t) rs) (filter (λ q. q.tick == t) rs))
-apart_due_at set t r rs true e pos h rest = (
-  λ q i same.
-      let f = filter_in (λ (k : Release). k.tick == t) q rs i in
-      let a : q.tick ≡ t = eqb-true _ _ f.1 in
-      let b : r.tick ≡ t = eqb-true _ _ e in
-      let l : r.tick + period_of set r.job ≤ q.tick = (h q f.0 same).later in
-      omega arith,
-  rest,
-)
-apart_due_at set t r rs false e pos h rest = rest
-
-apart_due : (set : Set) (t : ℕ) (rs : List Release) → ((r : Release) → In r rs → 1 ≤ period_of set r.job) → AreSpaced set rs → AreApart (filter (λ q. q.tick == t) rs)
-apart_due set t [] pos h = tt
-apart_due set t (r ∷ rs) pos h = apart_due_at set t r rs (r.tick == t) refl (pos r (inl refl)) h.0 (apart_due set t rs (λ q i. pos q (inr i)) h.1)
-
 module _ (set : Set) (refused : JobId → Bool) (t : ℕ) (s : State) (ok : IsCompiled set) (sound : Sound set refused t s) where
-  still_alive : (y : Row) → IsPending (s1 set refused t s ok sound).rows y → t + 1 ≤ y.release + deadline_of set y.job
-  unfolding late_rows s1
-  still_alive y h =
-      let f = (after_late set refused t s ok sound).rows y h in
-      let le : t ≤ f.was.release + deadline_of set f.was.job = sound.calendar.alive f.was f.here in
-      let d : deadline_of set y.job ≡ deadline_of set f.was.job = ap (deadline_of set) f.job in
-      elim (cases_eq (f.was.release + deadline_of set f.was.job) t) [
-        | inl due ↦ absurd (f.stays f.was (in_sorted set f.was _ (in_filter (is_due set t) f.was (pending s.rows) (in_pending s.rows f.was.job.tx.0 f.was f.here) (eq-eqb _ _ due))) (ap (λ (k : JobId). k.tx.0) f.job))
-        | inr ne ↦ omega (arith, f.release)
-      ]
-
   nobody_there : (y : Row) (r : Release) → IsPending (s1 set refused t s ok sound).rows y → In r (due set refused t s ok sound) → y.job.tx.0 ≢ r.job.tx.0
   unfolding due
   nobody_there y r here i same =
@@ -88,15 +60,13 @@ module _ (set : Set) (refused : JobId → Bool) (t : ℕ) (s : State) (ok : IsCo
       let j : y.job.tx.0 ≡ from.was.job.tx.0 = ap (λ (k : JobId). k.tx.0) from.job in
       let b = sound.calendar.behind from.was r from.here (planned_before set refused t s ok sound r f.0) (sym j ∙ same) in
       let d : deadline_of set from.was.job ≤ period_of set from.was.job = deadline_le set s.rows from.was ok sound.frame from.here in
-      let a : t + 1 ≤ y.release + deadline_of set y.job = still_alive y here in
+      let a : t + 1 ≤ y.release + deadline_of set y.job = still_alive set refused t s ok sound y here in
       let e : deadline_of set y.job ≡ deadline_of set from.was.job = ap (deadline_of set) from.job in
       omega (arith, b.0, from.release)
 
   due_apart : AreApart (due set refused t s ok sound)
   unfolding due
-  due_apart = apart_due set t (s1 set refused t s ok sound).planned
-      (λ r i. (times_at set r.job.tx.0 ok (sound.calendar.in_set r (planned_before set refused t s ok sound r i))).period.0)
-      (subst (AreSpaced set) (sym (after_late set refused t s ok sound).planned) sound.calendar.spaced)
+  due_apart = apart_due set t (s1 set refused t s ok sound).planned (period_pos set refused t s ok sound) (spaced_before set refused t s ok sound)
 
   due_in_range : (r : Release) → In r (due set refused t s ok sound) → r.job.tx.0 < length (s1 set refused t s ok sound).rows
   unfolding due

@@ -20,8 +20,7 @@ use Rattle.step_journal.specs.Timing.{outside_reads_of, IsFresh, IsTogether}
 use Rattle.history_laws.proofs.Members.{In}
 use Rattle.history_laws.proofs.Holding.{in_find}
 use Rattle.commit_laws.specs.Commits.{CommitsAreFresh, IsConsistent, NoneCommitted, IsSourced, TimedRead, timed_reads_of}
-use Rattle.commit_laws.proofs.Lists.{all_from, all_at, find_some, find_none, in_filter_map, filter_map_in, filter_map_same}
-use Rattle.commit_laws.proofs.Installs.{any_in}
+use Rattle.history_laws.proofs.Lists.{all_from, all_at, find_some, find_none, in_filter_map, filter_map_in, filter_map_same, any_in}
 use Rattle.commit_laws.proofs.Stamps.{oldest_is, oldest_none, newest_is, newest_none}
 use Rattle.commit_laws.proofs.Known.{by_here, Sourced, IsByCommit, Judged, IsEnd, AreEnds}
 use Rattle.commit_laws.proofs.Timed.{NoneSince, AreTimed, timed_split, timed_read}

@@ -1,9 +1,9 @@
 -- What a commit installs.
 use Rattle.std.proofs.Common.{◌≡◌, ◌⊎◌, ℕ, zero, suc, ◌<◌, ◌==◌, Bool, true, false, not, ◌||◌, List, [], ◌∷◌, length, Option, refl, ap, sym, ◌∙◌, subst, inl, inr, arith, get_or-set_same, get_or-set_other}
 use Rattle.std.proofs.lemmas.List.{length-set}
-use Rattle.std.proofs.lemmas.Bool.{cases_eq, eqb-true, and_parts}
+use Rattle.std.proofs.lemmas.Bool.{cases_eq, eqb-true}
 use Rattle.std.specs.Prelude.{is_some, pos, slice_get}
-use Rattle.std.specs.List.{fold, list_any, list_all}
+use Rattle.std.specs.List.{fold}
 use Rattle.std.specs.Option.{option_and_then}
 use Rattle.rt_base.specs.declared.ids.ItemId.{ItemId}
 use Rattle.item_model.specs.declared.decl.ItemDecl.{ItemDecl}
@@ -16,21 +16,9 @@ use Rattle.item_model.specs.declared.stored.OwnWrite.{OwnWrite}
 use Rattle.item_model.specs.declared.stored.Stored.{Stored}
 use Rattle.history_laws.proofs.Members.{In}
 use Rattle.history_laws.proofs.Holding.{find_in}
+use Rattle.history_laws.proofs.Lists.{any_in, all_pass}
 
 -- lists
-
-any_at : {A : Type 0} (p : A → Bool) (x : A) (xs : List A) (b : Bool) → p x ≡ b → (list_any p xs ≡ true → (y : A) × In y xs × (p y ≡ true)) → (b || list_any p xs) ≡ true → (y : A) × ((y ≡ x) ⊎ In y xs) × (p y ≡ true)
-any_at p x xs true e rest h = (x, inl refl, e)
-any_at p x xs false e rest h = let r = rest h in (r.0, inr r.1, r.2)
-
-pub any_in : {A : Type 0} (p : A → Bool) (xs : List A) → list_any p xs ≡ true → (x : A) × In x xs × (p x ≡ true)
-any_in p [] h = absurd cc
-any_in p (x ∷ xs) h = any_at p x xs (p x) refl (any_in p xs) h
-
-pub all_at : {A : Type 0} (p : A → Bool) (x : A) (xs : List A) → list_all p xs ≡ true → In x xs → p x ≡ true
-all_at p x [] h i = absurd i
-all_at p x (y ∷ ys) h (inl e) = ap p e ∙ (and_parts _ _ h).0
-all_at p x (y ∷ ys) h (inr i) = all_at p x ys (and_parts _ _ h).1 i
 
 some_in_range : {A B : Type 0} (f : A → Option B) (xs : List A) (n : ℕ) → is_some (option_and_then f (slice_get xs n)) ≡ true → n < length xs
 some_in_range f [] n h = absurd cc
@@ -84,6 +72,6 @@ complete_at false h e t = absurd cc
 pub complete_wrote : (set : Set) (writes : List ItemId) (w : Work) (i : ℕ) → is_complete set.items writes w ≡ true → names_item writes i ≡ true → is_dated set.items i ≡ true → has_written w i ≡ true
 complete_wrote set writes w i complete named dated =
     let a = any_in (λ (k : ItemId). k.0 == i) writes named in
-    let b : (not (is_dated set.items a.0.0) || has_written w a.0.0) ≡ true = all_at (λ (k : ItemId). not (is_dated set.items k.0) || has_written w k.0) a.0 writes complete a.1 in
+    let b : (not (is_dated set.items a.0.0) || has_written w a.0.0) ≡ true = all_pass (λ (k : ItemId). not (is_dated set.items k.0) || has_written w k.0) a.0 writes complete a.1 in
     let c : (not (is_dated set.items i) || has_written w i) ≡ true = subst (λ (k : ℕ). (not (is_dated set.items k) || has_written w k) ≡ true) (eqb-true _ _ a.2) b in
     complete_at (is_dated set.items i) (has_written w i) c dated

@@ -24,7 +24,7 @@ use Rattle.history_laws.proofs.Members.{In}
 use Rattle.history_laws.proofs.Invariant.{IsPending, Runs, running_is, in_range, written}
 use Rattle.history_laws.proofs.Holding.{append_in, in_left, in_right}
 use Rattle.history_laws.proofs.Calendar.{Sound, named_from}
-use Rattle.history_laws.proofs.Histories.{may_plan_is, settled_sound, idle_early, arrived_now}
+use Rattle.history_laws.proofs.Histories.{may_plan_is, settled_sound, idle_early, arrived_now, plan_now}
 use Rattle.history_laws.proofs.Never.{refused_after, step_goes, entry_goes, opening_sound, nothing_at}
 use Rattle.history_laws.proofs.Serials.{Serial}
 use Rattle.history_laws.proofs.SerialAll.{step_carries, entry_carries, opening_serial}
@@ -93,10 +93,6 @@ plan_adds es tx tick = record {
   new = subst (λ (l : List ℕ). In tick l) (sym (adds_at es tx tick tx true (eq-eqb tx tx refl))) (in_right tick (planned_in es tx) (tick ∷ []) (inl refl));
   only = λ u k i. only_at es tx tick u k (tx == u) refl (subst (λ (l : List ℕ). In k l) (adds_at es tx tick u (tx == u) refl) i);
 }
-
-plan_now : (s : State) (tx tick : ℕ) → (with_plan s tx tick).now ≡ s.now
-unfolding with_plan
-plan_now s tx tick = refl
 
 plan_tells : (set : Set) (es : List Entry) (refused : JobId → Bool) (s : State) (tx tick : ℕ) → IsCompiled set → Sound set refused (s.now + 1) s → Serial set es s → may_plan set s tx tick ≡ true → KnownOf set es s → KnownOf set (es ++ Planned (record { 0 = tx }) tick ∷ []) (with_plan s tx tick)
 plan_tells set es refused s tx tick ok sound serial may h =

@@ -1,4 +1,3 @@
-pub mod Lists
 pub mod Noted
 pub mod Stamps
 pub mod Known

@@ -2,7 +2,7 @@
 use Rattle.std.proofs.Common.{◌≡◌, ◌≢◌, ℕ, ◌+◌, ◌==◌, Bool, true, false, cond, List, [], ◌∷◌, ◌++◌, Option, None, Some, set as with_item, refl, ap, sym, ◌∙◌, subst, arith}
 use Rattle.std.proofs.lemmas.List.{append-nil}
 use Rattle.std.proofs.lemmas.List.Elements.{filter_map-append}
-use Rattle.std.proofs.lemmas.Bool.{eq-eqb, false_from_ne_true}
+use Rattle.std.proofs.lemmas.Bool.{eq-eqb}
 use Rattle.std.specs.Prelude.{IsTrue}
 use Rattle.std.specs.List.{filter_map, cons_option}
 use Rattle.rt_base.specs.declared.ids.JobId.{JobId}
@@ -23,7 +23,7 @@ use Rattle.step_journal.specs.Instant.{with_end}
 use Rattle.step_journal.specs.Step.{given, may_ask, row_after, end_by, settled}
 use Rattle.step_journal.specs.Timing.{outside_read, read_in, outside_reads_of, planned_tick_in}
 use Rattle.history_laws.proofs.Members.{In}
-use Rattle.history_laws.proofs.Invariant.{Runs, same_job_is}
+use Rattle.history_laws.proofs.Invariant.{Runs}
 use Rattle.history_laws.proofs.Holding.{in_find}
 use Rattle.history_laws.proofs.Calendar.{Sound}
 use Rattle.history_laws.proofs.Alone.{item_stays}
@@ -32,6 +32,7 @@ use Rattle.commit_laws.proofs.Noted.{Knows, alone_knows, one_current}
 use Rattle.commit_laws.proofs.Stamps.{same_stamp}
 use Rattle.commit_laws.proofs.Known.{Known, Judged, IsByCommit, Sourced, ended_job, known_same, later_known, sourced_more, sourced_new, end_known, put_known}
 use Rattle.commit_laws.proofs.Installs.{dated_in_range, after_count, written_stamp, complete_wrote}
+use Rattle.history_laws.proofs.SerialSteps.{other_false}
 
 -- the ticks for which jobs of a transaction were planned
 abbrev pub planned_in : List Entry → ℕ → List ℕ
@@ -44,9 +45,6 @@ reads_more es e job o h = filter_map-append (read_in job) es (e ∷ []) ∙ ap (
 
 pub ticks_more : (es : List Entry) (e : Entry) (tx : ℕ) (o : Option ℕ) → planned_tick_in tx e ≡ o → planned_in (es ++ e ∷ []) tx ≡ planned_in es tx ++ cons_option o []
 ticks_more es e tx o h = filter_map-append (planned_tick_in tx) es (e ∷ []) ∙ ap (λ (p : Option ℕ). planned_in es tx ++ cons_option p []) h
-
-pub other_false : (a b : JobId) → (a ≡ b → ⊥) → same_job a b ≡ false
-other_false a b h = false_from_ne_true _ (λ t. h (same_job_is a b t))
 
 none_read : (b : Bool) (o : Option OutsideRead) → o ≡ None → cond b o None ≡ None
 none_read true o e = e

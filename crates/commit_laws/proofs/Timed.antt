@@ -24,7 +24,7 @@ use Rattle.step_journal.specs.Timing.{outside_read, outside_reads_of}
 use Rattle.step_journal.specs.Serial.{outcomes_of}
 use Rattle.history_laws.proofs.Members.{In, filter_in, pending_in}
 use Rattle.history_laws.proofs.Invariant.{IsPending}
-use Rattle.history_laws.proofs.Holding.{append_in}
+use Rattle.history_laws.proofs.Holding.{append_in, in_map}
 use Rattle.history_laws.proofs.Ends.{left}
 use Rattle.history_laws.proofs.Calendar.{Sound, sorted_in, late_rows, s1, planned_before, due, after_due}
 use Rattle.history_laws.proofs.SerialSteps.{AreDistinct, distinct_pending, distinct_filter, distinct_sorted}
@@ -47,11 +47,6 @@ timed_reads (Step by op o over tick ∷ es) job = timed_at (outside_read op o) t
 timed_reads (Planned tx tick ∷ es) job = timed_reads es job
 timed_reads (Blocked by op on ceiling tick ∷ es) job = timed_reads es job
 timed_reads (Idle from to ∷ es) job = timed_reads es job
-
-in_map : {A B : Type 0} (f : A → B) (x : A) (xs : List A) → In x xs → In (f x) (map f xs)
-in_map f x [] h = absurd h
-in_map f x (y ∷ ys) (inl e) = inl (ap f e)
-in_map f x (y ∷ ys) (inr h) = inr (in_map f x ys h)
 
 pub timed_read : (es : List Entry) (job : JobId) (q : TimedRead) → In q (timed_reads_of es job) → In q.read (outside_reads_of es job)
 timed_read es job q i = subst (λ (l : List OutsideRead). In q.read l) (timed_reads es job) (in_map (λ (k : TimedRead). k.read) q (timed_reads_of es job) i)

@@ -30,8 +30,9 @@ use Rattle.commit_laws.specs.Commits.{TimedRead, timed_reads_of}
 use Rattle.commit_laws.proofs.Noted.{alone_knows}
 use Rattle.commit_laws.proofs.Known.{Known, IsByCommit}
 use Rattle.commit_laws.proofs.Installs.{complete_wrote}
-use Rattle.commit_laws.proofs.Settling.{by_commit, other_false, planned_in}
+use Rattle.commit_laws.proofs.Settling.{by_commit, planned_in}
 use Rattle.commit_laws.proofs.Timed.{NoneSince, Timed, timed_read, timed_more, timed_same, end_timed, rows_timed}
+use Rattle.history_laws.proofs.SerialSteps.{other_false}
 
 -- a plan
 

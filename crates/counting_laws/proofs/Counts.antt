@@ -24,8 +24,8 @@ use Rattle.history_laws.proofs.Members.{In, le_greatest}
 use Rattle.history_laws.proofs.Invariant.{IsPending, Runs, running_is, refusal_is, in_range}
 use Rattle.history_laws.proofs.Events.{refused_facts, refused_too}
 use Rattle.history_laws.proofs.Calendar.{Sound, named_from, deadline_of, deadline_le, period_of}
-use Rattle.history_laws.proofs.Histories.{settled_sound, idle_early, arrived_now, may_plan_is}
-use Rattle.history_laws.proofs.Never.{refused_after, refused_all, step_goes, entry_goes, opening_sound}
+use Rattle.history_laws.proofs.Histories.{settled_sound, idle_early, arrived_now, may_plan_is, wait_now, plan_now}
+use Rattle.history_laws.proofs.Never.{refused_after, refused_all, step_goes, entry_goes, opening_sound, refusal_at}
 use Rattle.history_laws.proofs.Conflict.{in_get_or}
 use Rattle.history_laws.proofs.Serials.{Serial}
 use Rattle.history_laws.proofs.SerialAll.{step_carries, entry_carries, opening_serial}
@@ -43,10 +43,6 @@ counts_given : (set : Set) (refused : JobId → Bool) (es : List Entry) (b : Boo
 counts_given set refused es true p h = h refl
 counts_given set refused es false p h = tt
 
-pub refusal_at : (set : Set) (s : State) (x : Row) (above : Above) (b : Bool) → option_and_then (λ r. refusal set s.rows r) (given b x) ≡ Some above → refusal set s.rows x ≡ Some above
-refusal_at set s x above true h = h
-refusal_at set s x above false h = absurd cc
-
 -- the least planned tick is one of them
 next_at : (rs : List Release) (r : Release) (t : ℕ) (o : Option ℕ) → earlier r.tick o ≡ t → ((u : ℕ) → o ≡ Some u → (q : Release) × In q rs × (q.tick ≡ u)) → (q : Release) × ((q ≡ r) ⊎ In q rs) × (q.tick ≡ t)
 next_at rs r t None e rest = (r, inl refl, e)
@@ -62,17 +58,9 @@ next_in (r ∷ rs) t e = let w : earlier r.tick (next_tick rs) ≡ t = cc in nex
 pub period_le : (set : Set) (n : ℕ) → n < length set.txns → (txn_of set n).period ≤ greatest_period set
 period_le set n lt = le_greatest (λ (t : TxnDecl). t.period) (txn_of set n) set.txns (in_get_or set.txns n no_txn lt)
 
-wait_now : (s : State) (x : Row) (j : JobId) → (with_wait s x j).now ≡ s.now
-unfolding with_wait
-wait_now s x j = refl
-
 wait_plans : (s : State) (x : Row) (j : JobId) → (with_wait s x j).plans ≡ s.plans
 unfolding with_wait
 wait_plans s x j = refl
-
-plan_now : (s : State) (n tick : ℕ) → (with_plan s n tick).now ≡ s.now
-unfolding with_plan
-plan_now s n tick = refl
 
 -- a pending job ends within a period of the last planned tick
 step_now : (set : Set) (refused : JobId → Bool) (s : State) (x : Row) (es : List Entry) → IsCompiled set → Sound set refused (s.now + 1) s → IsPending s.rows x → Plannings set es s.plans → s.now + 1 ≤ greatest_planned es + greatest_period set

@@ -25,14 +25,13 @@ use Rattle.history_laws.proofs.Events.{refused_facts, refused_too}
 use Rattle.history_laws.proofs.Ends.{left}
 use Rattle.history_laws.proofs.Calendar.{Sound, named_from, late_rows, s1, due, after_due, came_at}
 use Rattle.history_laws.proofs.Histories.{settled_sound, idle_early, may_plan_is}
-use Rattle.history_laws.proofs.Never.{refused_after, refused_all, step_goes, entry_goes, opening_sound, nothing_at}
+use Rattle.history_laws.proofs.Never.{refused_after, refused_all, step_goes, entry_goes, opening_sound, nothing_at, refusal_at}
 use Rattle.history_laws.proofs.Alone.{ops_more}
 use Rattle.history_laws.proofs.Serials.{Serial}
 use Rattle.history_laws.proofs.SerialAll.{step_carries, entry_carries, opening_serial}
 use Rattle.history_laws.proofs.DelayAll.{left_like, Delay, Like, step_slows, entry_slows, opening_delay}
 use Rattle.counting_laws.specs.Counting.{refusals_in, refusal_count}
 use Rattle.counting_laws.proofs.Totals.{steps_of}
-use Rattle.counting_laws.proofs.Counts.{refusal_at}
 
 abbrev taken : List Entry → JobId → ℕ
 taken es job = length (ops_of es job)

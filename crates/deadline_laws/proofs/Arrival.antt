@@ -1,5 +1,5 @@
 -- The cancellations and releases of an instant keep the window, and cancel no job of the transaction.
-use Rattle.std.proofs.Common.{◌≡◌, ◌≢◌, ℕ, ◌+◌, ◌<◌, ◌≤◌, ◌==◌, Bool, true, false, cond, not, List, [], ◌∷◌, ◌++◌, length, map, Option, None, Some, get_or, refl, ap, sym, ◌∙◌, subst, inl, inr, arith}
+use Rattle.std.proofs.Common.{◌≡◌, ◌≢◌, ℕ, ◌+◌, ◌<◌, ◌≤◌, ◌==◌, Bool, not, List, [], ◌∷◌, ◌++◌, length, map, Option, None, Some, get_or, refl, ap, sym, ◌∙◌, subst, inl, inr, arith}
 use Rattle.std.proofs.lemmas.List.{length-set}
 use Rattle.std.proofs.lemmas.Bool.{eqb-true, eqb-false, not-true}
 use Rattle.std.specs.List.{fold, filter}
@@ -16,7 +16,7 @@ use Rattle.history_laws.proofs.Members.{In, filter_in, pending_in}
 use Rattle.history_laws.proofs.Invariant.{IsPending}
 use Rattle.history_laws.proofs.Holding.{append_in}
 use Rattle.history_laws.proofs.Ends.{rows_without}
-use Rattle.history_laws.proofs.Calendar.{Follows, AreSpaced, Calendar, Sound, times_at, period_of, sorted_in, spaced_two, late_rows, s1, due, after_late}
+use Rattle.history_laws.proofs.Calendar.{AreSpaced, Calendar, Sound, times_at, period_of, sorted_in, spaced_two, late_rows, s1, due, after_late, spaced_filter}
 use Rattle.history_laws.proofs.DelayAll.{left_like}
 use Rattle.deadline_laws.specs.Response.{HoldsDemand}
 use Rattle.deadline_laws.proofs.Load.{pend_left}
@@ -79,14 +79,6 @@ released_window set tx r t (d ∷ ds) later rows notes size w spaced facts far =
       ],
     )) in
     released_window set tx r t ds later (with_row t rows d.job) notes (length-set rows d.job.tx.0 (Some (new_row d.job t)) ∙ size) next spaced.1 (λ q i. facts q (inr i)) (λ q k i j. far q k (inr i) j)
-
-spaced_filter_at : (set : Set) (p : Release → Bool) (r : Release) (rs : List Release) (b : Bool) → ((q : Release) → In q rs → r.job.tx.0 ≡ q.job.tx.0 → Follows set r q) → AreSpaced set (filter p rs) → AreSpaced set (cond b (r ∷ filter p rs) (filter p rs))
-spaced_filter_at set p r rs true h rest = (λ q i e. h q (filter_in p q rs i).0 e, rest)
-spaced_filter_at set p r rs false h rest = rest
-
-pub spaced_filter : (set : Set) (p : Release → Bool) (rs : List Release) → AreSpaced set rs → AreSpaced set (filter p rs)
-spaced_filter set p [] h = h
-spaced_filter set p (r ∷ rs) h = spaced_filter_at set p r rs (p r) h.0 (spaced_filter set p rs h.1)
 
 releases_window : (set : Set) (tx r t : ℕ) (rows : List (Option Row)) (planned : List Release) (notes : List Plans) → IsCompiled set → length rows ≡ length set.txns → Comes set t planned notes → Window set tx r t rows planned notes
     → Window set tx r t (fold (with_row t) rows (map (λ q. q.job) (filter (λ q. q.tick == t) planned))) (filter (λ q. not (q.tick == t)) planned) notes

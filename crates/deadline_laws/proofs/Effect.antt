@@ -13,12 +13,12 @@ use Rattle.history_laws.proofs.Invariant.{IsPending, is_any, AreNamed, Protocol,
 use Rattle.history_laws.proofs.Ends.{rows_without, left}
 use Rattle.history_laws.proofs.Conflict.{IsDeclared}
 use Rattle.history_laws.proofs.Delays.{le_blocking}
-use Rattle.history_laws.proofs.DelayAll.{Like}
+use Rattle.history_laws.proofs.DelayAll.{Like, like_ceiling}
 use Rattle.deadline_laws.specs.Response.{HoldsDemand}
 use Rattle.counting_laws.proofs.Totals.{steps_of}
 use Rattle.deadline_laws.proofs.Load.{todo_if, todo, pend, pend_written, pend_ended, pend_member, pend_some, todo_above}
 use Rattle.deadline_laws.proofs.Demand.{level}
-use Rattle.deadline_laws.proofs.Window.{Window, Went, IsBlockedFew, fresh_window, window_went, ceiling_like}
+use Rattle.deadline_laws.proofs.Window.{Window, Went, IsBlockedFew, fresh_window, window_went}
 
 -- the row of the job that stepped
 pub record Again (x y : Row) : Type 0 where
@@ -99,7 +99,7 @@ module _ (set : Set) (tx r t : ℕ) (rows rows' : List (Option Row)) (coming : L
     less = omega (arith, st.above le);
     lower = λ y h lt hold. elim (st.each y h) [
       | inl a ↦ absurd (omega (arith, ap (prio_of set) a.job))
-      | inr o ↦ (let s : steps_of set o.like.was ≤ o.like.was.used + w.low = w.lower o.like.was o.like.here (omega (arith, lt, ap (prio_of set) o.like.job)) (omega (arith, hold, ceiling_like set o.like.was y o.like.work)) in
+      | inr o ↦ (let s : steps_of set o.like.was ≤ o.like.was.used + w.low = w.lower o.like.was o.like.here (omega (arith, lt, ap (prio_of set) o.like.job)) (omega (arith, hold, like_ceiling set o.like.was y o.like.work)) in
           omega (arith, s, o.like.used, ap (λ (k : JobId). (txn_of set k.tx.0).steps) o.like.job))
     ];
   }
@@ -128,7 +128,7 @@ module _ (set : Set) (tx r t : ℕ) (rows rows' : List (Option Row)) (coming : L
         less = omega (arith, st.below, own, short);
         lower = λ y h lt hold. elim (st.each y h) [
           | inl a ↦ omega (arith, own, short, a.used, ap (λ (k : JobId). (txn_of set k.tx.0).steps) a.job)
-          | inr o ↦ absurd (only_one o.like.was o.like.here o.other below (omega (arith, lt, ap (prio_of set) o.like.job)) hx (omega (arith, hold, ceiling_like set o.like.was y o.like.work)))
+          | inr o ↦ absurd (only_one o.like.was o.like.here o.other below (omega (arith, lt, ap (prio_of set) o.like.job)) hx (omega (arith, hold, like_ceiling set o.like.was y o.like.work)))
         ];
       }
 

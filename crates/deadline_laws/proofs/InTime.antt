@@ -25,7 +25,7 @@ use Rattle.history_laws.proofs.Invariant.{IsPending, Runs, running_is, in_range,
 use Rattle.history_laws.proofs.Holding.{append_in}
 use Rattle.history_laws.proofs.Ends.{rows_without, left}
 use Rattle.history_laws.proofs.Calendar.{Sound, named_from}
-use Rattle.history_laws.proofs.Histories.{settled_sound, idle_early, arrived_now, MayPlan, may_plan_is}
+use Rattle.history_laws.proofs.Histories.{settled_sound, idle_early, arrived_now, MayPlan, may_plan_is, wait_now, plan_now}
 use Rattle.history_laws.proofs.Never.{refused_after, step_goes, entry_goes, opening_sound, nothing_at}
 use Rattle.history_laws.proofs.Conflict.{IsDeclared, row_declared}
 use Rattle.history_laws.proofs.Serials.{Serial}
@@ -182,14 +182,6 @@ times_given set tx r false p h = tt
 
 at_now : (set : Set) (tx r t : ℕ) (s : State) → Timely set tx r t (arrived set t s) → Timely set tx r (arrived set t s).now (arrived set t s)
 at_now set tx r t s h = subst (λ (n : ℕ). Timely set tx r n (arrived set t s)) (sym (arrived_now set t s)) h
-
-wait_now : (s : State) (x : Row) (j : JobId) → (with_wait s x j).now ≡ s.now
-unfolding with_wait
-wait_now s x j = refl
-
-plan_now : (s : State) (n tick : ℕ) → (with_plan s n tick).now ≡ s.now
-unfolding with_plan
-plan_now s n tick = refl
 
 module _ (set : Set) (tx r : ℕ) (ok : IsCompiled set) (holds : HoldsDemand set tx r) (refused : JobId → Bool) (s : State) (sound : Sound set refused (s.now + 1) s) (es : List Entry) (serial : Serial set es s) (delay : Delay set es s.now s) (h : Timely set tx r s.now s) where
   answered_times : (x : Row) (op : Op) (o : Option Above) → Runs set s.rows refused x → may_ask set x op ≡ true → lock_refusal set s x op ≡ o → Times set tx r (Some (answered set s x op o))

@@ -1,20 +1,18 @@
 -- The window of a transaction: what holds since the last instant at which no job at or above it was pending.
-use Rattle.std.proofs.Common.{◌≡◌, ◌≢◌, ◌⊎◌, ℕ, ◌+◌, ◌-◌, ◌*◌, ◌<◌, ◌≤◌, Bool, true, false, List, length, map, Option, get_or, refl, ap, ◌∙◌, inl, inr, arith, suc-mul, zero-mul}
+use Rattle.std.proofs.Common.{◌≡◌, ◌≢◌, ◌⊎◌, ℕ, ◌+◌, ◌-◌, ◌*◌, ◌<◌, ◌≤◌, Bool, true, false, List, length, Option, get_or, refl, ap, ◌∙◌, inl, inr, arith, suc-mul, zero-mul}
 use Rattle.std.proofs.lemmas.Bool.{cases_eq}
 use Rattle.std.specs.Prelude.{nat_le}
 use Rattle.rt_base.specs.declared.ids.JobId.{JobId}
 use Rattle.txn_set.specs.Set.{Set, txn_of, IsCompiled}
-use Rattle.txn_set.specs.Ceilings.{greatest}
-use Rattle.item_model.specs.Work.{Work}
 use Rattle.step_journal.specs.State.{Row, prio, prio_of, new_row}
 use Rattle.rt_base.specs.declared.release.Plans.{Plans}
 use Rattle.rt_base.specs.declared.release.Release.{Release}
-use Rattle.step_journal.specs.LockRule.{locks, lock_ceiling, ceiling_of}
+use Rattle.step_journal.specs.LockRule.{ceiling_of}
 use Rattle.step_journal.specs.Instant.{with_row}
 use Rattle.txn_set.specs.Ceilings.{blocking}
 use Rattle.history_laws.proofs.Members.{In}
 use Rattle.history_laws.proofs.Invariant.{IsPending, written}
-use Rattle.history_laws.proofs.DelayAll.{Like}
+use Rattle.history_laws.proofs.DelayAll.{Like, like_ceiling, no_ceiling_new}
 use Rattle.deadline_laws.specs.Response.{HoldsDemand}
 use Rattle.counting_laws.proofs.Totals.{steps_of}
 use Rattle.deadline_laws.proofs.Load.{todo_if, pend, pend_written, work, one_more, one_more_here, one_more_there, work_more}
@@ -62,10 +60,6 @@ fresh_window set tx r t rows coming notes pos above none few future = record {
 
 -- rows that stand for others, with no more to do
 
-pub ceiling_like : (set : Set) (x y : Row) → y.work ≡ x.work → ceiling_of set y ≡ ceiling_of set x
-unfolding ceiling_of
-ceiling_like set x y e = ap (λ (w : Work). greatest (map (lock_ceiling set) (locks w))) e
-
 pub window_like : (set : Set) (tx r t : ℕ) (rows rows' : List (Option Row)) (coming : List Release) (notes : List Plans) → Window set tx r t rows coming notes → ((z : Row) → IsPending rows' z → Like rows z)
     → pend set (level set tx) rows' ≤ pend set (level set tx) rows → Window set tx r t rows' coming notes
 window_like set tx r t rows rows' coming notes w like le = record {
@@ -78,7 +72,7 @@ window_like set tx r t rows rows' coming notes w like le = record {
   budget = omega (arith, w.budget, le);
   lower = λ y h lt hold.
       let l = like y h in
-      let s : steps_of set l.was ≤ l.was.used + w.low = w.lower l.was l.here (omega (arith, lt, ap (prio_of set) l.job)) (omega (arith, hold, ceiling_like set l.was y l.work)) in
+      let s : steps_of set l.was ≤ l.was.used + w.low = w.lower l.was l.here (omega (arith, lt, ap (prio_of set) l.job)) (omega (arith, hold, like_ceiling set l.was y l.work)) in
       omega (arith, s, l.used, ap (λ (k : JobId). (txn_of set k.tx.0).steps) l.job);
   spaced = w.spaced;
   noted = w.noted;
@@ -104,10 +98,6 @@ window_noted set tx r t rows coming coming' notes notes' w spaced more = record 
 }
 
 -- a release
-
-no_ceiling : (set : Set) (j : JobId) (t : ℕ) → ceiling_of set (new_row j t) ≡ 0
-unfolding ceiling_of
-no_ceiling set j t = refl
 
 new_todo : (b : Bool) (n : ℕ) → todo_if b (n - 0) ≡ todo_if b n
 new_todo true n = omega arith
@@ -152,7 +142,7 @@ module _ (set : Set) (tx r t : ℕ) (rows : List (Option Row)) (coming coming' :
     within = w.within;
     since = λ x h above. elim (case x h) [ inl e ↦ omega (arith, w.begun, ap (λ (q : Row). q.release) e) | inr o ↦ w.since x o.1 above ];
     budget = budget_more;
-    lower = λ y h lt hold. elim (case y h) [ inl e ↦ absurd (omega (arith, ap (ceiling_of set) e ∙ no_ceiling set job t)) | inr o ↦ w.lower y o.1 lt hold ];
+    lower = λ y h lt hold. elim (case y h) [ inl e ↦ absurd (omega (arith, ap (ceiling_of set) e ∙ no_ceiling_new set job t)) | inr o ↦ w.lower y o.1 lt hold ];
     spaced = λ q i. let o = rest q i in elim (cases_eq q.job.tx.0 job.tx.0) [
       | inl e ↦ omega (arith, more_here q.job.tx.0 e, o.1 e, due)
       | inr ne ↦ omega (arith, times_there q.job.tx.0 ne, w.spaced q o.0)

@@ -236,7 +236,7 @@ spaced_filter_at : (set : Set) (p : Release → Bool) (r : Release) (rs : List R
 spaced_filter_at set p r rs true h rest = (λ q i e. h q (filter_in p q rs i).0 e, rest)
 spaced_filter_at set p r rs false h rest = rest
 
-spaced_filter : (set : Set) (p : Release → Bool) (rs : List Release) → AreSpaced set rs → AreSpaced set (filter p rs)
+pub spaced_filter : (set : Set) (p : Release → Bool) (rs : List Release) → AreSpaced set rs → AreSpaced set (filter p rs)
 spaced_filter set p [] h = h
 spaced_filter set p (r ∷ rs) h = spaced_filter_at set p r rs (p r) h.0 (spaced_filter set p rs h.1)
 
@@ -254,7 +254,7 @@ apart_due_at set t r rs true e pos h rest = (
 apart_due_at set t r rs false e pos h rest = rest
 
 -- releases of one tick are of different transactions
-apart_due : (set : Set) (t : ℕ) (rs : List Release) → ((r : Release) → In r rs → 1 ≤ period_of set r.job) → AreSpaced set rs → AreApart (filter (λ q. q.tick == t) rs)
+pub apart_due : (set : Set) (t : ℕ) (rs : List Release) → ((r : Release) → In r rs → 1 ≤ period_of set r.job) → AreSpaced set rs → AreApart (filter (λ q. q.tick == t) rs)
 apart_due set t [] pos h = tt
 apart_due set t (r ∷ rs) pos h = apart_due_at set t r rs (r.tick == t) refl (pos r (inl refl)) h.0 (apart_due set t rs (λ q i. pos q (inr i)) h.1)
 
@@ -297,7 +297,7 @@ module _ (set : Set) (refused : JobId → Bool) (t : ℕ) (s : State) (ok : IsCo
   after_late = cancelled set refused t late_rows (record s { now = t }) sound.frame sound.protocol late_own
 
   -- whoever is left has time beyond t
-  still_alive : (y : Row) → IsPending s1.rows y → t + 1 ≤ y.release + deadline_of set y.job
+  pub still_alive : (y : Row) → IsPending s1.rows y → t + 1 ≤ y.release + deadline_of set y.job
   unfolding late_rows s1
   still_alive y h =
       let f = after_late.rows y h in
@@ -330,10 +330,10 @@ module _ (set : Set) (refused : JobId → Bool) (t : ℕ) (s : State) (ok : IsCo
       let e : deadline_of set x.job ≡ deadline_of set from.was.job = ap (deadline_of set) from.job in
       omega (arith, b.0, from.release))
 
-  period_pos : (r : Release) → In r s1.planned → 1 ≤ period_of set r.job
+  pub period_pos : (r : Release) → In r s1.planned → 1 ≤ period_of set r.job
   period_pos r i = (times_at set r.job.tx.0 ok (sound.calendar.in_set r (planned_before r i))).period.0
 
-  spaced_before : AreSpaced set s1.planned
+  pub spaced_before : AreSpaced set s1.planned
   spaced_before = subst (AreSpaced set) (sym after_late.planned) sound.calendar.spaced
 
   pub after_due : Released set refused t due s1.rows (fold (with_row t) s1.rows (map (λ r. r.job) due))

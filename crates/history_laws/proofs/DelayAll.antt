@@ -35,12 +35,13 @@ use Rattle.history_laws.proofs.Invariant.{IsPending, is_any, Runs, running_is, i
 use Rattle.history_laws.proofs.Holding.{append_in}
 use Rattle.history_laws.proofs.Ends.{rows_without, left, stays}
 use Rattle.history_laws.proofs.Calendar.{Frame, Sound, sorted_in, named_from, late_rows, s1, due, after_due, frame_with}
-use Rattle.history_laws.proofs.Histories.{settled_sound, idle_early, arrived_now, may_plan_is}
+use Rattle.history_laws.proofs.Histories.{settled_sound, idle_early, arrived_now, may_plan_is, wait_now}
 use Rattle.history_laws.proofs.Never.{refused_after, step_goes, entry_goes, opening_sound, nothing_at}
 use Rattle.history_laws.proofs.Serials.{Serial}
 use Rattle.history_laws.proofs.SerialSteps.{AreDistinct, distinct_pending, distinct_filter, distinct_sorted}
 use Rattle.history_laws.proofs.SerialAll.{step_carries, entry_carries, opening_serial}
 use Rattle.history_laws.proofs.Delays.{since_in, steps_since, IsOne, IsDelayed, step_delays}
+use Rattle.history_laws.proofs.Lists.{find_some}
 
 -- the step of an entry was made before a tick
 abbrev pub IsPast : ℕ → Entry → Type 0
@@ -162,7 +163,7 @@ pub record Like (rows : List (Option Row)) (y : Row) : Type 0 where
   pub used : y.used ≡ was.used
   pub work : y.work ≡ was.work
 
-like_ceiling : (set : Set) (x y : Row) → y.work ≡ x.work → ceiling_of set y ≡ ceiling_of set x
+pub like_ceiling : (set : Set) (x y : Row) → y.work ≡ x.work → ceiling_of set y ≡ ceiling_of set x
 unfolding ceiling_of
 like_ceiling set x y e = ap (λ (w : Work). greatest (map (lock_ceiling set) (locks w))) e
 
@@ -252,7 +253,7 @@ late_delay set es t (r ∷ rs) s d may h =
 
 -- new rows
 
-no_ceiling_new : (set : Set) (j : JobId) (t : ℕ) → ceiling_of set (new_row j t) ≡ 0
+pub no_ceiling_new : (set : Set) (j : JobId) (t : ℕ) → ceiling_of set (new_row j t) ≡ 0
 unfolding ceiling_of
 no_ceiling_new set j t = refl
 
@@ -421,10 +422,6 @@ slows_given set es false p h = tt
 at_now : (set : Set) (es : List Entry) (t : ℕ) (s : State) → Delay set es t (arrived set t s) → Delay set es (arrived set t s).now (arrived set t s)
 at_now set es t s h = subst (λ (n : ℕ). Delay set es n (arrived set t s)) (sym (arrived_now set t s)) h
 
-wait_now : (s : State) (x : Row) (j : JobId) → (with_wait s x j).now ≡ s.now
-unfolding with_wait
-wait_now s x j = refl
-
 next_later_at : (n u : ℕ) (r : Release) (o : Option ℕ) → n ≤ r.tick → ((v : ℕ) → o ≡ Some v → n ≤ v) → earlier r.tick o ≡ u → n ≤ u
 next_later_at n u r None a b h = omega arith
 next_later_at n u r (Some v) a b h = let c : n ≤ v = b v refl in omega arith
@@ -511,18 +508,13 @@ of_pending set entries s job (Some x) h e =
     let o : IsOne set x.job (steps_since set entries x.job x.release) = (h.each x j.0).is_one in
     subst (λ (k : JobId). IsOne set k (delayers_within set entries k (Some (span x.release s.now)))) j.1 (one_same set x.job _ _ (within_since set x.job x.release s.now entries h.past) o)
 
-find_some_at : (d e : EndedJob) (es : List EndedJob) (job : JobId) (b : Bool) → same_job d.job job ≡ b → (find (λ q. same_job q.job job) es ≡ Some e → In e es × (e.job ≡ job)) → cond b (Some d) (find (λ q. same_job q.job job) es) ≡ Some e → ((e ≡ d) ⊎ In e es) × (e.job ≡ job)
-find_some_at d e es job true t rest h = let is : d ≡ e = cc in (inl (sym is), ap (λ (q : EndedJob). q.job) (sym is) ∙ same_job_is _ _ t)
-find_some_at d e es job false t rest h = (inr (rest h).0, (rest h).1)
-
-find_some : (es : List EndedJob) (job : JobId) (e : EndedJob) → find (λ d. same_job d.job job) es ≡ Some e → In e es × (e.job ≡ job)
-find_some [] job e h = absurd cc
-find_some (d ∷ es) job e h = find_some_at d e es job (same_job d.job job) refl (find_some es job e) h
+find_ended : (es : List EndedJob) (job : JobId) (e : EndedJob) → find (λ d. same_job d.job job) es ≡ Some e → In e es × (e.job ≡ job)
+find_ended es job e h = let f = find_some (λ (d : EndedJob). same_job d.job job) es e h in (f.here, same_job_is _ _ f.passes)
 
 of_span : (set : Set) (entries : List Entry) (s : State) (job : JobId) (o : Option EndedJob) → Delay set entries s.now s → find (λ d. same_job d.job job) s.ended ≡ o → IsOne set job (delayers_within set entries job (ended_span o (pending_span s (job_row s.rows job))))
 of_span set entries s job None h e = of_pending set entries s job (job_row s.rows job) h refl
 of_span set entries s job (Some d) h e =
-    let f = find_some s.ended job d e in
+    let f = find_ended s.ended job d e in
     subst (λ (k : JobId). IsOne set k (delayers_within set entries k (Some (span d.release d.tick)))) f.1 (h.done d f.0).is_one
 
 pub one_delay : (set : Set) (entries : List Entry) (job : JobId) → IsCompiled set → IsLegal set entries → DelayedByOne set entries job

@@ -1,10 +1,10 @@
 -- At most one lower job delays a job, for at most its blocking.
-use Rattle.std.proofs.Common.{◌≡◌, ◌≢◌, ◌⊎◌, ℕ, ◌+◌, ◌-◌, ◌<◌, ◌≤◌, ◌==◌, Bool, true, false, cond, ◌&&◌, ◌||◌, List, [], ◌∷◌, ◌++◌, length, Option, None, Some, set as with_item, refl, ap, sym, ◌∙◌, subst, inl, inr, arith, length-append}
+use Rattle.std.proofs.Common.{◌≡◌, ◌≢◌, ◌⊎◌, ℕ, ◌+◌, ◌-◌, ◌<◌, ◌≤◌, ◌==◌, Bool, true, cond, ◌&&◌, List, [], ◌∷◌, ◌++◌, length, Option, None, Some, set as with_item, refl, ap, sym, ◌∙◌, subst, inl, inr, arith, length-append}
 use Rattle.std.proofs.lemmas.List.{append-nil}
 use Rattle.std.proofs.lemmas.List.Elements.{filter_map-append}
 use Rattle.std.proofs.lemmas.Bool.{cases_order, cases_lt, and_from, lt-ltb, le-ltb, le-leb, eqb-true, or_left, or_right}
 use Rattle.std.specs.Prelude.{nat_lt, nat_le}
-use Rattle.std.specs.List.{filter_map, cons_option, list_any, filter}
+use Rattle.std.specs.List.{filter_map, cons_option, filter}
 use Rattle.rt_base.specs.declared.ids.JobId.{JobId}
 use Rattle.rt_base.specs.declared.ids.ItemId.{ItemId}
 use Rattle.txn_set.specs.declared.decl.TxnDecl.{TxnDecl}
@@ -22,6 +22,7 @@ use Rattle.history_laws.proofs.Members.{In, in_filter, le_greatest, greatest_in}
 use Rattle.history_laws.proofs.Invariant.{IsPending, Protocol, Runs, AreNamed, in_range, written, holder_from_ceiling}
 use Rattle.history_laws.proofs.Holding.{append_in, locks_tell}
 use Rattle.history_laws.proofs.Conflict.{IsDeclared, in_get_or}
+use Rattle.history_laws.proofs.Lists.{in_any, any_in}
 
 -- the job of a step entry from a tick on, where it is lower
 abbrev pub since_in : Set → JobId → ℕ → Entry → Option JobId
@@ -46,28 +47,15 @@ pub record IsDelayed (set : Set) (es : List Entry) (rows : List (Option Row)) (x
 
 -- a transaction that holds a lock with a ceiling of at least a priority is one that may block
 
-any_at : {A : Type 0} (p : A → Bool) (x : A) (xs : List A) → In x xs → p x ≡ true → list_any p xs ≡ true
-any_at p x [] i h = absurd i
-any_at p x (y ∷ ys) (inl e) h = or_left _ _ (ap p (sym e) ∙ h)
-any_at p x (y ∷ ys) (inr i) h = or_right _ _ (any_at p x ys i h)
-
-any_tells_at : {A : Type 0} (p : A → Bool) (y : A) (ys : List A) (b : Bool) → p y ≡ b → (b || list_any p ys) ≡ true → (list_any p ys ≡ true → (x : A) × In x ys × (p x ≡ true)) → (x : A) × ((x ≡ y) ⊎ In x ys) × (p x ≡ true)
-any_tells_at p y ys true e h rest = (y, inl refl, e)
-any_tells_at p y ys false e h rest = let r = rest h in (r.0, inr r.1, r.2)
-
-any_tells : {A : Type 0} (p : A → Bool) (xs : List A) → list_any p xs ≡ true → (x : A) × In x xs × (p x ≡ true)
-any_tells p [] h = absurd cc
-any_tells p (y ∷ ys) h = any_tells_at p y ys (p y) refl h (any_tells p ys)
-
 blocks_read : (set : Set) (txn : TxnDecl) (p i : ℕ) → may_read txn i ≡ true → p ≤ write_ceiling set i → may_block set p txn ≡ true
 blocks_read set txn p i may le =
-    let d = any_tells (λ (k : ItemId). k.0 == i) txn.reads may in
-    or_left _ _ (any_at (λ (k : ItemId). nat_le p (write_ceiling set k.0)) d.0 txn.reads d.1 (le-leb _ _ (omega (arith, le, ap (write_ceiling set) (eqb-true _ _ d.2)))))
+    let d = any_in (λ (k : ItemId). k.0 == i) txn.reads may in
+    or_left _ _ (in_any (λ (k : ItemId). nat_le p (write_ceiling set k.0)) d.0 txn.reads d.1 (le-leb _ _ (omega (arith, le, ap (write_ceiling set) (eqb-true _ _ d.2)))))
 
 blocks_write : (set : Set) (txn : TxnDecl) (p i : ℕ) → may_write txn i ≡ true → p ≤ absolute_ceiling set i → may_block set p txn ≡ true
 blocks_write set txn p i may le =
-    let d = any_tells (λ (k : ItemId). k.0 == i) txn.writes may in
-    or_right _ _ (any_at (λ (k : ItemId). nat_le p (absolute_ceiling set k.0)) d.0 txn.writes d.1 (le-leb _ _ (omega (arith, le, ap (absolute_ceiling set) (eqb-true _ _ d.2)))))
+    let d = any_in (λ (k : ItemId). k.0 == i) txn.writes may in
+    or_right _ _ (in_any (λ (k : ItemId). nat_le p (absolute_ceiling set k.0)) d.0 txn.writes d.1 (le-leb _ _ (omega (arith, le, ap (absolute_ceiling set) (eqb-true _ _ d.2)))))
 
 holder_blocks : (set : Set) (y : Row) (p : ℕ) → IsDeclared set y → 0 < p → p ≤ ceiling_of set y → may_block set p (txn_of set y.job.tx.0) ≡ true
 unfolding ceiling_of

@@ -105,6 +105,14 @@ pub arrived_now : (set : Set) (t : ℕ) (s : State) → (arrived set t s).now �
 unfolding arrived with_releases with_cancellations
 arrived_now set t s = fold_now t t (in_falling_priority set (filter (is_due set t) (pending s.rows))) (record s { now = t }) refl
 
+pub wait_now : (s : State) (x : Row) (j : JobId) → (with_wait s x j).now ≡ s.now
+unfolding with_wait
+wait_now s x j = refl
+
+pub plan_now : (s : State) (tx tick : ℕ) → (with_plan s tx tick).now ≡ s.now
+unfolding with_plan
+plan_now s tx tick = refl
+
 pub step_sound : (set : Set) (refused : JobId → Bool) (s : State) (x : Row) (op : Op) → IsCompiled set → Sound set refused (s.now + 1) s → Runs set s.rows refused x → lock_refusal set s x op ≡ None
     → Sound set refused ((with_step set s x op).now + 1) (with_step set s x op)
 unfolding with_step after_effect

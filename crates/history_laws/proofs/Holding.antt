@@ -25,7 +25,7 @@ use Rattle.history_laws.proofs.Events.{IsGranted}
 
 -- lists
 
-in_map : {A B : Type 0} (f : A → B) (x : A) (xs : List A) → In x xs → In (f x) (map f xs)
+pub in_map : {A B : Type 0} (f : A → B) (x : A) (xs : List A) → In x xs → In (f x) (map f xs)
 in_map f x [] h = absurd h
 in_map f x (y ∷ ys) (inl e) = inl (ap f e)
 in_map f x (y ∷ ys) (inr h) = inr (in_map f x ys h)

@@ -8,6 +8,7 @@ pub mod Calendar
 pub mod Histories
 pub mod Never
 pub mod Conflict
+pub mod Lists
 pub mod Alone
 pub mod Serials
 pub mod SerialSteps

@@ -20,7 +20,7 @@ use Rattle.history_laws.proofs.Members.{pending_in, highest_is, highest_none}
 use Rattle.history_laws.proofs.Invariant.{IsPending, is_any, AreNamed, Protocol, Runs, running_is, refusal_is, in_range, same_row, job_row_is}
 use Rattle.history_laws.proofs.Events.{refused_facts, refused_too}
 use Rattle.history_laws.proofs.Calendar.{Sound, named_from}
-use Rattle.history_laws.proofs.Histories.{step_sound, refusal_sound, idle_sound, plan_sound, may_plan_is}
+use Rattle.history_laws.proofs.Histories.{step_sound, refusal_sound, idle_sound, plan_sound, may_plan_is, wait_now, plan_now}
 
 -- who was refused, after one more entry
 abbrev pub refused_after : (JobId → Bool) → Entry → JobId → Bool
@@ -45,19 +45,11 @@ goes_given : (set : Set) (refused : JobId → Bool) (s : State) (b : Bool) (p : 
 goes_given set refused s true p h = h refl
 goes_given set refused s false p h = tt
 
-plan_now : (s : State) (tx tick : ℕ) → (with_plan s tx tick).now ≡ s.now
-unfolding with_plan
-plan_now s tx tick = refl
-
-wait_now : (s : State) (x : Row) (j : JobId) → (with_wait s x j).now ≡ s.now
-unfolding with_wait
-wait_now s x j = refl
-
 no_locks : (ls : List Lock) → is_any ls ≡ false → ls ≡ []
 no_locks [] h = refl
 no_locks (l ∷ ls) h = absurd cc
 
-refusal_at : (set : Set) (s : State) (x : Row) (above : Above) (b : Bool) → option_and_then (λ r. refusal set s.rows r) (given b x) ≡ Some above → refusal set s.rows x ≡ Some above
+pub refusal_at : (set : Set) (s : State) (x : Row) (above : Above) (b : Bool) → option_and_then (λ r. refusal set s.rows r) (given b x) ≡ Some above → refusal set s.rows x ≡ Some above
 refusal_at set s x above true h = h
 refusal_at set s x above false h = absurd cc
 

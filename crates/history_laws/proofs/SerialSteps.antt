@@ -143,7 +143,7 @@ module _ (set : Set) (refused : JobId → Bool) (t : ℕ) (s : State) (ok : IsCo
 self_true : (j : JobId) → same_job j j ≡ true
 self_true j = and_from _ _ (eq-eqb j.tx.0 j.tx.0 refl) (eq-eqb j.serial j.serial refl)
 
-other_false : (a b : JobId) → (a ≡ b → ⊥) → same_job a b ≡ false
+pub other_false : (a b : JobId) → (a ≡ b → ⊥) → same_job a b ≡ false
 other_false a b h = false_from_ne_true _ (λ t. h (same_job_is a b t))
 
 module _ (set : Set) (es : List Entry) (s : State) (x : Row) (op : Op) (over : Option End) (refused : JobId → Bool) (t : ℕ) (ok : IsCompiled set) (sound : Sound set refused t s) (run : Runs set s.rows refused x)

@@ -1,7 +1,7 @@
--- Members of lists.
-use Rattle.std.proofs.Common.{◌≡◌, ◌≢◌, ◌⊎◌, ℕ, zero, suc, ◌<◌, ◌≤◌, Bool, true, false, cond, List, [], ◌∷◌, length, Option, None, Some, get_or, refl, ap, sym, ◌∙◌, subst, inl, inr, arith}
-use Rattle.std.proofs.lemmas.Bool.{or_left, or_right}
-use Rattle.std.specs.List.{All, find, filter_map, cons_option, list_any}
+-- Members of lists: of their mapped, filtered and tested lists.
+use Rattle.std.proofs.Common.{◌≡◌, ◌≢◌, ◌⊎◌, ℕ, zero, suc, ◌<◌, ◌≤◌, Bool, true, false, cond, ◌||◌, List, [], ◌∷◌, length, Option, None, Some, get_or, refl, ap, sym, ◌∙◌, subst, inl, inr, arith}
+use Rattle.std.proofs.lemmas.Bool.{or_left, or_right, and_parts}
+use Rattle.std.specs.List.{All, find, filter_map, cons_option, list_any, list_all}
 use Rattle.history_laws.proofs.Members.{In}
 use Rattle.history_laws.proofs.Conflict.{in_get_or}
 
@@ -21,6 +21,19 @@ pub in_any : {A : Type 0} (p : A → Bool) (x : A) (xs : List A) → In x xs →
 in_any p x [] i t = absurd i
 in_any p x (y ∷ ys) (inl e) t = or_left (p y) (list_any p ys) (ap p (sym e) ∙ t)
 in_any p x (y ∷ ys) (inr i) t = or_right (p y) (list_any p ys) (in_any p x ys i t)
+
+any_in_at : {A : Type 0} (p : A → Bool) (x : A) (xs : List A) (b : Bool) → p x ≡ b → (list_any p xs ≡ true → (y : A) × In y xs × (p y ≡ true)) → (b || list_any p xs) ≡ true → (y : A) × ((y ≡ x) ⊎ In y xs) × (p y ≡ true)
+any_in_at p x xs true e rest h = (x, inl refl, e)
+any_in_at p x xs false e rest h = let r = rest h in (r.0, inr r.1, r.2)
+
+pub any_in : {A : Type 0} (p : A → Bool) (xs : List A) → list_any p xs ≡ true → (x : A) × In x xs × (p x ≡ true)
+any_in p [] h = absurd cc
+any_in p (x ∷ xs) h = any_in_at p x xs (p x) refl (any_in p xs) h
+
+pub all_pass : {A : Type 0} (p : A → Bool) (x : A) (xs : List A) → list_all p xs ≡ true → In x xs → p x ≡ true
+all_pass p x [] h i = absurd i
+all_pass p x (y ∷ ys) h (inl e) = ap p e ∙ (and_parts _ _ h).0
+all_pass p x (y ∷ ys) h (inr i) = all_pass p x ys (and_parts _ _ h).1 i
 
 -- what find gives
 

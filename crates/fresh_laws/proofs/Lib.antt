@@ -1,0 +1,3 @@
+pub mod Periodic
+pub mod Levels
+pub mod WithinAge

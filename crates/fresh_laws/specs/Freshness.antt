@@ -1,0 +1,35 @@
+-- What an admitted set promises of steady histories: no read is too old, and no two reads lie too far apart.
+use Rattle.std.specs.Prelude.{◌≡◌, ◌≢◌, ℕ, ◌-◌, ◌≤◌, max, List, IsTrue}
+use Rattle.std.specs.List.{All}
+use Rattle.rt_base.specs.declared.ids.ItemId.{ItemId}
+use Rattle.rt_base.specs.declared.operation.End.TheVariants as end
+use Rattle.step_journal.specs.declared.entry.Entry.{Entry}
+use Rattle.step_journal.specs.declared.entry.EndedJob.{EndedJob}
+use Rattle.txn_set.specs.Set.{Set, IsCompiled}
+use Rattle.item_model.specs.Kinds.{is_dated}
+use Rattle.item_model.specs.declared.stored.OutsideRead.{OutsideRead}
+use Rattle.step_journal.specs.History.{IsLegal, state_of}
+use Rattle.step_journal.specs.Timing.{outside_reads_of, IsSteady}
+use Rattle.fresh_laws.specs.Ages.{IsAdmitted, age_bound}
+
+-- the age of a read at the end of its job is within the item's bound
+pub record IsWithinAge (bound : ℕ → ℕ) (e : EndedJob) (r : OutsideRead) : Type 0 where
+  pub past : r.stamp ≤ e.tick
+  pub age : e.tick - r.stamp ≤ bound r.item.0
+
+-- two stamps differ by at most the greater bound
+pub record IsWithinSpread (bound : ℕ → ℕ) (q r : OutsideRead) : Type 0 where
+  pub below : q.stamp - r.stamp ≤ max (bound q.item.0) (bound r.item.0)
+  pub above : r.stamp - q.stamp ≤ max (bound q.item.0) (bound r.item.0)
+
+pub record EndsAreFresh (set : Set) (bound : ℕ → ℕ) (entries : List Entry) : Type 0 where
+  pub none_stale : All (λ e. (item : ItemId) (stamp : ℕ) → e.end ≢ end.Stale item stamp) (state_of set entries).ended
+  pub none_apart : All (λ e. (a b : ItemId) → e.end ≢ end.Apart a b) (state_of set entries).ended
+  pub age : All (λ e. e.end ≡ end.Committed → All (λ r. IsTrue (is_dated set.items r.item.0) → IsWithinAge bound e r) (outside_reads_of entries e.job)) (state_of set entries).ended
+  pub spread : All (λ e. e.end ≡ end.Committed → All (λ q. All (λ r. IsTrue (is_dated set.items q.item.0) → IsTrue (is_dated set.items r.item.0) → IsWithinSpread bound q r) (outside_reads_of entries e.job)) (outside_reads_of entries e.job)) (state_of set entries).ended
+
+-- Over an admitted set, in a steady history, no job ends Stale or Apart, and what a committed job read from outside is within
+-- the age bounds.
+abbrev pub Freshness : Type 0
+Freshness = (set : Set) (entries : List Entry) → IsCompiled set → (admitted : IsAdmitted set) → IsLegal set entries
+    → IsSteady set entries → EndsAreFresh set (age_bound set admitted.response) entries
