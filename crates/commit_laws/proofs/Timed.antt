@@ -1,4 +1,5 @@
--- No job of an item's writer commits between a read of the item and the end of the reader.
+-- No job of an item's writer commits between a read of the item and the end of the reader: the invariant, and how
+-- ends keep it. The reader holds its lock until it ends, and the writer would need one too.
 use Rattle.std.proofs.Common.{◌≡◌, ◌≢◌, ℕ, ◌≤◌, ◌==◌, Bool, true, false, cond, List, [], ◌∷◌, ◌++◌, map, Option, None, Some, get_or, refl, ap, sym, ◌∙◌, subst, inl, inr, arith, append_assoc}
 use Rattle.std.proofs.lemmas.List.{append-nil}
 use Rattle.std.proofs.lemmas.List.Elements.{filter_map-append}

@@ -1,4 +1,5 @@
--- In every legal history a job takes at most its steps, and is refused at most once.
+-- In every legal history a job takes at most its steps and is refused at most once: a pending row counts its steps,
+-- and a job with no row, planned or over, takes none.
 use Rattle.std.proofs.Common.{◌≡◌, ◌≢◌, ℕ, ◌+◌, ◌<◌, ◌≤◌, ◌==◌, Bool, true, false, cond, ◌||◌, List, [], ◌∷◌, ◌++◌, length, Option, None, Some, refl, ap, sym, ◌∙◌, subst, inl, inr, arith, append_assoc, length-append}
 use Rattle.std.proofs.lemmas.List.{append-nil}
 use Rattle.std.proofs.lemmas.Bool.{cases_Bool, eq-eqb, and_from}

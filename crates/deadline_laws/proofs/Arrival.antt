@@ -1,4 +1,5 @@
--- The cancellations and releases of an instant keep the window, and cancel no job of the transaction.
+-- The cancellations and releases of an instant keep the window, and cancel no job of the transaction: its demand is
+-- met before its deadline.
 use Rattle.std.proofs.Common.{◌≡◌, ◌≢◌, ℕ, ◌+◌, ◌<◌, ◌≤◌, ◌==◌, Bool, not, List, [], ◌∷◌, ◌++◌, length, map, Option, None, Some, get_or, refl, ap, sym, ◌∙◌, subst, inl, inr, arith}
 use Rattle.std.proofs.lemmas.List.{length-set}
 use Rattle.std.proofs.lemmas.Bool.{eqb-true, eqb-false, not-true}

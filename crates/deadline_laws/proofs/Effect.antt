@@ -1,4 +1,5 @@
--- The effect of a granted step, before its instant's cancellations and releases.
+-- The effect of a granted step keeps the window, or leaves nothing pending at or above the transaction and begins a
+-- new one.
 use Rattle.std.proofs.Common.{◌≡◌, ◌≢◌, ◌⊎◌, ℕ, ◌+◌, ◌-◌, ◌<◌, ◌≤◌, Bool, true, false, List, length, Option, None, Some, get_or, set as with_item, refl, ap, sym, ◌∙◌, subst, inl, inr, arith}
 use Rattle.std.proofs.lemmas.Bool.{cases_lt, cases_order}
 use Rattle.std.specs.Prelude.{nat_le}

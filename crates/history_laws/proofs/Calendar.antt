@@ -1,4 +1,6 @@
--- Times of releases and pending jobs: a transaction has at most one pending job, since the one before is over.
+-- The times of releases and of pending jobs. Plans of one transaction lie a period apart and a deadline is at most a
+-- period, so at a release the job before is over: a transaction has at most one pending job, and to arrive at a tick
+-- keeps the invariant.
 use Rattle.std.proofs.Common.{◌≡◌, ◌≢◌, ◌⊎◌, ℕ, zero, suc, ◌+◌, ◌<◌, ◌≤◌, ◌==◌, Bool, true, false, cond, not, List, [], ◌∷◌, length, map, Option, None, Some, get_or, set as with_item, refl, ap, sym, ◌∙◌, subst, inl, inr, arith, get_or-set_same, get_or-set_other}
 use Rattle.std.proofs.lemmas.List.{length-set, length-map}
 use Rattle.std.proofs.lemmas.Bool.{cases_eq, cases_order, eqb-true, eq-eqb, eqb-false, not-true}

@@ -1,4 +1,6 @@
--- No two jobs hold locks on one item of which one is a write lock.
+-- No two jobs hold locks on one item of which one is a write lock: the item's ceiling is at least the priority of
+-- each transaction that declares the access, and the invariant keeps the higher holder above the ceilings of the
+-- lower one.
 use Rattle.std.proofs.Common.{◌≡◌, ◌≢◌, ◌⊎◌, ℕ, zero, suc, ◌+◌, ◌<◌, ◌≤◌, ◌==◌, Bool, true, false, cond, ◌||◌, ℤ, List, [], ◌∷◌, length, Option, get_or, refl, ap, sym, ◌∙◌, inl, inr, arith}
 use Rattle.std.proofs.lemmas.Bool.{cases_order, or_cases, or_left, or_right, and_parts, eqb-true}
 use Rattle.std.specs.Prelude.{is_some}

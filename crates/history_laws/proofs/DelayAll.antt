@@ -1,4 +1,6 @@
--- In every legal history at most one lower job delays a job, for at most its blocking.
+-- In every legal history the steps of one lower job at most delay a job, no more than its blocking. By induction on
+-- the entries: a lower job that steps while a job is pending already held a lock with a ceiling at least that
+-- priority.
 use Rattle.std.proofs.Common.{◌≡◌, ◌≢◌, ◌⊎◌, ℕ, ◌+◌, ◌<◌, ◌≤◌, ◌==◌, Bool, true, false, cond, ◌&&◌, List, [], ◌∷◌, ◌++◌, map, length, Option, None, Some, get_or, set as with_item, refl, ap, sym, ◌∙◌, subst, inl, inr, arith, get_or-set_same, append_assoc}
 use Rattle.std.proofs.lemmas.List.{append-nil}
 use Rattle.std.proofs.lemmas.List.Elements.{filter_map-append}

@@ -1,4 +1,5 @@
--- The end of a job, and a release, keep the protocol's invariant.
+-- The end of a job, and a release, keep the protocol's invariant: rows and waits are only taken away, and a new row
+-- holds nothing and waits on nobody.
 use Rattle.std.proofs.Common.{◌≡◌, ◌≢◌, ◌⊎◌, ℕ, zero, suc, ◌<◌, Bool, true, false, cond, List, [], ◌∷◌, length, map, Option, None, Some, get_or, set as with_item, refl, ap, sym, ◌∙◌, subst, inl, inr, arith, get_or-set_other}
 use Rattle.std.proofs.Math.ListN.{get_or-map}
 use Rattle.std.proofs.lemmas.Bool.{cases_eq, cases_Bool, and_from, eq-eqb}

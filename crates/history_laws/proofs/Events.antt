@@ -1,4 +1,5 @@
--- The events keep the protocol's invariant.
+-- A granted and a refused step keep the protocol's invariant: the grant tests the new lock against every other
+-- holder, and the running job has no holder above it.
 use Rattle.std.proofs.Common.{◌≡◌, ◌≢◌, ◌⊎◌, ◌<◌, ◌≤◌, Bool, true, false, ◌||◌, List, [], ◌∷◌, length, map, Option, None, Some, set as with_item, refl, ap, sym, ◌∙◌, inl, inr, arith}
 use Rattle.std.proofs.lemmas.Bool.{cases_lt, cases_order, cases_eq, or_cases, or_left, or_right, and_from, eq-eqb}
 use Rattle.rt_base.specs.declared.ids.JobId.{JobId}

@@ -1,4 +1,7 @@
--- The invariant of the protocol, and that the events keep it.
+-- The protocol's invariant, and what it says of the running job. Of two holders of locks the higher one's priority
+-- exceeds every ceiling of the lower one's locks; a waiting job holds nothing, and waits on a lower holder that waits
+-- on nobody. So the running job is the highest pending job, or the job on which that one waits, and no holder is
+-- higher.
 use Rattle.std.proofs.Common.{◌≡◌, ◌≢◌, ◌⊎◌, ℕ, zero, suc, ◌<◌, ◌≤◌, ◌==◌, Bool, true, false, cond, not, List, [], ◌∷◌, map, length, Option, None, Some, get_or, set, refl, ap, sym, ◌∙◌, subst, inl, inr, arith, get_or-set_same, get_or-set_other}
 use Rattle.std.proofs.lemmas.List.{get_or_past}
 use Rattle.std.proofs.lemmas.Bool.{cases_lt, cases_eq, eqb-true, eq-eqb, ne_eqb, ltb-false, and_parts, not_from_false}
@@ -43,8 +46,10 @@ pub record Blocks (set : Set) (rows : List (Option Row)) (x : Row) (j : JobId) :
 
 -- one: of two holders the higher one's priority exceeds every ceiling of the lower one's locks
 -- two: a waiting job holds no lock, and was refused
--- three: a waiting job waits on a pending, lower job that holds a lock with a ceiling at least the waiter's priority and does not wait
--- four: where a pending job was refused, each lower job has only ceilings below its priority, except for the one on which it waits
+-- three: a waiting job waits on a pending, lower job that holds a lock with a ceiling at least the waiter's priority
+-- and does not wait
+-- four: where a pending job was refused, each lower job has only ceilings below its priority, except for the one on
+-- which it waits
 pub record Protocol (set : Set) (rows : List (Option Row)) (refused : JobId → Bool) : Type 0 where
   pub one : (x y : Row) → IsPending rows x → IsPending rows y → IsHolder x → prio set y < prio set x → ceiling_of set y < prio set x
   pub two : (x : Row) (j : JobId) → IsPending rows x → x.waits_on ≡ Some j → (is_any (locks x.work) ≡ false) × (refused x.job ≡ true)
@@ -158,7 +163,8 @@ refusal_is set rows x above ok h =
 
 -- the running job
 
--- what holds of the running job x: it waits on nobody, and a higher pending job holds no lock, and if it was refused it waits on x
+-- what holds of the running job x: it waits on nobody, and a higher pending job holds no lock, and if it was refused
+-- it waits on x
 pub record Runs (set : Set) (rows : List (Option Row)) (refused : JobId → Bool) (x : Row) : Type 0 where
   pub here : IsPending rows x
   pub runs : x.waits_on ≡ None

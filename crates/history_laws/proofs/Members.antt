@@ -1,4 +1,5 @@
--- What is in a list, and the rows that are pending.
+-- What is in a list: filtered lists, the greatest member, the highest row of a list in falling priority, and the rows
+-- that are pending.
 use Rattle.std.proofs.Common.{◌≡◌, ◌⊎◌, ℕ, zero, suc, ◌<◌, ◌≤◌, Bool, true, false, cond, List, [], ◌∷◌, map, Option, None, Some, slice_get, set, refl, ap, sym, ◌∙◌, subst, inl, inr, arith}
 use Rattle.std.proofs.Math.Nat.{le-max_left, le-max_right}
 use Rattle.std.proofs.lemmas.Bool.{cases_lt, ltb-true, ltb-false}

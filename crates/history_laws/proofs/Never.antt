@@ -1,4 +1,6 @@
--- No legal history is stuck, and a job is refused once.
+-- After every legal history no jobs wait in a cycle, and where something is pending there is a running job; a job is
+-- refused once. By induction on the entries: the invariant holds in the opening state and each event keeps it; a
+-- blocker never waits.
 use Rattle.std.proofs.Common.{◌≡◌, ◌≢◌, ℕ, zero, suc, ◌+◌, ◌<◌, Bool, true, false, cond, ◌||◌, List, [], ◌∷◌, ◌++◌, length, map, Option, None, Some, get_or, refl, ap, sym, ◌∙◌, subst, arith}
 use Rattle.std.proofs.lemmas.List.{length-map}
 use Rattle.std.proofs.lemmas.Bool.{and_from, eq-eqb}
@@ -15,7 +17,7 @@ use Rattle.step_journal.specs.Instant.{arrived}
 use Rattle.step_journal.specs.Step.{Event, plan, ask, idle, given, may_plan, with_plan, may_ask, lock_refusal, with_wait, answered, asked, next_tick, idled, step}
 use Rattle.step_journal.specs.History.{event_of, state_given, entry_given, state_after, states_after, IsLegalEntry, IsLegalFrom, IsLegal, state_of}
 use Rattle.step_journal.specs.Timing.{WaitsOn, WaitAlong, IsWaitCycle}
-use Rattle.history_laws.specs.Protocol.{is_refusal_of, was_refused, NeverStuck}
+use Rattle.history_laws.specs.Protocol.{IsFirstRefusal, is_refusal_of, was_refused, NeverStuck}
 use Rattle.history_laws.proofs.Members.{pending_in, highest_is, highest_none}
 use Rattle.history_laws.proofs.Invariant.{IsPending, is_any, AreNamed, Protocol, Runs, running_is, refusal_is, in_range, same_row, job_row_is}
 use Rattle.history_laws.proofs.Events.{refused_facts, refused_too}
@@ -241,10 +243,10 @@ all_is refused [] j = or_none (refused j) where
 all_is refused (e ∷ es) j = all_is (refused_after refused e) es j ∙ (ap (λ (b : Bool). b || was_refused es j) (after_is refused e j) ∙ or_assoc (refused j) (is_refusal_of j e) (was_refused es j))
 
 pub refused_once : (set : Set) (entries : List Entry) (job on : JobId) (op : Op) (ceiling tick : ℕ) → IsCompiled set → IsLegal set (entries ++ Blocked job op on ceiling tick ∷ [])
-    → (was_refused entries job ≡ false) × ((row : Row) → job_row (state_of set entries).rows job ≡ Some row → locks row.work ≡ [])
+    → IsFirstRefusal set entries job
 refused_once set entries job on op ceiling tick ok legal =
     let parts = legal_parts set (opening set) entries (Blocked job op on ceiling tick) legal in
     let sound = legal_sound set entries ok parts.0 in
     let refused : JobId → Bool = refused_all (λ _. false) entries in
     let g = entry_goes set refused (state_of set entries) (Blocked job op on ceiling tick) (step set (state_of set entries) (ask job op)) (step_goes set ok refused (state_of set entries) sound (ask job op)) parts.1 in
-    (sym (all_is (λ _. false) entries job) ∙ g.1.0, g.1.1)
+    record { first = sym (all_is (λ _. false) entries job) ∙ g.1.0; no_lock = g.1.1 }

@@ -1,4 +1,5 @@
--- Every legal history is serial.
+-- Every legal history is serial, its pending jobs have been told what they would alone, no two of them conflict, and
+-- an ended job has no row: by induction on the entries, with the invariant of serial replies.
 use Rattle.std.proofs.Common.{◌≡◌, ◌≢◌, ◌⊎◌, ℕ, ◌+◌, ◌<◌, ◌≤◌, ◌==◌, Bool, true, false, cond, ◌||◌, List, [], ◌∷◌, ◌++◌, length, Option, None, Some, set as with_item, refl, ap, sym, ◌∙◌, subst, inl, inr, arith, get_or-set_same, get_or-set_other, append_assoc}
 use Rattle.std.proofs.lemmas.List.{append-nil}
 use Rattle.std.proofs.lemmas.Bool.{cases_eq, false_from_ne_true}

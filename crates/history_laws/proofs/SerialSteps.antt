@@ -1,4 +1,5 @@
--- The events keep a history serial.
+-- Steps, ends and arrivals keep the invariant of serial replies: a commit changes only items on which its job holds
+-- write locks, and by the conflict law no other pending job has read these.
 use Rattle.std.proofs.Common.{◌≡◌, ◌≢◌, ◌⊎◌, ℕ, zero, suc, ◌+◌, ◌≤◌, ◌==◌, Bool, true, false, cond, not, List, [], ◌∷◌, ◌++◌, map, Option, None, Some, get_or, set as with_item, refl, ap, sym, ◌∙◌, subst, inl, inr, arith, get_or-set_same}
 use Rattle.std.proofs.lemmas.List.{append-nil, set-set}
 use Rattle.std.proofs.lemmas.Bool.{and_from, eq-eqb, or_left, false_from_ne_true}
