@@ -111,8 +111,8 @@ module _ (set : Set) (tx r t : ℕ) (rows rows' : List (Option Row)) (coming : L
       elim (cases_order (prio set z) (prio set x)) [
         | inl e ↦ ne (named.apart z x hz run.here e)
         | inr o ↦ elim o [
-          | inl below ↦ omega (arith, inv.one x z run.here hz (holder_from_ceiling set x (omega arith)) below)
-          | inr above ↦ omega (arith, inv.one z x hz run.here (holder_from_ceiling set z (omega arith)) above)
+          | inl below ↦ omega (arith, inv.ordered x z run.here hz (holder_from_ceiling set x (omega arith)) below)
+          | inr above ↦ omega (arith, inv.ordered z x hz run.here (holder_from_ceiling set z (omega arith)) above)
         ]
       ]
 

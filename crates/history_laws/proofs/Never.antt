@@ -125,10 +125,10 @@ unfolding opening
 opening_sound set = record {
   frame = record { count = length-map set.txns (λ t. None); named = λ n x h. absurd (nothing_at set.txns n x h) };
   protocol = record {
-    one = λ x y hx hy h lt. absurd (nothing_at set.txns x.job.tx.0 x hx);
-    two = λ x j hx h. absurd (nothing_at set.txns x.job.tx.0 x hx);
-    three = λ x j hx h. absurd (nothing_at set.txns x.job.tx.0 x hx);
-    four = λ x z hx hz h lt ne. absurd (nothing_at set.txns x.job.tx.0 x hx);
+    ordered = λ x y hx hy h lt. absurd (nothing_at set.txns x.job.tx.0 x hx);
+    waiter_holds_nothing = λ x j hx h. absurd (nothing_at set.txns x.job.tx.0 x hx);
+    wait_has_ceiling = λ x j hx h. absurd (nothing_at set.txns x.job.tx.0 x hx);
+    others_below = λ x z hx hz h lt ne. absurd (nothing_at set.txns x.job.tx.0 x hx);
   };
   calendar = record {
     alive = λ x h. absurd (nothing_at set.txns x.job.tx.0 x h);
@@ -157,7 +157,7 @@ no_chain : (set : Set) (refused : JobId → Bool) (s : State) (a b c : JobId) �
 no_chain set refused s a b c inv ab bc =
     let x = waiter s.rows a b (job_row s.rows a) refl ab in
     let y = waiter s.rows b c (job_row s.rows b) refl bc in
-    let bl = inv.three x.0 b x.1 x.3 in
+    let bl = inv.wait_has_ceiling x.0 b x.1 x.3 in
     let same : y.0 ≡ bl.blocker = same_row s.rows y.0 bl.blocker y.1 bl.here (ap (λ (k : JobId). k.tx.0) (y.2 ∙ sym bl.is)) in
     let n : Some c ≡ None = sym y.3 ∙ (ap (λ (r : Row). r.waits_on) same ∙ bl.runs) in
     cc (n)
@@ -184,7 +184,7 @@ followed_some : (set : Set) (rows : List (Option Row)) (refused : JobId → Bool
 followed_some set rows refused n h None inv here e pos none = cc
 followed_some set rows refused zero h (Some j) inv here e pos none = omega arith
 followed_some set rows refused (suc n) h (Some j) inv here e pos none =
-    let bl = inv.three h j here e in
+    let bl = inv.wait_has_ceiling h j here e in
     let r : job_row rows j ≡ Some bl.blocker = job_row_here rows bl.blocker j bl.here bl.is in
     let at : option_and_then (λ (r : Row). followed rows n r r.waits_on) (Some bl.blocker) ≡ None = subst (λ (o : Option Row). option_and_then (λ (r : Row). followed rows n r r.waits_on) o ≡ None) r none in
     let last : followed rows n bl.blocker None ≡ None = subst (λ (o : Option JobId). followed rows n bl.blocker o ≡ None) bl.runs at in

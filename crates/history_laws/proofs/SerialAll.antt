@@ -242,6 +242,6 @@ ended_hold_nothing set entries n ended ok legal at =
       waits = λ other h. let w = waiter rows ended.job other (job_row rows ended.job) refl h in over w.0 w.1 w.2;
       waited_on = λ other h.
           let w = waiter rows other ended.job (job_row rows other) refl h in
-          let b = (legal_sound set entries ok legal).protocol.three w.0 ended.job w.1 w.3 in
+          let b = (legal_sound set entries ok legal).protocol.wait_has_ceiling w.0 ended.job w.1 w.3 in
           over b.blocker b.here b.is;
     }
