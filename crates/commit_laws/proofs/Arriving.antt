@@ -1,4 +1,4 @@
--- To arrive at a tick keeps what is known.
+-- To arrive at a tick keeps what is known: a cancelled job installs nothing, and a new job has read nothing.
 use Rattle.std.proofs.Common.{◌≡◌, ◌≢◌, ℕ, ◌+◌, ◌<◌, ◌≤◌, ◌==◌, Bool, true, false, not, List, [], ◌∷◌, length, map, Option, None, Some, get_or, refl, ap, sym, ◌∙◌, subst, inl, inr, arith}
 use Rattle.std.proofs.lemmas.Bool.{eqb-true, not_from_false}
 use Rattle.std.proofs.lemmas.List.{length-set}
@@ -15,7 +15,7 @@ use Rattle.step_journal.specs.Instant.{freed, with_row, with_end, with_late, is_
 use Rattle.history_laws.proofs.Members.{In, in_filter, filter_in, pending_in}
 use Rattle.history_laws.proofs.Invariant.{IsPending, written_here, written_other}
 use Rattle.history_laws.proofs.Ends.{stays}
-use Rattle.history_laws.proofs.Calendar.{period_of, deadline_of, AreApart, Sound, deadline_le, sorted_in, late_rows, s1, after_late, planned_before, due, after_due, apart_due, still_alive, period_pos, spaced_before}
+use Rattle.history_laws.proofs.Calendar.{period_of, deadline_of, AreApart, Sound, deadline_le, sorted_in, late_rows, after_cancelled, after_late, planned_before, due, after_due, apart_due, still_alive, period_pos, spaced_before}
 use Rattle.history_laws.proofs.SerialSteps.{AreDistinct, distinct_pending, distinct_filter, distinct_sorted}
 use Rattle.commit_laws.proofs.Known.{Known, Placed, WillEnd, ended_job, sourced_more, end_known}
 
@@ -51,10 +51,10 @@ came t (x ∷ rs) rows r apart lt (inl e) =
 came t (x ∷ rs) rows r apart lt (inr i) = came t rs (with_row t rows x.job) r apart.1 (λ q j. omega (arith, lt q (inr j), length-set rows x.job.tx.0 (Some (new_row x.job t)))) i
 
 module _ (set : Set) (refused : JobId → Bool) (t : ℕ) (s : State) (ok : IsCompiled set) (sound : Sound set refused t s) where
-  nobody_there : (y : Row) (r : Release) → IsPending (s1 set refused t s ok sound).rows y → In r (due set refused t s ok sound) → y.job.tx.0 ≢ r.job.tx.0
+  nobody_there : (y : Row) (r : Release) → IsPending (after_cancelled set refused t s ok sound).rows y → In r (due set refused t s ok sound) → y.job.tx.0 ≢ r.job.tx.0
   unfolding due
   nobody_there y r here i same =
-      let f = filter_in (λ (q : Release). q.tick == t) r (s1 set refused t s ok sound).planned i in
+      let f = filter_in (λ (q : Release). q.tick == t) r (after_cancelled set refused t s ok sound).planned i in
       let now : r.tick ≡ t = eqb-true _ _ f.1 in
       let from = (after_late set refused t s ok sound).rows y here in
       let j : y.job.tx.0 ≡ from.was.job.tx.0 = ap (λ (k : JobId). k.tx.0) from.job in
@@ -66,15 +66,15 @@ module _ (set : Set) (refused : JobId → Bool) (t : ℕ) (s : State) (ok : IsCo
 
   due_apart : AreApart (due set refused t s ok sound)
   unfolding due
-  due_apart = apart_due set t (s1 set refused t s ok sound).planned (period_pos set refused t s ok sound) (spaced_before set refused t s ok sound)
+  due_apart = apart_due set t (after_cancelled set refused t s ok sound).planned (period_pos set refused t s ok sound) (spaced_before set refused t s ok sound)
 
-  due_in_range : (r : Release) → In r (due set refused t s ok sound) → r.job.tx.0 < length (s1 set refused t s ok sound).rows
+  due_in_range : (r : Release) → In r (due set refused t s ok sound) → r.job.tx.0 < length (after_cancelled set refused t s ok sound).rows
   unfolding due
-  due_in_range r i = omega (arith, sound.calendar.in_set r (planned_before set refused t s ok sound r (filter_in (λ (q : Release). q.tick == t) r (s1 set refused t s ok sound).planned i).0), (after_late set refused t s ok sound).frame.count)
+  due_in_range r i = omega (arith, sound.calendar.in_set r (planned_before set refused t s ok sound r (filter_in (λ (q : Release). q.tick == t) r (after_cancelled set refused t s ok sound).planned i).0), (after_late set refused t s ok sound).frame.count)
 
   module _ (reads : JobId → List OutsideRead) (ticks : ℕ → List ℕ) (h : Known set reads ticks t s) where
-    after_late_known : Known set reads ticks t (s1 set refused t s ok sound)
-    unfolding s1 late_rows
+    after_late_known : Known set reads ticks t (after_cancelled set refused t s ok sound)
+    unfolding after_cancelled late_rows
     after_late_known =
         let start : Known set reads ticks t (record s { now = t }) = record { count = h.count; row_by = h.row_by; ended_by = h.ended_by; released_by = h.released_by; done_row = h.done_row; items = h.items; ends = h.ends; plan_row = h.plan_row; plan_end = h.plan_end; plan_next = h.plan_next; placed = h.placed } in
         late_known set reads ticks t (in_falling_priority set (filter (is_due set t) (pending s.rows))) (record s { now = t })
@@ -86,16 +86,16 @@ module _ (set : Set) (refused : JobId → Bool) (t : ℕ) (s : State) (ok : IsCo
         record { was = r; here = here; job = refl; release = refl })
         start
 
-    released_at : (r : Release) → In r (s1 set refused t s ok sound).planned → (b : Bool) → (r.tick == t) ≡ b → (tx k : ℕ) → r.job.tx.0 ≡ tx → r.tick ≡ k
-        → Placed (filter (λ q. not (q.tick == t)) (s1 set refused t s ok sound).planned) (fold (with_row t) (s1 set refused t s ok sound).rows (map (λ r. r.job) (due set refused t s ok sound))) (s1 set refused t s ok sound).ended tx k
+    released_at : (r : Release) → In r (after_cancelled set refused t s ok sound).planned → (b : Bool) → (r.tick == t) ≡ b → (tx k : ℕ) → r.job.tx.0 ≡ tx → r.tick ≡ k
+        → Placed (filter (λ q. not (q.tick == t)) (after_cancelled set refused t s ok sound).planned) (fold (with_row t) (after_cancelled set refused t s ok sound).rows (map (λ r. r.job) (due set refused t s ok sound))) (after_cancelled set refused t s ok sound).ended tx k
     unfolding due
     released_at r i true e tx k own at =
-        let j : In r (filter (λ q. q.tick == t) (s1 set refused t s ok sound).planned) = in_filter (λ (q : Release). q.tick == t) r (s1 set refused t s ok sound).planned i e in
-        inr (inl (new_row r.job t, came t (filter (λ q. q.tick == t) (s1 set refused t s ok sound).planned) (s1 set refused t s ok sound).rows r due_apart due_in_range j, own, sym (eqb-true _ _ e) ∙ at))
-    released_at r i false e tx k own at = inl (r, in_filter (λ (q : Release). not (q.tick == t)) r (s1 set refused t s ok sound).planned i (not_from_false _ e), own, at)
+        let j : In r (filter (λ q. q.tick == t) (after_cancelled set refused t s ok sound).planned) = in_filter (λ (q : Release). q.tick == t) r (after_cancelled set refused t s ok sound).planned i e in
+        inr (inl (new_row r.job t, came t (filter (λ q. q.tick == t) (after_cancelled set refused t s ok sound).planned) (after_cancelled set refused t s ok sound).rows r due_apart due_in_range j, own, sym (eqb-true _ _ e) ∙ at))
+    released_at r i false e tx k own at = inl (r, in_filter (λ (q : Release). not (q.tick == t)) r (after_cancelled set refused t s ok sound).planned i (not_from_false _ e), own, at)
 
     pub arrived_known : Known set reads ticks t (arrived set t s)
-    unfolding arrived with_releases with_cancellations s1 due late_rows
+    unfolding arrived with_releases with_cancellations after_cancelled due late_rows
     arrived_known =
         let k = after_late_known in
         let each = (after_due set refused t s ok sound).each in
@@ -109,15 +109,15 @@ module _ (set : Set) (refused : JobId → Bool) (t : ℕ) (s : State) (ok : IsCo
           ends = k.ends;
           plan_row = λ x i. elim (each x i) [
             | inl old ↦ k.plan_row x old
-            | inr c ↦ (let f = filter_in (λ (q : Release). q.tick == t) c.release (s1 set refused t s ok sound).planned c.is_due in
+            | inr c ↦ (let f = filter_in (λ (q : Release). q.tick == t) c.release (after_cancelled set refused t s ok sound).planned c.is_due in
                 subst (λ (q : Row). In q.release (ticks q.job.tx.0)) (sym c.is) (subst (λ (n : ℕ). In n (ticks c.release.job.tx.0)) (eqb-true _ _ f.1) (k.plan_next c.release f.0)))
           ];
           plan_end = k.plan_end;
-          plan_next = λ r i. k.plan_next r (filter_in (λ (q : Release). not (q.tick == t)) r (s1 set refused t s ok sound).planned i).0;
+          plan_next = λ r i. k.plan_next r (filter_in (λ (q : Release). not (q.tick == t)) r (after_cancelled set refused t s ok sound).planned i).0;
           placed = λ tx n i. elim (k.placed tx n i) [
             | inl a ↦ released_at a.0 a.1 (a.0.tick == t) refl tx n a.2 a.3
             | inr o ↦ elim o [
-              | inl b ↦ inr (inl (b.0, kept t (due set refused t s ok sound) (s1 set refused t s ok sound).rows b.0 b.1 (λ r j. nobody_there b.0 r b.1 j), b.2, b.3))
+              | inl b ↦ inr (inl (b.0, kept t (due set refused t s ok sound) (after_cancelled set refused t s ok sound).rows b.0 b.1 (λ r j. nobody_there b.0 r b.1 j), b.2, b.3))
               | inr c ↦ inr (inr c)
             ]
           ];

@@ -1,4 +1,5 @@
--- What is known along a history of the ended jobs: what each had read at its commit, and where the stamps of the items come from.
+-- What is known along a history of its ended jobs: what each had read at its commit, how that was judged, and from
+-- which job the stamp of each item comes. A further end keeps it.
 use Rattle.std.proofs.Common.{◌≡◌, ◌≢◌, ◌⊎◌, ℕ, ◌<◌, ◌≤◌, true, List, [], ◌∷◌, ◌++◌, length, Option, Some, set as with_item, refl, ap, sym, ◌∙◌, subst, inl, inr, arith, append_assoc}
 use Rattle.std.proofs.lemmas.List.{append-nil}
 use Rattle.std.proofs.lemmas.Bool.{cases_eq}
@@ -70,7 +71,8 @@ abbrev pub AreEnds : Set → (JobId → List OutsideRead) → List EndedJob → 
 AreEnds set reads before [] = Unit {0}
 AreEnds set reads before (e ∷ es) = IsEnd set reads before e × AreEnds set reads (before ++ e ∷ []) es
 
--- a tick for which a job of the transaction was planned: it is still planned, or a job with this release is pending or has ended
+-- a tick for which a job of the transaction was planned: it is still planned, or a job with this release is pending
+-- or has ended
 abbrev pub Placed : List Release → List (Option Row) → List EndedJob → ℕ → ℕ → Type 0
 Placed planned rows ended tx k =
     ((r : Release) × In r planned × (r.job.tx.0 ≡ tx) × (r.tick ≡ k))

@@ -1,4 +1,5 @@
--- The outside reads of a job by its entries are those that its row notes, and their stamps are those of the present items.
+-- The outside reads of a job by its entries are those that its row notes, and their stamps are those of the present
+-- items.
 use Rattle.std.proofs.Common.{◌≡◌, ◌⊎◌, ℕ, ◌==◌, Bool, true, false, cond, List, [], ◌∷◌, Option, None, Some, refl, ap, sym, ◌∙◌, subst, inl, inr}
 use Rattle.std.proofs.lemmas.Bool.{eqb-true}
 use Rattle.std.specs.Prelude.{is_some}

@@ -1,4 +1,5 @@
--- The effect of a granted step keeps what is known.
+-- The effect of a granted step keeps what is known: a commit that is judged good is fresh and together by the verdict
+-- itself.
 use Rattle.std.proofs.Common.{◌≡◌, ◌≢◌, ℕ, ◌+◌, ◌==◌, Bool, true, false, cond, List, [], ◌∷◌, ◌++◌, Option, None, Some, set as with_item, refl, ap, sym, ◌∙◌, subst, arith}
 use Rattle.std.proofs.lemmas.List.{append-nil}
 use Rattle.std.proofs.lemmas.List.Elements.{filter_map-append}

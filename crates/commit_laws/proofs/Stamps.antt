@@ -1,4 +1,5 @@
--- The least stamp of some reads is that of any list with the same reads.
+-- The least and the greatest stamp of some reads are those of any list with the same reads, so the stamp that a
+-- commit gives follows from the entries.
 use Rattle.std.proofs.Common.{◌≡◌, ◌⊎◌, ℕ, ◌<◌, ◌≤◌, Bool, true, false, cond, List, [], ◌∷◌, Option, None, Some, refl, ap, sym, ◌∙◌, subst, inl, inr, arith, le_antisymm}
 use Rattle.std.proofs.lemmas.Bool.{ltb-true, ltb-false}
 use Rattle.std.specs.Prelude.{nat_lt}
@@ -82,7 +83,8 @@ same_least rs qs d (Some o) (Some p) e f to from =
     let b = oldest_is qs p f in
     le_antisymm (a.least p (from p b.here)) (b.least o (to o a.here))
 
--- the stamp of a derived item is the least of the dated stamps that were read, whatever the order in which they are listed
+-- the stamp of a derived item is the least of the dated stamps that were read, whatever the order in which they are
+-- listed
 pub same_stamp : (set : Set) (w v : Work) (release item : ℕ) → ((r : OutsideRead) → In r w.reads → In r v.reads) → ((r : OutsideRead) → In r v.reads → In r w.reads) → stamp_for set.items w release item ≡ stamp_for set.items v release item
 unfolding stamp_for
 same_stamp set w v release item to from =

@@ -1,4 +1,5 @@
--- No job of an item's writer commits between a read of the item and the end of the reader.
+-- No job of an item's writer commits between a read of the item and the end of the reader: the invariant, and how
+-- ends keep it. The reader holds its lock until it ends, and the writer would need one too.
 use Rattle.std.proofs.Common.{◌≡◌, ◌≢◌, ℕ, ◌≤◌, ◌==◌, Bool, true, false, cond, List, [], ◌∷◌, ◌++◌, map, Option, None, Some, get_or, refl, ap, sym, ◌∙◌, subst, inl, inr, arith, append_assoc}
 use Rattle.std.proofs.lemmas.List.{append-nil}
 use Rattle.std.proofs.lemmas.List.Elements.{filter_map-append}
@@ -26,7 +27,7 @@ use Rattle.history_laws.proofs.Members.{In, filter_in, pending_in}
 use Rattle.history_laws.proofs.Invariant.{IsPending}
 use Rattle.history_laws.proofs.Holding.{append_in, in_map}
 use Rattle.history_laws.proofs.Ends.{left}
-use Rattle.history_laws.proofs.Calendar.{Sound, sorted_in, late_rows, s1, planned_before, due, after_due}
+use Rattle.history_laws.proofs.Calendar.{Sound, sorted_in, late_rows, after_cancelled, planned_before, due, after_due}
 use Rattle.history_laws.proofs.SerialSteps.{AreDistinct, distinct_pending, distinct_filter, distinct_sorted}
 use Rattle.history_laws.proofs.Serials.{IsUntouched}
 use Rattle.commit_laws.specs.Commits.{TimedRead, timed_in, timed_reads_of}
@@ -117,8 +118,8 @@ rows_timed set times s rows from h = record {
 -- to arrive at a tick
 module _ (set : Set) (refused : JobId → Bool) (t : ℕ) (s : State) (ok : IsCompiled set) (sound : Sound set refused t s) (times : JobId → List TimedRead)
     (fresh : (r : Release) → In r s.planned → (q : TimedRead) → In q (times r.job) → ⊥) (h : Timed set times s) where
-  after_late_timed : Timed set times (s1 set refused t s ok sound)
-  unfolding s1 late_rows
+  after_late_timed : Timed set times (after_cancelled set refused t s ok sound)
+  unfolding after_cancelled late_rows
   after_late_timed =
       let start : Timed set times (record s { now = t }) = record { row_last = h.row_last; ends = h.ends } in
       late_timed set times t (in_falling_priority set (filter (is_due set t) (pending s.rows))) (record s { now = t })
@@ -131,7 +132,7 @@ module _ (set : Set) (refused : JobId → Bool) (t : ℕ) (s : State) (ok : IsCo
       start
 
   pub arrived_timed : Timed set times (arrived set t s)
-  unfolding arrived with_releases with_cancellations s1 due late_rows
+  unfolding arrived with_releases with_cancellations after_cancelled due late_rows
   arrived_timed =
       let k = after_late_timed in
       let each = (after_due set refused t s ok sound).each in
@@ -139,7 +140,7 @@ module _ (set : Set) (refused : JobId → Bool) (t : ℕ) (s : State) (ok : IsCo
         row_last = λ x i. elim (each x i) [
           | inl old ↦ k.row_last x old
           | inr c ↦ (λ q w tx j. absurd (
-              let r = filter_in (λ (q : Release). q.tick == t) c.release (s1 set refused t s ok sound).planned c.is_due in
+              let r = filter_in (λ (q : Release). q.tick == t) c.release (after_cancelled set refused t s ok sound).planned c.is_due in
               fresh c.release (planned_before set refused t s ok sound c.release r.0) q (subst (λ (n : Row). In q (times n.job)) c.is j)))
         ];
         ends = k.ends;

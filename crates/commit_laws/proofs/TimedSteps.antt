@@ -1,4 +1,4 @@
--- The events keep that no job of an item's writer commits between a read of the item and the end of the reader.
+-- Steps and plans keep that no job of an item's writer commits between a read of the item and the end of the reader.
 use Rattle.std.proofs.Common.{◌≡◌, ◌≢◌, ◌⊎◌, ℕ, ◌+◌, ◌<◌, ◌==◌, Bool, true, false, cond, List, [], ◌∷◌, ◌++◌, length, Option, None, Some, set as with_item, refl, ap, sym, ◌∙◌, subst, inl, inr, arith}
 use Rattle.std.proofs.lemmas.List.{append-nil}
 use Rattle.std.proofs.lemmas.Bool.{cases_eq, eq-eqb, or_left}

@@ -1,4 +1,5 @@
--- The entries of a legal history are few, and its time is bounded.
+-- The law of counting from the invariants: the entries, the plans and the ended jobs, whose serials rise, and the
+-- time.
 use Rattle.std.proofs.Common.{◌≡◌, ℕ, ◌+◌, ◌-◌, ◌<◌, ◌≤◌, ◌==◌, Bool, true, false, cond, List, [], ◌∷◌, length, refl, ap, sym, ◌∙◌, inl, inr, arith}
 use Rattle.std.proofs.lemmas.Bool.{eqb-true}
 use Rattle.std.specs.List.{filter}

@@ -1,4 +1,5 @@
--- Every legal history is counted.
+-- Every legal history keeps the two sums, and its time goes at most a period beyond the last planned tick: by
+-- induction on the entries. From these follow the bounds by the room and by 2^42.
 use Rattle.std.proofs.Common.{◌≡◌, ◌⊎◌, ℕ, zero, suc, ◌+◌, ◌-◌, ◌*◌, ◌^◌, ◌<◌, ◌≤◌, Bool, true, false, cond, List, [], ◌∷◌, ◌++◌, length, map, Option, None, Some, get_or, refl, ap, sym, ◌∙◌, subst, inl, inr, arith, append_assoc, mul-le-mul_right, zero-mul, suc-mul}
 use Rattle.std.proofs.lemmas.List.{append-nil}
 use Rattle.std.proofs.lemmas.Bool.{cases_lt}

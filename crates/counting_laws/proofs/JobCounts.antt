@@ -1,4 +1,5 @@
--- In every legal history a job takes at most its steps, and is refused at most once.
+-- In every legal history a job takes at most its steps and is refused at most once: a pending row counts its steps,
+-- and a job with no row, planned or over, takes none.
 use Rattle.std.proofs.Common.{◌≡◌, ◌≢◌, ℕ, ◌+◌, ◌<◌, ◌≤◌, ◌==◌, Bool, true, false, cond, ◌||◌, List, [], ◌∷◌, ◌++◌, length, Option, None, Some, refl, ap, sym, ◌∙◌, subst, inl, inr, arith, append_assoc, length-append}
 use Rattle.std.proofs.lemmas.List.{append-nil}
 use Rattle.std.proofs.lemmas.Bool.{cases_Bool, eq-eqb, and_from}
@@ -23,7 +24,7 @@ use Rattle.history_laws.proofs.Members.{In}
 use Rattle.history_laws.proofs.Invariant.{IsPending, Runs, running_is, refusal_is, in_range, written, same_job_is}
 use Rattle.history_laws.proofs.Events.{refused_facts, refused_too}
 use Rattle.history_laws.proofs.Ends.{left}
-use Rattle.history_laws.proofs.Calendar.{Sound, named_from, late_rows, s1, due, after_due, came_at}
+use Rattle.history_laws.proofs.Calendar.{Sound, named_from, late_rows, after_cancelled, due, after_due, came_at}
 use Rattle.history_laws.proofs.Histories.{settled_sound, idle_early, may_plan_is}
 use Rattle.history_laws.proofs.Never.{refused_after, refused_all, step_goes, entry_goes, opening_sound, nothing_at, refusal_at}
 use Rattle.history_laws.proofs.Alone.{ops_more}
@@ -76,7 +77,7 @@ late_like t (g ∷ gone) s y h =
     record { was = m.was; here = m.here; job = l.job ∙ m.job; release = l.release ∙ m.release; used = l.used ∙ m.used; work = l.work ∙ m.work }
 
 arrived_used : (set : Set) (refused : JobId → Bool) (t : ℕ) (s : State) (ok : IsCompiled set) (sound : Sound set refused t s) (es : List Entry) → AreNew es s.planned → AreUsed es s.rows → AreUsed es (arrived set t s).rows
-unfolding arrived with_releases with_cancellations s1 due late_rows
+unfolding arrived with_releases with_cancellations after_cancelled due late_rows
 arrived_used set refused t s ok sound es new used y h = elim ((after_due set refused t s ok sound).each y h) [
   | inl b ↦ (let l = late_like t (in_falling_priority set (filter (is_due set t) (pending s.rows))) (record s { now = t }) y b in
       ap (λ (j : JobId). length (ops_of es j)) l.job ∙ (used l.was l.here ∙ sym l.used))

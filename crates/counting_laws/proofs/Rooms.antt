@@ -1,4 +1,6 @@
--- Every legal history has room for its entries, and time at the pace of its entries.
+-- Two sums that no event lets grow past their bound: the entries so far with what the pending and the planned jobs
+-- may still add, at most the room of the planned jobs; and the entries with the refusals left, at most the time and
+-- two for each plan.
 use Rattle.std.proofs.Common.{◌≡◌, ◌≢◌, ℕ, zero, suc, ◌+◌, ◌-◌, ◌*◌, ◌^◌, ◌<◌, ◌≤◌, ◌==◌, Bool, true, false, cond, ◌&&◌, max, List, [], ◌∷◌, ◌++◌, length, Option, None, Some, get_or, set as with_item, refl, ap, sym, ◌∙◌, subst, inl, inr, arith, get_or-set_same, get_or-set_other, length-append, add-mul, one-mul}
 use Rattle.std.proofs.lemmas.Bool.{cases_eq, eq-eqb, ne_eqb, leb-true, and_from, and_parts, or_left, or_right}
 use Rattle.std.specs.Prelude.{nat_lt, nat_le}

@@ -1,4 +1,4 @@
--- Totals of a weight over the rows and over the planned releases, through the events.
+-- Totals of a weight over the rows and over the planned releases, and how the events change them.
 use Rattle.std.proofs.Common.{◌≡◌, ◌≢◌, ℕ, zero, suc, ◌+◌, ◌<◌, ◌≤◌, ◌==◌, Bool, true, false, cond, not, List, [], ◌∷◌, ◌++◌, length, map, Option, None, Some, get_or, set as with_item, refl, ap, sym, ◌∙◌, subst, inl, inr, arith, get_or-set_same, get_or-set_other}
 use Rattle.std.proofs.Math.ListN.{get_or-map}
 use Rattle.std.proofs.lemmas.List.{length-set}
@@ -13,7 +13,7 @@ use Rattle.step_journal.specs.LockRule.{in_falling_priority}
 use Rattle.step_journal.specs.Instant.{freed, with_row, with_end, with_late, is_due, with_cancellations, with_releases, arrived}
 use Rattle.history_laws.proofs.Members.{In, filter_in}
 use Rattle.history_laws.proofs.Ends.{rows_without}
-use Rattle.history_laws.proofs.Calendar.{Sound, late_rows, s1, due, after_late}
+use Rattle.history_laws.proofs.Calendar.{Sound, late_rows, after_cancelled, due, after_late}
 use Rattle.counting_laws.proofs.Sums.{sum_below, sum_le, sum_moved, sum_member, sum_zero, sum_some, sum_of}
 
 -- sums over lists
@@ -125,16 +125,16 @@ released_total set f t h (d ∷ ds) rows size all =
 -- to arrive at a tick: what was planned for it becomes rows
 pub arrived_total : (set : Set) (refused : JobId → Bool) (t : ℕ) (s : State) (ok : IsCompiled set) (sound : Sound set refused t s) (f : Option Row → ℕ) (h g : Release → ℕ) → IsWeight f → ((d : Release) → In d s.planned → f (Some (new_row d.job t)) ≤ h d)
     → total set f (arrived set t s).rows + sum_of g (arrived set t s).planned + sum_of g (filter (λ q. q.tick == t) s.planned) ≤ total set f s.rows + sum_of g s.planned + sum_of h (filter (λ q. q.tick == t) s.planned)
-unfolding arrived with_releases with_cancellations s1 due late_rows
+unfolding arrived with_releases with_cancellations after_cancelled due late_rows
 arrived_total set refused t s ok sound f h g w all =
     let a = after_late set refused t s ok sound in
-    let l : total set f (s1 set refused t s ok sound).rows ≤ total set f s.rows = late_total set f t (in_falling_priority set (filter (is_due set t) (pending s.rows))) (record s { now = t }) w in
-    let r = released_total set f t h (filter (λ q. q.tick == t) s.planned) (s1 set refused t s ok sound).rows a.frame.count (λ d i. let m = (filter_in (λ (q : Release). q.tick == t) d s.planned i).0 in (sound.calendar.in_set d m, all d m)) in
-    let r' : total set f (fold (with_row t) (s1 set refused t s ok sound).rows (map (λ d. d.job) (filter (λ q. q.tick == t) (s1 set refused t s ok sound).planned))) ≤ total set f (s1 set refused t s ok sound).rows + sum_of h (filter (λ q. q.tick == t) s.planned) =
-    subst (λ (l : List Release). total set f (fold (with_row t) (s1 set refused t s ok sound).rows (map (λ d. d.job) (filter (λ q. q.tick == t) l))) ≤ total set f (s1 set refused t s ok sound).rows + sum_of h (filter (λ q. q.tick == t) s.planned)) (sym a.planned) r in
+    let l : total set f (after_cancelled set refused t s ok sound).rows ≤ total set f s.rows = late_total set f t (in_falling_priority set (filter (is_due set t) (pending s.rows))) (record s { now = t }) w in
+    let r = released_total set f t h (filter (λ q. q.tick == t) s.planned) (after_cancelled set refused t s ok sound).rows a.frame.count (λ d i. let m = (filter_in (λ (q : Release). q.tick == t) d s.planned i).0 in (sound.calendar.in_set d m, all d m)) in
+    let r' : total set f (fold (with_row t) (after_cancelled set refused t s ok sound).rows (map (λ d. d.job) (filter (λ q. q.tick == t) (after_cancelled set refused t s ok sound).planned))) ≤ total set f (after_cancelled set refused t s ok sound).rows + sum_of h (filter (λ q. q.tick == t) s.planned) =
+    subst (λ (l : List Release). total set f (fold (with_row t) (after_cancelled set refused t s ok sound).rows (map (λ d. d.job) (filter (λ q. q.tick == t) l))) ≤ total set f (after_cancelled set refused t s ok sound).rows + sum_of h (filter (λ q. q.tick == t) s.planned)) (sym a.planned) r in
     let p = ap (λ (l : List Release). sum_of g (filter (λ q. not (q.tick == t)) l)) a.planned in
     omega (arith, l, r', p, sum_split g (λ q. q.tick == t) s.planned)
 
 pub arrived_plans : (set : Set) (refused : JobId → Bool) (t : ℕ) (s : State) (ok : IsCompiled set) (sound : Sound set refused t s) → (arrived set t s).plans ≡ s.plans
-unfolding arrived with_releases with_cancellations s1 due late_rows
+unfolding arrived with_releases with_cancellations after_cancelled due late_rows
 arrived_plans set refused t s ok sound = (after_late set refused t s ok sound).plans

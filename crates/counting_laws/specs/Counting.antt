@@ -63,13 +63,15 @@ greatest_planned entries = greatest (map tick_in entries)
 abbrev pub greatest_period : Set → ℕ
 greatest_period set = greatest (map (λ t. t.period) set.txns)
 
--- The entries are few: each job has one plan, at most its steps and one refusal, and each idling releases a job. No more jobs
--- of a transaction end than were planned.
+-- The entries are few: each job has one plan, at most its steps and one refusal, and each idling releases a job.
+-- No more jobs of a transaction end than were planned.
 pub record IsCounted (set : Set) (entries : List Entry) : Type 0 where
   pub steps : (job : JobId) → length (ops_of entries job) ≤ (txn_of set job.tx.0).steps
   pub refusals : (job : JobId) → refusal_count entries job ≤ 1
   pub room : length entries ≤ planned_room set entries
-  pub jobs : (jobs : ℕ → ℕ) → ((n : ℕ) → n < length set.txns → plan_count entries n ≤ jobs n) → length entries ≤ room_of_jobs set.txns jobs
+  pub jobs :
+      (jobs : ℕ → ℕ) → ((n : ℕ) → n < length set.txns → plan_count entries n ≤ jobs n)
+      → length entries ≤ room_of_jobs set.txns jobs
   pub all : length entries < 2 ^ 42
   pub planned : (n : ℕ) → plan_count entries n < 2 ^ 32
   pub ended : (n : ℕ) → length (filter (λ e. e.job.tx.0 == n) (state_of set entries).ended) ≤ plan_count entries n
@@ -83,7 +85,9 @@ pub record IsTimed (set : Set) (entries : List Entry) : Type 0 where
   pub all : (state_of set entries).now ≤ 2 ^ 40 + 2 ^ 30
 
 abbrev pub EntriesAreFew : Type 0
-EntriesAreFew = (set : Set) (entries : List Entry) → IsCompiled set → IsLegal set entries → IsCounted set entries
+EntriesAreFew =
+    (set : Set) (entries : List Entry) → IsCompiled set → IsLegal set entries → IsCounted set entries
 
 abbrev pub TimeIsBounded : Type 0
-TimeIsBounded = (set : Set) (entries : List Entry) → IsCompiled set → IsLegal set entries → IsTimed set entries
+TimeIsBounded =
+    (set : Set) (entries : List Entry) → IsCompiled set → IsLegal set entries → IsTimed set entries

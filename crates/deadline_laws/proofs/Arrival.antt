@@ -1,4 +1,5 @@
--- The cancellations and releases of an instant keep the window, and cancel no job of the transaction.
+-- The cancellations and releases of an instant keep the window, and cancel no job of the transaction: its demand is
+-- met before its deadline.
 use Rattle.std.proofs.Common.{◌≡◌, ◌≢◌, ℕ, ◌+◌, ◌<◌, ◌≤◌, ◌==◌, Bool, not, List, [], ◌∷◌, ◌++◌, length, map, Option, None, Some, get_or, refl, ap, sym, ◌∙◌, subst, inl, inr, arith}
 use Rattle.std.proofs.lemmas.List.{length-set}
 use Rattle.std.proofs.lemmas.Bool.{eqb-true, eqb-false, not-true}
@@ -16,7 +17,7 @@ use Rattle.history_laws.proofs.Members.{In, filter_in, pending_in}
 use Rattle.history_laws.proofs.Invariant.{IsPending}
 use Rattle.history_laws.proofs.Holding.{append_in}
 use Rattle.history_laws.proofs.Ends.{rows_without}
-use Rattle.history_laws.proofs.Calendar.{AreSpaced, Calendar, Sound, times_at, period_of, sorted_in, spaced_two, late_rows, s1, due, after_late, spaced_filter}
+use Rattle.history_laws.proofs.Calendar.{AreSpaced, Calendar, Sound, times_at, period_of, sorted_in, spaced_two, late_rows, after_cancelled, due, after_late, spaced_filter}
 use Rattle.history_laws.proofs.DelayAll.{left_like}
 use Rattle.deadline_laws.specs.Response.{HoldsDemand}
 use Rattle.deadline_laws.proofs.Load.{pend_left}
@@ -109,15 +110,15 @@ pub record Timely (set : Set) (tx r t : ℕ) (s : State) : Type 0 where
   pub over : IsOver tx r s.ended
 
 pub arrived_timely : (set : Set) (tx r : ℕ) (refused : JobId → Bool) (t : ℕ) (s : State) (ok : IsCompiled set) (sound : Sound set refused t s) → HoldsDemand set tx r → Timely set tx r t s → Timely set tx r t (arrived set t s)
-unfolding arrived with_releases with_cancellations s1 due late_rows
+unfolding arrived with_releases with_cancellations after_cancelled due late_rows
 arrived_timely set tx r refused t s ok sound holds h =
     let late = late_window set tx r t (in_falling_priority set (filter (is_due set t) (pending s.rows))) (record s { now = t }) h.window in
     let a = after_late set refused t s ok sound in
     let c = comes_from set refused t s sound.calendar in
-    let k : Comes set t (s1 set refused t s ok sound).planned (s1 set refused t s ok sound).plans =
-    subst (λ (l : List Plans). Comes set t (s1 set refused t s ok sound).planned l) (sym a.plans) (subst (λ (l : List Release). Comes set t l s.plans) (sym a.planned) c) in
+    let k : Comes set t (after_cancelled set refused t s ok sound).planned (after_cancelled set refused t s ok sound).plans =
+    subst (λ (l : List Plans). Comes set t (after_cancelled set refused t s ok sound).planned l) (sym a.plans) (subst (λ (l : List Release). Comes set t l s.plans) (sym a.planned) c) in
     record {
-      window = releases_window set tx r t (s1 set refused t s ok sound).rows (s1 set refused t s ok sound).planned (s1 set refused t s ok sound).plans ok a.frame.count k late;
+      window = releases_window set tx r t (after_cancelled set refused t s ok sound).rows (after_cancelled set refused t s ok sound).planned (after_cancelled set refused t s ok sound).plans ok a.frame.count k late;
       over = late_over tx r t (in_falling_priority set (filter (is_due set t) (pending s.rows))) (record s { now = t }) (λ g i own.
           let f = filter_in (is_due set t) g (pending s.rows) (sorted_in set g (filter (is_due set t) (pending s.rows)) i) in
           let at = pending_in s.rows g f.0 in

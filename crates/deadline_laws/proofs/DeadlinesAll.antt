@@ -1,4 +1,4 @@
--- Each job of a legal history ends within its transaction's response.
+-- The law of deadlines from the window: each job ends within its transaction's response, and none is late.
 use Rattle.std.proofs.Common.{◌≡◌, ◌≢◌, ℕ, ◌<◌, ◌≤◌, List, length, None, Some, get_or, refl, ap, sym, subst, inl, inr, arith}
 use Rattle.std.proofs.lemmas.List.{get_or_past}
 use Rattle.std.proofs.lemmas.Bool.{cases_lt}

@@ -1,4 +1,5 @@
--- The jobs released within a window of r ticks have at most the steps that the demand allows.
+-- The jobs released within a window of r ticks ask at most for the demand of r; the response found by trying each
+-- window is the least that holds its demand.
 use Rattle.std.proofs.Common.{◌≡◌, ◌≢◌, ℕ, zero, suc, ◌+◌, ◌*◌, ◌<◌, ◌≤◌, Bool, true, false, cond, List, [], ◌∷◌, length, None, Some, refl, ap, sym, inl, inr, arith, suc-mul, one-mul, mul-le-mul_right, lt_of_mul-lt-mul_right}
 use Rattle.std.proofs.lemmas.List.{get_or_past}
 use Rattle.std.proofs.lemmas.Bool.{cases_order, cases_lt, lt-ltb, leb-true, leb-false}

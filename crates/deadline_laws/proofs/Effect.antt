@@ -1,4 +1,5 @@
--- The effect of a granted step, before its instant's cancellations and releases.
+-- The effect of a granted step keeps the window, or leaves nothing pending at or above the transaction and begins a
+-- new one.
 use Rattle.std.proofs.Common.{◌≡◌, ◌≢◌, ◌⊎◌, ℕ, ◌+◌, ◌-◌, ◌<◌, ◌≤◌, Bool, true, false, List, length, Option, None, Some, get_or, set as with_item, refl, ap, sym, ◌∙◌, subst, inl, inr, arith}
 use Rattle.std.proofs.lemmas.Bool.{cases_lt, cases_order}
 use Rattle.std.specs.Prelude.{nat_le}
@@ -110,8 +111,8 @@ module _ (set : Set) (tx r t : ℕ) (rows rows' : List (Option Row)) (coming : L
       elim (cases_order (prio set z) (prio set x)) [
         | inl e ↦ ne (named.apart z x hz run.here e)
         | inr o ↦ elim o [
-          | inl below ↦ omega (arith, inv.one x z run.here hz (holder_from_ceiling set x (omega arith)) below)
-          | inr above ↦ omega (arith, inv.one z x hz run.here (holder_from_ceiling set z (omega arith)) above)
+          | inl below ↦ omega (arith, inv.ordered x z run.here hz (holder_from_ceiling set x (omega arith)) below)
+          | inr above ↦ omega (arith, inv.ordered z x hz run.here (holder_from_ceiling set z (omega arith)) above)
         ]
       ]
 

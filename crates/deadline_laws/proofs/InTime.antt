@@ -1,4 +1,5 @@
--- Every legal history keeps the window of a transaction, so its jobs end in time.
+-- Every legal history keeps the window of a transaction whose response exists, so its jobs end in time: by induction
+-- on the entries.
 use Rattle.std.proofs.Common.{◌≡◌, ◌≢◌, ℕ, ◌+◌, ◌*◌, ◌<◌, ◌≤◌, ◌==◌, Bool, true, false, cond, List, [], ◌∷◌, ◌++◌, length, map, Option, None, Some, set as with_item, refl, ap, sym, ◌∙◌, subst, inl, inr, arith, get_or-set_same, get_or-set_other, zero-mul}
 use Rattle.std.proofs.lemmas.Bool.{cases_eq, cases_lt, eqb-true}
 use Rattle.std.specs.Option.{option_map, option_and_then}

@@ -1,4 +1,6 @@
--- The window of a transaction: what holds since the last instant at which no job at or above it was pending.
+-- The invariant of deadlines: a window from the last instant at which no job at or above a transaction was pending.
+-- The ticks since then, with the steps that its jobs may still take, are at most the blocking and the steps of the
+-- jobs released since.
 use Rattle.std.proofs.Common.{◌≡◌, ◌≢◌, ◌⊎◌, ℕ, ◌+◌, ◌-◌, ◌*◌, ◌<◌, ◌≤◌, Bool, true, false, List, length, Option, get_or, refl, ap, ◌∙◌, inl, inr, arith, suc-mul, zero-mul}
 use Rattle.std.proofs.lemmas.Bool.{cases_eq}
 use Rattle.std.specs.Prelude.{nat_le}
@@ -22,8 +24,10 @@ use Rattle.deadline_laws.proofs.Demand.{level, period_at, not_full}
 abbrev pub notes_at : List Plans → ℕ → Plans
 notes_at notes n = get_or notes n (record { number = 0; last = 0 })
 
--- From `start` on, where no job at or above the transaction was pending: `count` jobs of each transaction were released, one lower job may still take
--- `low` steps, and the ticks since then, with the steps that pending jobs may still take, are within the blocking and the steps of the released jobs.
+-- From `start` on, where no job at or above the transaction was pending: `count` jobs of each transaction were
+-- released, one lower job may still take
+-- `low` steps, and the ticks since then, with the steps that pending jobs may still take, are within the blocking and
+-- the steps of the released jobs.
 pub record Window (set : Set) (tx r t : ℕ) (rows : List (Option Row)) (coming : List Release) (notes : List Plans) : Type 0 where
   pub start : ℕ
   pub low : ℕ

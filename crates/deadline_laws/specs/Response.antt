@@ -1,4 +1,5 @@
--- Response times: the demand on the processor within a window, and the least window that holds its demand.
+-- Response times, after Joseph and Pandya with the blocking term: the demand on the processor within a window, and
+-- the least window that holds its demand.
 use Rattle.std.specs.Prelude.{ℕ, zero, suc, ◌+◌, ◌*◌, ◌<◌, ◌≤◌, nat_lt, nat_le, if◌then◌else◌, List, [], ◌∷◌, length, Option, None, Some}
 use Rattle.std.specs.Int.{div_ceil}
 use Rattle.txn_set.specs.declared.decl.TxnDecl.{TxnDecl}
@@ -16,7 +17,8 @@ higher_demand prio w (t ∷ ts) = part_of prio w t + higher_demand prio w ts
 
 -- what a job of a transaction, one lower job and the higher jobs may ask of w ticks
 unfoldable pub demand : Set → ℕ → ℕ → ℕ
-demand set tx w = (txn_of set tx).steps + blocking set (txn_of set tx).prio + higher_demand (txn_of set tx).prio w set.txns
+demand set tx w =
+    (txn_of set tx).steps + blocking set (txn_of set tx).prio + higher_demand (txn_of set tx).prio w set.txns
 
 -- r ticks hold their demand, and the deadline holds them
 pub record HoldsDemand (set : Set) (tx r : ℕ) : Type 0 where

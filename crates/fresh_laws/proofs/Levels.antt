@@ -1,4 +1,5 @@
--- The age bounds that are found by levels are the age bounds.
+-- The age bounds that are found by levels are the age bounds. A walk of more dependencies than items would meet an
+-- item twice, which a compiled set excludes, so the levels end; and the equation leaves one value at each.
 use Rattle.std.proofs.Common.{◌≡◌, ◌≢◌, ◌⊎◌, ℕ, zero, suc, ◌+◌, ◌<◌, ◌≤◌, ◌==◌, Bool, true, false, cond, not, List, [], ◌∷◌, map, length, get_or, refl, ap, sym, ◌∙◌, subst, inl, inr, arith, add-zero}
 use Rattle.std.proofs.lemmas.Bool.{eqb-true, eq-eqb, eqb-false, not-true}
 use Rattle.std.specs.List.{filter}

@@ -1,4 +1,4 @@
--- Ticks a period apart.
+-- Ticks a period apart: which of them is the next.
 use Rattle.std.proofs.Common.{ℕ, zero, suc, ◌+◌, ◌*◌, ◌<◌, ◌≤◌, refl, ap, sym, subst, inl, inr, arith, suc-mul, zero-mul}
 use Rattle.step_journal.specs.Timing.{periodic}
 use Rattle.history_laws.proofs.Members.{In}

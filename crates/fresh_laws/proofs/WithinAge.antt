@@ -1,4 +1,6 @@
--- Over an admitted set and a steady history, what a job reads is within its age bound at the end.
+-- Over an admitted set and a steady history, what a job read is within its age bound at its end. By induction on the
+-- ended jobs: the next job of the item's writer would have installed by its release and response, and did not before
+-- the reader's end.
 use Rattle.std.proofs.Common.{◌≡◌, ◌≢◌, ◌⊎◌, ℕ, ◌+◌, ◌-◌, ◌<◌, ◌≤◌, ◌==◌, max, Bool, true, false, cond, List, [], ◌∷◌, ◌++◌, map, length, Option, None, Some, refl, ap, sym, ◌∙◌, subst, inl, inr, arith}
 use Rattle.std.proofs.Math.Nat.{le-max_left, le-max_right}
 use Rattle.std.proofs.lemmas.Bool.{cases_lt, eqb-true, ltb-true, le-leb}

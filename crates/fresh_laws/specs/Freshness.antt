@@ -22,14 +22,28 @@ pub record IsWithinSpread (bound : ℕ → ℕ) (q r : OutsideRead) : Type 0 whe
   pub below : q.stamp - r.stamp ≤ max (bound q.item.0) (bound r.item.0)
   pub above : r.stamp - q.stamp ≤ max (bound q.item.0) (bound r.item.0)
 
+-- the ages of a job's reads of sensor and derived items at its end, and the spread of any two of these reads
+abbrev pub AreWithinAge : Set → (ℕ → ℕ) → EndedJob → List OutsideRead → Type 0
+AreWithinAge set bound e reads = All (λ r. IsTrue (is_dated set.items r.item.0) → IsWithinAge bound e r) reads
+
+abbrev pub AreWithinSpread : Set → (ℕ → ℕ) → List OutsideRead → Type 0
+AreWithinSpread set bound reads =
+    All (λ q. All (λ r. IsTrue (is_dated set.items q.item.0) → IsTrue (is_dated set.items r.item.0)
+    → IsWithinSpread bound q r) reads) reads
+
+-- no job ended Stale or Apart, and what the committed jobs read was within its age and its spread
 pub record EndsAreFresh (set : Set) (bound : ℕ → ℕ) (entries : List Entry) : Type 0 where
   pub none_stale : All (λ e. (item : ItemId) (stamp : ℕ) → e.end ≢ end.Stale item stamp) (state_of set entries).ended
   pub none_apart : All (λ e. (a b : ItemId) → e.end ≢ end.Apart a b) (state_of set entries).ended
-  pub age : All (λ e. e.end ≡ end.Committed → All (λ r. IsTrue (is_dated set.items r.item.0) → IsWithinAge bound e r) (outside_reads_of entries e.job)) (state_of set entries).ended
-  pub spread : All (λ e. e.end ≡ end.Committed → All (λ q. All (λ r. IsTrue (is_dated set.items q.item.0) → IsTrue (is_dated set.items r.item.0) → IsWithinSpread bound q r) (outside_reads_of entries e.job)) (outside_reads_of entries e.job)) (state_of set entries).ended
+  pub age :
+      All (λ e. e.end ≡ end.Committed → AreWithinAge set bound e (outside_reads_of entries e.job))
+      (state_of set entries).ended
+  pub spread :
+      All (λ e. e.end ≡ end.Committed → AreWithinSpread set bound (outside_reads_of entries e.job))
+      (state_of set entries).ended
 
--- Over an admitted set, in a steady history, no job ends Stale or Apart, and what a committed job read from outside is within
--- the age bounds.
+-- over an admitted set, in each steady history
 abbrev pub Freshness : Type 0
-Freshness = (set : Set) (entries : List Entry) → IsCompiled set → (admitted : IsAdmitted set) → IsLegal set entries
+Freshness =
+    (set : Set) (entries : List Entry) → IsCompiled set → (admitted : IsAdmitted set) → IsLegal set entries
     → IsSteady set entries → EndsAreFresh set (age_bound set admitted.response) entries

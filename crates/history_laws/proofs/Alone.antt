@@ -1,4 +1,4 @@
--- A job alone: one more operation, and the same on items that agree where it read.
+-- A job alone: what one more operation adds, and that it is the same on two lists of items that agree where it read.
 use Rattle.std.proofs.Common.{◌≡◌, ◌≢◌, ℕ, ◌==◌, Bool, true, false, cond, List, [], ◌∷◌, ◌++◌, map, Option, None, Some, refl, ap, sym, ◌∙◌, inl, inr, get_or-set_other}
 use Rattle.std.proofs.lemmas.List.Elements.{filter_map-append}
 use Rattle.std.proofs.lemmas.Bool.{eq-eqb}

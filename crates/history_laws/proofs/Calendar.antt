@@ -1,4 +1,6 @@
--- Times of releases and pending jobs: a transaction has at most one pending job, since the one before is over.
+-- The times of releases and of pending jobs. Plans of one transaction lie a period apart and a deadline is at most a
+-- period, so at a release the job before is over: a transaction has at most one pending job, and to arrive at a tick
+-- keeps the invariant.
 use Rattle.std.proofs.Common.{◌≡◌, ◌≢◌, ◌⊎◌, ℕ, zero, suc, ◌+◌, ◌<◌, ◌≤◌, ◌==◌, Bool, true, false, cond, not, List, [], ◌∷◌, length, map, Option, None, Some, get_or, set as with_item, refl, ap, sym, ◌∙◌, subst, inl, inr, arith, get_or-set_same, get_or-set_other}
 use Rattle.std.proofs.lemmas.List.{length-set, length-map}
 use Rattle.std.proofs.lemmas.Bool.{cases_eq, cases_order, eqb-true, eq-eqb, eqb-false, not-true}
@@ -280,8 +282,8 @@ module _ (set : Set) (refused : JobId → Bool) (t : ℕ) (s : State) (ok : IsCo
   unfoldable pub late_rows : List Row
   late_rows = in_falling_priority set (filter (is_due set t) (pending s.rows))
 
-  unfoldable pub s1 : State
-  s1 = fold (with_late t) (record s { now = t }) late_rows
+  unfoldable pub after_cancelled : State
+  after_cancelled = fold (with_late t) (record s { now = t }) late_rows
 
   late_own : (r : Row) → In r late_rows → IsOwn s.rows r.job
   unfolding late_rows
@@ -292,13 +294,13 @@ module _ (set : Set) (refused : JobId → Bool) (t : ℕ) (s : State) (ok : IsCo
       let here : IsPending s.rows r = subst (λ (k : ℕ). get_or s.rows k None ≡ Some r) (sym n) at.1 in
       ap (λ (q : Row). q.job) (same_row s.rows c r hc here e)
 
-  pub after_late : Cancelled set refused late_rows (record s { now = t }) s1
-  unfolding s1
+  pub after_late : Cancelled set refused late_rows (record s { now = t }) after_cancelled
+  unfolding after_cancelled
   after_late = cancelled set refused t late_rows (record s { now = t }) sound.frame sound.protocol late_own
 
   -- whoever is left has time beyond t
-  pub still_alive : (y : Row) → IsPending s1.rows y → t + 1 ≤ y.release + deadline_of set y.job
-  unfolding late_rows s1
+  pub still_alive : (y : Row) → IsPending after_cancelled.rows y → t + 1 ≤ y.release + deadline_of set y.job
+  unfolding late_rows after_cancelled
   still_alive y h =
       let f = after_late.rows y h in
       let le : t ≤ f.was.release + deadline_of set f.was.job = sound.calendar.alive f.was f.here in
@@ -308,20 +310,20 @@ module _ (set : Set) (refused : JobId → Bool) (t : ℕ) (s : State) (ok : IsCo
         | inr ne ↦ omega (arith, f.release)
       ]
 
-  pub planned_before : (r : Release) → In r s1.planned → In r s.planned
+  pub planned_before : (r : Release) → In r after_cancelled.planned → In r s.planned
   planned_before r i = subst (λ (l : List Release). In r l) after_late.planned i
 
   unfoldable pub due : List Release
-  due = filter (λ r. r.tick == t) s1.planned
+  due = filter (λ r. r.tick == t) after_cancelled.planned
 
-  pub nobody_there : (r : Release) → In r due → row_of s1.rows r.job.tx.0 ≡ None
+  pub nobody_there : (r : Release) → In r due → row_of after_cancelled.rows r.job.tx.0 ≡ None
   unfolding due
   nobody_there r i =
-      let f = filter_in (λ (q : Release). q.tick == t) r s1.planned i in
+      let f = filter_in (λ (q : Release). q.tick == t) r after_cancelled.planned i in
       let now : r.tick ≡ t = eqb-true _ _ f.1 in
-      row_none s1.rows r.job.tx.0 (row_of s1.rows r.job.tx.0) refl (λ x h.
+      row_none after_cancelled.rows r.job.tx.0 (row_of after_cancelled.rows r.job.tx.0) refl (λ x h.
       let n : x.job.tx.0 ≡ r.job.tx.0 = after_late.frame.named r.job.tx.0 x h in
-      let here : IsPending s1.rows x = subst (λ (k : ℕ). get_or s1.rows k None ≡ Some x) (sym n) h in
+      let here : IsPending after_cancelled.rows x = subst (λ (k : ℕ). get_or after_cancelled.rows k None ≡ Some x) (sym n) h in
       let from = after_late.rows x here in
       let j : x.job.tx.0 ≡ from.was.job.tx.0 = ap (λ (k : JobId). k.tx.0) from.job in
       let b = sound.calendar.behind from.was r from.here (planned_before r f.0) (sym j ∙ n) in
@@ -330,35 +332,35 @@ module _ (set : Set) (refused : JobId → Bool) (t : ℕ) (s : State) (ok : IsCo
       let e : deadline_of set x.job ≡ deadline_of set from.was.job = ap (deadline_of set) from.job in
       omega (arith, b.0, from.release))
 
-  pub period_pos : (r : Release) → In r s1.planned → 1 ≤ period_of set r.job
+  pub period_pos : (r : Release) → In r after_cancelled.planned → 1 ≤ period_of set r.job
   period_pos r i = (times_at set r.job.tx.0 ok (sound.calendar.in_set r (planned_before r i))).period.0
 
-  pub spaced_before : AreSpaced set s1.planned
+  pub spaced_before : AreSpaced set after_cancelled.planned
   spaced_before = subst (AreSpaced set) (sym after_late.planned) sound.calendar.spaced
 
-  pub after_due : Released set refused t due s1.rows (fold (with_row t) s1.rows (map (λ r. r.job) due))
+  pub after_due : Released set refused t due after_cancelled.rows (fold (with_row t) after_cancelled.rows (map (λ r. r.job) due))
   unfolding due
-  after_due = released set refused t due s1.rows after_late.frame after_late.protocol nobody_there
-      (λ r i. sound.calendar.in_set r (planned_before r (filter_in (λ (q : Release). q.tick == t) r s1.planned i).0))
-      (λ r i. sound.calendar.fresh r (planned_before r (filter_in (λ (q : Release). q.tick == t) r s1.planned i).0))
-      (apart_due set t s1.planned period_pos spaced_before)
+  after_due = released set refused t due after_cancelled.rows after_late.frame after_late.protocol nobody_there
+      (λ r i. sound.calendar.in_set r (planned_before r (filter_in (λ (q : Release). q.tick == t) r after_cancelled.planned i).0))
+      (λ r i. sound.calendar.fresh r (planned_before r (filter_in (λ (q : Release). q.tick == t) r after_cancelled.planned i).0))
+      (apart_due set t after_cancelled.planned period_pos spaced_before)
 
-  pub left_planned : (r : Release) → In r (filter (λ q. not (q.tick == t)) s1.planned) → In r s.planned × (r.tick ≢ t)
+  pub left_planned : (r : Release) → In r (filter (λ q. not (q.tick == t)) after_cancelled.planned) → In r s.planned × (r.tick ≢ t)
   left_planned r i =
-      let f = filter_in (λ (q : Release). not (q.tick == t)) r s1.planned i in
+      let f = filter_in (λ (q : Release). not (q.tick == t)) r after_cancelled.planned i in
       (planned_before r f.0, eqb-false _ _ (not-true _ f.1))
 
   pub came_at : (y : Row) → (c : Came due t y) → In c.release s.planned × (c.release.tick ≡ t)
   unfolding due
   came_at y c =
-      let f = filter_in (λ (q : Release). q.tick == t) c.release s1.planned c.is_due in
+      let f = filter_in (λ (q : Release). q.tick == t) c.release after_cancelled.planned c.is_due in
       (planned_before c.release f.0, eqb-true _ _ f.1)
 
-  same_plans : (n : ℕ) → plans_of s1 n ≡ plans_of s n
+  same_plans : (n : ℕ) → plans_of after_cancelled n ≡ plans_of s n
   same_plans n = ap (λ (l : List Plans). get_or l n (record { number = 0; last = 0 })) after_late.plans
 
   pub arrived_sound : Sound set refused (t + 1) (arrived set t s)
-  unfolding arrived with_releases with_cancellations s1 due late_rows
+  unfolding arrived with_releases with_cancellations after_cancelled due late_rows
   arrived_sound = record {
     frame = after_due.frame;
     protocol = after_due.protocol;
@@ -373,7 +375,7 @@ module _ (set : Set) (refused : JobId → Bool) (t : ℕ) (s : State) (ok : IsCo
       ];
       future = λ r i. let l = left_planned r i in let f : t ≤ r.tick = sound.calendar.future r l.0 in let ne : r.tick ≢ t = l.1 in omega arith;
       in_set = λ r i. sound.calendar.in_set r (left_planned r i).0;
-      spaced = spaced_filter set (λ r. not (r.tick == t)) s1.planned spaced_before;
+      spaced = spaced_filter set (λ r. not (r.tick == t)) after_cancelled.planned spaced_before;
       behind = λ y r h i same. elim (after_due.each y h) [
         | inl b ↦ (let from = after_late.rows y b in
             let j : y.job.tx.0 ≡ from.was.job.tx.0 = ap (λ (k : JobId). k.tx.0) from.job in

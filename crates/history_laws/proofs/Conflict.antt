@@ -1,4 +1,6 @@
--- No two jobs hold locks on one item of which one is a write lock.
+-- No two jobs hold locks on one item of which one is a write lock: the item's ceiling is at least the priority of
+-- each transaction that declares the access, and the invariant keeps the higher holder above the ceilings of the
+-- lower one.
 use Rattle.std.proofs.Common.{◌≡◌, ◌≢◌, ◌⊎◌, ℕ, zero, suc, ◌+◌, ◌<◌, ◌≤◌, ◌==◌, Bool, true, false, cond, ◌||◌, ℤ, List, [], ◌∷◌, length, Option, get_or, refl, ap, sym, ◌∙◌, inl, inr, arith}
 use Rattle.std.proofs.lemmas.Bool.{cases_order, or_cases, or_left, or_right, and_parts, eqb-true}
 use Rattle.std.specs.Prelude.{is_some}
@@ -37,7 +39,7 @@ lower_wrote set rows refused x y i inv count hx hy lt dx wy tx =
     let may : (may_read (txn_of set x.job.tx.0) i || may_write (txn_of set x.job.tx.0) i) ≡ true = elim (or_cases _ _ tx) [ inl r ↦ or_left _ _ (dx.reads i r) | inr w ↦ or_right _ _ (dx.writes i w) ] in
     let a : prio set x ≤ absolute_ceiling set i = prio_le_absolute set i (txn_of set x.job.tx.0) t may in
     let b : absolute_ceiling set i ≤ ceiling_of set y = write_le set y i wy in
-    let c : ceiling_of set y < prio set x = inv.one x y hx hy (holds_some x.work i tx) lt in
+    let c : ceiling_of set y < prio set x = inv.ordered x y hx hy (holds_some x.work i tx) lt in
     omega arith
 
 lower_read : (set : Set) (rows : List (Option Row)) (refused : JobId → Bool) (x y : Row) (i : ℕ) → Protocol set rows refused → length rows ≤ length set.txns → IsPending rows x → IsPending rows y → prio set y < prio set x
@@ -46,7 +48,7 @@ lower_read set rows refused x y i inv count hx hy lt dx ry wx =
     let t : In (txn_of set x.job.tx.0) set.txns = in_get_or set.txns x.job.tx.0 no_txn (omega (arith, in_range rows _ x hx)) in
     let a : prio set x ≤ write_ceiling set i = prio_le_write set i (txn_of set x.job.tx.0) t (dx.writes i wx) in
     let b : write_ceiling set i ≤ ceiling_of set y = read_le set y i ry in
-    let c : ceiling_of set y < prio set x = inv.one x y hx hy (holds_some x.work i (or_right _ _ wx)) lt in
+    let c : ceiling_of set y < prio set x = inv.ordered x y hx hy (holds_some x.work i (or_right _ _ wx)) lt in
     omega arith
 
 pub conflict : (set : Set) (rows : List (Option Row)) (refused : JobId → Bool) (x y : Row) (i : ℕ) → AreNamed set rows → Protocol set rows refused → length rows ≤ length set.txns → IsPending rows x → IsPending rows y → x.job.tx.0 ≢ y.job.tx.0

@@ -1,4 +1,6 @@
--- In every legal history at most one lower job delays a job, for at most its blocking.
+-- In every legal history the steps of one lower job at most delay a job, no more than its blocking. By induction on
+-- the entries: a lower job that steps while a job is pending already held a lock with a ceiling at least that
+-- priority.
 use Rattle.std.proofs.Common.{◌≡◌, ◌≢◌, ◌⊎◌, ℕ, ◌+◌, ◌<◌, ◌≤◌, ◌==◌, Bool, true, false, cond, ◌&&◌, List, [], ◌∷◌, ◌++◌, map, length, Option, None, Some, get_or, set as with_item, refl, ap, sym, ◌∙◌, subst, inl, inr, arith, get_or-set_same, append_assoc}
 use Rattle.std.proofs.lemmas.List.{append-nil}
 use Rattle.std.proofs.lemmas.List.Elements.{filter_map-append}
@@ -34,7 +36,7 @@ use Rattle.history_laws.proofs.Members.{in_at, In, pending_in, filter_in}
 use Rattle.history_laws.proofs.Invariant.{IsPending, is_any, Runs, running_is, in_range, same_job_is, written, written_other, holder_from_ceiling, job_row_is}
 use Rattle.history_laws.proofs.Holding.{append_in}
 use Rattle.history_laws.proofs.Ends.{rows_without, left, stays}
-use Rattle.history_laws.proofs.Calendar.{Frame, Sound, sorted_in, named_from, late_rows, s1, due, after_due, frame_with}
+use Rattle.history_laws.proofs.Calendar.{Frame, Sound, sorted_in, named_from, late_rows, after_cancelled, due, after_due, frame_with}
 use Rattle.history_laws.proofs.Histories.{settled_sound, idle_early, arrived_now, may_plan_is, wait_now}
 use Rattle.history_laws.proofs.Never.{refused_after, step_goes, entry_goes, opening_sound, nothing_at}
 use Rattle.history_laws.proofs.Serials.{Serial}
@@ -287,7 +289,7 @@ came_rest set es t s rows ok frame case h =
 -- to arrive at a tick
 
 pub arrived_delay : (set : Set) (refused : JobId → Bool) (t : ℕ) (s : State) (ok : IsCompiled set) (sound : Sound set refused t s) (es : List Entry) → Delay set es t s → Delay set es t (arrived set t s)
-unfolding arrived with_releases with_cancellations s1 due late_rows
+unfolding arrived with_releases with_cancellations after_cancelled due late_rows
 arrived_delay set refused t s ok sound es h =
     let start : Delay set es t (record s { now = t }) = record { past = h.past; used = h.used; quiet = h.quiet; since = h.since; each = h.each; done = h.done } in
     let k = late_delay set es t (in_falling_priority set (filter (is_due set t) (pending s.rows))) (record s { now = t })
@@ -298,7 +300,7 @@ arrived_delay set refused t s ok sound es h =
     record { cur = r; here = subst (λ (k : ℕ). get_or s.rows k None ≡ Some r) (sym (sound.frame.named at.0 r at.1)) at.1; job = refl; release = refl })
     start in
     let d = after_due set refused t s ok sound in
-    let r = came_rest set es t (s1 set refused t s ok sound) _ ok d.frame (λ z i. elim (d.each z i) [ inl o ↦ inl o | inr c ↦ inr (c.release.job, c.is) ]) k in
+    let r = came_rest set es t (after_cancelled set refused t s ok sound) _ ok d.frame (λ z i. elim (d.each z i) [ inl o ↦ inl o | inr c ↦ inr (c.release.job, c.is) ]) k in
     record { past = k.past; used = r.used; quiet = r.quiet; since = r.since; each = r.each; done = k.done }
 
 -- a granted step

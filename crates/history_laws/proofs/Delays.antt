@@ -1,4 +1,5 @@
--- At most one lower job delays a job, for at most its blocking.
+-- The invariant of delay, and what a step adds to it: the lower jobs that hold a ceiling at least a pending job's
+-- priority are one, and it used its quiet steps and the step that took the lock before the release.
 use Rattle.std.proofs.Common.{◌≡◌, ◌≢◌, ◌⊎◌, ℕ, ◌+◌, ◌-◌, ◌<◌, ◌≤◌, ◌==◌, Bool, true, cond, ◌&&◌, List, [], ◌∷◌, ◌++◌, length, Option, None, Some, set as with_item, refl, ap, sym, ◌∙◌, subst, inl, inr, arith, length-append}
 use Rattle.std.proofs.lemmas.List.{append-nil}
 use Rattle.std.proofs.lemmas.List.Elements.{filter_map-append}
@@ -110,8 +111,8 @@ module _ (set : Set) (es : List Entry) (s : State) (refused : JobId → Bool) (x
       elim (cases_order (prio set z) (prio set x)) [
         | inl e ↦ named.apart z x hz run.here e
         | inr o ↦ elim o [
-          | inl below ↦ absurd (omega (arith, inv.one x z run.here hz (holder_from_ceiling set x (omega arith)) below))
-          | inr above ↦ absurd (omega (arith, inv.one z x hz run.here (holder_from_ceiling set z (omega arith)) above))
+          | inl below ↦ absurd (omega (arith, inv.ordered x z run.here hz (holder_from_ceiling set x (omega arith)) below))
+          | inr above ↦ absurd (omega (arith, inv.ordered z x hz run.here (holder_from_ceiling set z (omega arith)) above))
         ]
       ]
 

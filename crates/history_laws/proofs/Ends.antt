@@ -1,4 +1,5 @@
--- The end of a job, and a release, keep the protocol's invariant.
+-- The end of a job, and a release, keep the protocol's invariant: rows and waits are only taken away, and a new row
+-- holds nothing and waits on nobody.
 use Rattle.std.proofs.Common.{◌≡◌, ◌≢◌, ◌⊎◌, ℕ, zero, suc, ◌<◌, Bool, true, false, cond, List, [], ◌∷◌, length, map, Option, None, Some, get_or, set as with_item, refl, ap, sym, ◌∙◌, subst, inl, inr, arith, get_or-set_other}
 use Rattle.std.proofs.Math.ListN.{get_or-map}
 use Rattle.std.proofs.lemmas.Bool.{cases_eq, cases_Bool, and_from, eq-eqb}
@@ -87,28 +88,28 @@ abbrev pub IsOwn : List (Option Row) → JobId → Type 0
 IsOwn rows job = (c : Row) → IsPending rows c → c.job.tx.0 ≡ job.tx.0 → c.job ≡ job
 
 module _ (set : Set) (rows : List (Option Row)) (refused : JobId → Bool) (job : JobId) (inv : Protocol set rows refused) (own : IsOwn rows job) where
-  end_one : (y z : Row) → IsPending (rows_without rows job) y → IsPending (rows_without rows job) z → IsHolder y → prio set z < prio set y → ceiling_of set z < prio set y
-  end_one y z hy hz h lt =
+  end_ordered : (y z : Row) → IsPending (rows_without rows job) y → IsPending (rows_without rows job) z → IsHolder y → prio set z < prio set y → ceiling_of set z < prio set y
+  end_ordered y z hy hz h lt =
       let a = left rows job y hy in
       let b = left rows job z hz in
       let py : prio set y ≡ prio set a.was = ap (prio set) a.is in
       let pz : prio set z ≡ prio set b.was = ap (prio set) b.is in
       let cz : ceiling_of set z ≡ ceiling_of set b.was = ap (ceiling_of set) b.is ∙ freed_ceiling set job b.was in
       let h' : IsHolder a.was = ap (λ (r : Row). is_any (locks r.work)) (sym a.is) ∙ h in
-      omega (arith, inv.one a.was b.was a.here b.here h' (omega arith), py, cz)
+      omega (arith, inv.ordered a.was b.was a.here b.here h' (omega arith), py, cz)
 
-  end_two : (y : Row) (j : JobId) → IsPending (rows_without rows job) y → y.waits_on ≡ Some j → (is_any (locks y.work) ≡ false) × (refused y.job ≡ true)
-  end_two y j hy waits =
+  end_waiter : (y : Row) (j : JobId) → IsPending (rows_without rows job) y → y.waits_on ≡ Some j → (is_any (locks y.work) ≡ false) × (refused y.job ≡ true)
+  end_waiter y j hy waits =
       let a = left rows job y hy in
       let w = freed_some job j a.was.waits_on (ap (λ (r : Row). r.waits_on) (sym a.is) ∙ waits) in
-      let t = inv.two a.was j a.here w.0 in
+      let t = inv.waiter_holds_nothing a.was j a.here w.0 in
       (ap (λ (r : Row). is_any (locks r.work)) a.is ∙ t.0, ap (λ (r : Row). refused r.job) a.is ∙ t.1)
 
-  end_three : (y : Row) (j : JobId) → IsPending (rows_without rows job) y → y.waits_on ≡ Some j → Blocks set (rows_without rows job) y j
-  end_three y j hy waits =
+  end_waits : (y : Row) (j : JobId) → IsPending (rows_without rows job) y → y.waits_on ≡ Some j → Blocks set (rows_without rows job) y j
+  end_waits y j hy waits =
       let a = left rows job y hy in
       let w = freed_some job j a.was.waits_on (ap (λ (r : Row). r.waits_on) (sym a.is) ∙ waits) in
-      let old = inv.three a.was j a.here w.0 in
+      let old = inv.wait_has_ceiling a.was j a.here w.0 in
       let py : prio set y ≡ prio set a.was = ap (prio set) a.is in
       let other : old.blocker.job.tx.0 ≢ job.tx.0 = λ e. clash j (sym old.is ∙ own old.blocker old.here e) w.1 in
       record {
@@ -122,8 +123,8 @@ module _ (set : Set) (rows : List (Option Row)) (refused : JobId → Bool) (job 
         clash : (j : JobId) → j ≡ job → same_job j job ≡ false → ⊥
         clash j e f = let t : same_job j job ≡ true = ap (λ (q : JobId). same_job q job) e ∙ self_same job in cc
 
-  end_four : (y z : Row) → IsPending (rows_without rows job) y → IsPending (rows_without rows job) z → refused y.job ≡ true → prio set z < prio set y → y.waits_on ≢ Some z.job → ceiling_of set z < prio set y
-  end_four y z hy hz was lt free =
+  end_others : (y z : Row) → IsPending (rows_without rows job) y → IsPending (rows_without rows job) z → refused y.job ≡ true → prio set z < prio set y → y.waits_on ≢ Some z.job → ceiling_of set z < prio set y
+  end_others y z hy hz was lt free =
       let a = left rows job y hy in
       let b = left rows job z hz in
       let py : prio set y ≡ prio set a.was = ap (prio set) a.is in
@@ -132,12 +133,17 @@ module _ (set : Set) (rows : List (Option Row)) (refused : JobId → Bool) (job 
       let cz : ceiling_of set z ≡ ceiling_of set b.was = ap (ceiling_of set) b.is ∙ freed_ceiling set job b.was in
       let was' : refused a.was.job ≡ true = ap (λ (r : Row). refused r.job) (sym a.is) ∙ was in
       let free' : a.was.waits_on ≢ Some b.was.job = λ e. free (ap (λ (r : Row). r.waits_on) a.is ∙ (freed_keeps job b.was.job a.was.waits_on e (apart b.was b.other) ∙ ap Some (sym jz))) in
-      omega (arith, inv.four a.was b.was a.here b.here was' (omega arith) free', py, cz) where
+      omega (arith, inv.others_below a.was b.was a.here b.here was' (omega arith) free', py, cz) where
         apart : (r : Row) → r.job.tx.0 ≢ job.tx.0 → same_job r.job job ≡ false
         apart r ne = elim (cases_Bool (same_job r.job job)) [ inl t ↦ absurd (ne (ap (λ (k : JobId). k.tx.0) (same_job_is _ _ t))) | inr f ↦ f ]
 
   pub end_keeps : Protocol set (rows_without rows job) refused
-  end_keeps = record { one = end_one; two = end_two; three = end_three; four = end_four }
+  end_keeps = record {
+    ordered = end_ordered;
+    waiter_holds_nothing = end_waiter;
+    wait_has_ceiling = end_waits;
+    others_below = end_others;
+  }
 
 -- A release.
 
@@ -150,13 +156,13 @@ module _ (set : Set) (rows : List (Option Row)) (refused : JobId → Bool) (job 
   new_case : (y : Row) → IsPending (with_row tick rows job) y → (y ≡ new_row job tick) ⊎ ((y.job.tx.0 ≢ job.tx.0) × IsPending rows y)
   new_case y h = written rows job.tx.0 (new_row job tick) y in_set refl h
 
-  new_one : (y z : Row) → IsPending (with_row tick rows job) y → IsPending (with_row tick rows job) z → IsHolder y → prio set z < prio set y → ceiling_of set z < prio set y
-  new_one y z hy hz h lt =
+  new_ordered : (y z : Row) → IsPending (with_row tick rows job) y → IsPending (with_row tick rows job) z → IsHolder y → prio set z < prio set y → ceiling_of set z < prio set y
+  new_ordered y z hy hz h lt =
       elim (new_case y hy) [
         | inl ey ↦ absurd (let e : is_any (locks y.work) ≡ false = ap (λ (r : Row). is_any (locks r.work)) ey in cc (e, h))
         | inr oy ↦ elim (new_case z hz) [
           | inl ez ↦ (let c : ceiling_of set z ≡ 0 = ap (ceiling_of set) ez ∙ new_ceiling set job tick in omega (arith, c))
-          | inr oz ↦ inv.one y z oy.1 oz.1 h lt
+          | inr oz ↦ inv.ordered y z oy.1 oz.1 h lt
         ]
       ]
 
@@ -167,21 +173,21 @@ module _ (set : Set) (rows : List (Option Row)) (refused : JobId → Bool) (job 
         | inr oy ↦ oy.1
       ]
 
-  new_three : (y : Row) (j : JobId) → IsPending (with_row tick rows job) y → y.waits_on ≡ Some j → Blocks set (with_row tick rows job) y j
-  new_three y j hy waits =
-      let old = inv.three y j (waits_old y j hy waits) waits in
+  new_waits : (y : Row) (j : JobId) → IsPending (with_row tick rows job) y → y.waits_on ≡ Some j → Blocks set (with_row tick rows job) y j
+  new_waits y j hy waits =
+      let old = inv.wait_has_ceiling y j (waits_old y j hy waits) waits in
       let other : old.blocker.job.tx.0 ≢ job.tx.0 = λ e. (let n : Some old.blocker ≡ None = sym old.here ∙ (ap (λ (k : ℕ). get_or rows k None) e ∙ free) in cc (n)) in
       record { blocker = old.blocker; is = old.is; here = written_other rows job.tx.0 (new_row job tick) old.blocker other old.here; lower = old.lower; holds = old.holds; runs = old.runs }
 
-  new_four : (y z : Row) → IsPending (with_row tick rows job) y → IsPending (with_row tick rows job) z → refused y.job ≡ true → prio set z < prio set y → y.waits_on ≢ Some z.job → ceiling_of set z < prio set y
-  new_four y z hy hz was lt not_on =
+  new_others : (y z : Row) → IsPending (with_row tick rows job) y → IsPending (with_row tick rows job) z → refused y.job ≡ true → prio set z < prio set y → y.waits_on ≢ Some z.job → ceiling_of set z < prio set y
+  new_others y z hy hz was lt not_on =
       elim (new_case y hy) [
         | inl ey ↦ absurd (let e : refused y.job ≡ false = ap (λ (r : Row). refused r.job) ey ∙ fresh in cc (e, was))
         | inr oy ↦ elim (new_case z hz) [
           | inl ez ↦ (let c : ceiling_of set z ≡ 0 = ap (ceiling_of set) ez ∙ new_ceiling set job tick in omega (arith, c))
-          | inr oz ↦ inv.four y z oy.1 oz.1 was lt not_on
+          | inr oz ↦ inv.others_below y z oy.1 oz.1 was lt not_on
         ]
       ]
 
   pub release_keeps : Protocol set (with_row tick rows job) refused
-  release_keeps = record { one = new_one; two = λ y j hy waits. inv.two y j (waits_old y j hy waits) waits; three = new_three; four = new_four }
+  release_keeps = record { ordered = new_ordered; waiter_holds_nothing = λ y j hy waits. inv.waiter_holds_nothing y j (waits_old y j hy waits) waits; wait_has_ceiling = new_waits; others_below = new_others }

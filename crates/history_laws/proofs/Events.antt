@@ -1,4 +1,5 @@
--- The events keep the protocol's invariant.
+-- A granted and a refused step keep the protocol's invariant: the grant tests the new lock against every other
+-- holder, and the running job has no holder above it.
 use Rattle.std.proofs.Common.{◌≡◌, ◌≢◌, ◌⊎◌, ◌<◌, ◌≤◌, Bool, true, false, ◌||◌, List, [], ◌∷◌, length, map, Option, None, Some, set as with_item, refl, ap, sym, ◌∙◌, inl, inr, arith}
 use Rattle.std.proofs.lemmas.Bool.{cases_lt, cases_order, cases_eq, or_cases, or_left, or_right, and_from, eq-eqb}
 use Rattle.rt_base.specs.declared.ids.JobId.{JobId}
@@ -28,10 +29,10 @@ same_prio set x y e = ap (prio_of set) e
 after : List (Option Row) → Row → Row → List (Option Row)
 after rows x x' = with_item rows x.job.tx.0 (Some x')
 
-granted_one : (set : Set) (rows : List (Option Row)) (refused : JobId → Bool) (x x' y z : Row) → Protocol set rows refused → Runs set rows refused x → IsGranted set rows x x'
+granted_ordered : (set : Set) (rows : List (Option Row)) (refused : JobId → Bool) (x x' y z : Row) → Protocol set rows refused → Runs set rows refused x → IsGranted set rows x x'
     → IsPending (after rows x x') y → IsPending (after rows x x') z → IsHolder y → prio set z < prio set y → ceiling_of set z < prio set y
 unfolding after
-granted_one set rows refused x x' y z inv run ok hy hz holds lt =
+granted_ordered set rows refused x x' y z inv run ok hy hz holds lt =
     let len : x.job.tx.0 < length rows = in_range rows _ x run.here in
     let p : prio set x' ≡ prio set x = same_prio set x' x ok.job in
     elim (written rows x.job.tx.0 x' y len (same_tx x' x ok.job) hy) [
@@ -40,7 +41,7 @@ granted_one set rows refused x x' y z inv run ok hy hz holds lt =
         | inr oz ↦ elim ok.rule [
           | inl same ↦ (let h : IsHolder x = sym same ∙ ap (λ (r : Row). is_any (locks r.work)) (sym ey) ∙ holds in
               let lt' : prio set z < prio set x = omega (arith, ap (prio set) ey) in
-              omega (arith, inv.one x z run.here oz.1 h lt', ap (prio set) ey))
+              omega (arith, inv.ordered x z run.here oz.1 h lt', ap (prio set) ey))
           | inr rule ↦ omega (arith, below_system set rows x z oz.1 oz.0, ap (prio set) ey)
         ]
       ]
@@ -48,22 +49,22 @@ granted_one set rows refused x x' y z inv run ok hy hz holds lt =
         | inl ez ↦ (let lt' : prio set x < prio set y = omega (arith, ap (prio set) ez) in
             let none : is_any (locks y.work) ≡ false = run.no_lock y oy.1 lt' in
             absurd (cc))
-        | inr oz ↦ inv.one y z oy.1 oz.1 holds lt
+        | inr oz ↦ inv.ordered y z oy.1 oz.1 holds lt
       ]
     ]
 
 -- a row of the state after the write, at its old place
-granted_three : (set : Set) (rows : List (Option Row)) (refused : JobId → Bool) (x x' y : Row) (j : JobId) → Protocol set rows refused → Runs set rows refused x → IsGranted set rows x x'
+granted_waits : (set : Set) (rows : List (Option Row)) (refused : JobId → Bool) (x x' y : Row) (j : JobId) → Protocol set rows refused → Runs set rows refused x → IsGranted set rows x x'
     → IsPending (after rows x x') y → y.waits_on ≡ Some j → (IsPending rows y) × Blocks set (after rows x x') y j
 unfolding after
-granted_three set rows refused x x' y j inv run ok hy waits =
+granted_waits set rows refused x x' y j inv run ok hy waits =
     let len : x.job.tx.0 < length rows = in_range rows _ x run.here in
     let p : prio set x' ≡ prio set x = same_prio set x' x ok.job in
     elim (written rows x.job.tx.0 x' y len (same_tx x' x ok.job) hy) [
       | inl ey ↦ absurd (let e : y.waits_on ≡ None = ap (λ (r : Row). r.waits_on) ey ∙ ok.runs in let f : Some j ≡ None = sym waits ∙ e in cc (f))
       | inr oy ↦ (
         oy.1,
-        (let old = inv.three y j oy.1 waits in
+        (let old = inv.wait_has_ceiling y j oy.1 waits in
             elim (written_blocker rows x old.blocker run.here old.here) [
               | inl e ↦ record {
                 blocker = x';
@@ -87,10 +88,10 @@ granted_three set rows refused x x' y j inv run ok hy waits =
       written_blocker : (rows : List (Option Row)) (x b : Row) → IsPending rows x → IsPending rows b → (b ≡ x) ⊎ (b.job.tx.0 ≢ x.job.tx.0)
       written_blocker rows x b hx hb = elim (cases_eq b.job.tx.0 x.job.tx.0) [ inl e ↦ inl (same_row rows b x hb hx e) | inr ne ↦ inr ne ]
 
-granted_four : (set : Set) (rows : List (Option Row)) (refused : JobId → Bool) (x x' y z : Row) → Protocol set rows refused → Runs set rows refused x → IsGranted set rows x x'
+granted_others : (set : Set) (rows : List (Option Row)) (refused : JobId → Bool) (x x' y z : Row) → Protocol set rows refused → Runs set rows refused x → IsGranted set rows x x'
     → IsPending (after rows x x') y → IsPending (after rows x x') z → refused y.job ≡ true → prio set z < prio set y → y.waits_on ≢ Some z.job → ceiling_of set z < prio set y
 unfolding after
-granted_four set rows refused x x' y z inv run ok hy hz was lt free =
+granted_others set rows refused x x' y z inv run ok hy hz was lt free =
     let len : x.job.tx.0 < length rows = in_range rows _ x run.here in
     let p : prio set x' ≡ prio set x = same_prio set x' x ok.job in
     elim (written rows x.job.tx.0 x' y len (same_tx x' x ok.job) hy) [
@@ -99,13 +100,13 @@ granted_four set rows refused x x' y z inv run ok hy hz was lt free =
         | inr oz ↦ (let was' : refused x.job ≡ true = ap refused (sym ok.job ∙ ap (λ (r : Row). r.job) (sym ey)) ∙ was in
             let free' : x.waits_on ≢ Some z.job = λ e. (let f : None ≡ Some z.job = sym run.runs ∙ e in cc (f)) in
             let lt' : prio set z < prio set x = omega (arith, ap (prio set) ey) in
-            omega (arith, inv.four x z run.here oz.1 was' lt' free', ap (prio set) ey))
+            omega (arith, inv.others_below x z run.here oz.1 was' lt' free', ap (prio set) ey))
       ]
       | inr oy ↦ elim (written rows x.job.tx.0 x' z len (same_tx x' x ok.job) hz) [
         | inl ez ↦ (let lt' : prio set x < prio set y = omega (arith, ap (prio set) ez) in
             let jobs : z.job ≡ x.job = ap (λ (r : Row). r.job) ez ∙ ok.job in
             absurd (run.waits y oy.1 lt' was (λ e. free (e ∙ ap Some (sym jobs)))))
-        | inr oz ↦ inv.four y z oy.1 oz.1 was lt free
+        | inr oz ↦ inv.others_below y z oy.1 oz.1 was lt free
       ]
     ]
 
@@ -113,10 +114,10 @@ pub granted_keeps : (set : Set) (rows : List (Option Row)) (refused : JobId → 
     → Protocol set (with_item rows x.job.tx.0 (Some x')) refused
 unfolding after
 granted_keeps set rows refused x x' inv run ok = record {
-  one = λ y z hy hz holds lt. granted_one set rows refused x x' y z inv run ok hy hz holds lt;
-  two = λ y j hy waits. inv.two y j (granted_three set rows refused x x' y j inv run ok hy waits).0 waits;
-  three = λ y j hy waits. (granted_three set rows refused x x' y j inv run ok hy waits).1;
-  four = λ y z hy hz was lt free. granted_four set rows refused x x' y z inv run ok hy hz was lt free;
+  ordered = λ y z hy hz holds lt. granted_ordered set rows refused x x' y z inv run ok hy hz holds lt;
+  waiter_holds_nothing = λ y j hy waits. inv.waiter_holds_nothing y j (granted_waits set rows refused x x' y j inv run ok hy waits).0 waits;
+  wait_has_ceiling = λ y j hy waits. (granted_waits set rows refused x x' y j inv run ok hy waits).1;
+  others_below = λ y z hy hz was lt free. granted_others set rows refused x x' y z inv run ok hy hz was lt free;
 }
 
 -- A refused request. The running job x waits on the blocker b from then on.
@@ -129,7 +130,7 @@ pub record RefusedFacts (set : Set) (rows : List (Option Row)) (refused : JobId 
 
 no_wait : (set : Set) (rows : List (Option Row)) (refused : JobId → Bool) (b : Row) → Protocol set rows refused → IsPending rows b → IsHolder b → (o : Option JobId) → b.waits_on ≡ o → o ≡ None
 no_wait set rows refused b inv here holds None e = refl
-no_wait set rows refused b inv here holds (Some j) e = absurd (let t = inv.two b j here e in cc (t.0))
+no_wait set rows refused b inv here holds (Some j) e = absurd (let t = inv.waiter_holds_nothing b j here e in cc (t.0))
 
 false_from : (b : Bool) → (b ≡ true → ⊥) → b ≡ false
 false_from true h = absurd (h refl)
@@ -150,14 +151,14 @@ refused_facts set rows refused x above named inv run r =
       | inr o ↦ elim o [ inl lt ↦ lt | inr gt ↦ absurd (let n : is_any (locks r.blocker.work) ≡ false = run.no_lock r.blocker r.here gt in cc) ]
     ]
     in
-    let none : is_any (locks x.work) ≡ false = false_from _ (λ h. let le : ceiling_of set r.blocker < prio set x = inv.one x r.blocker run.here r.here h lower in omega (arith, r.holds)) in
+    let none : is_any (locks x.work) ≡ false = false_from _ (λ h. let le : ceiling_of set r.blocker < prio set x = inv.ordered x r.blocker run.here r.here h lower in omega (arith, r.holds)) in
     record {
       lower = lower;
       no_lock = none;
       runs = no_wait set rows refused r.blocker inv r.here holds r.blocker.waits_on refl;
       first = false_from _ (λ was.
           let free : x.waits_on ≢ Some r.blocker.job = none_is_not_some _ _ run.runs in
-          let le : ceiling_of set r.blocker < prio set x = inv.four x r.blocker run.here r.here was lower free in
+          let le : ceiling_of set r.blocker < prio set x = inv.others_below x r.blocker run.here r.here was lower free in
           omega (arith, r.holds));
     }
 
@@ -191,21 +192,21 @@ module _ (set : Set) (rows : List (Option Row)) (refused : JobId → Bool) (x b 
   unfolding new_rows
   cases_row y hy = written rows x.job.tx.0 (waiting_row x b.job) y (in_range rows _ x run.here) refl hy
 
-  refused_one : (y z : Row) → IsPending new_rows y → IsPending new_rows z → IsHolder y → prio set z < prio set y → ceiling_of set z < prio set y
-  refused_one y z hy hz h lt =
+  refused_ordered : (y z : Row) → IsPending new_rows y → IsPending new_rows z → IsHolder y → prio set z < prio set y → ceiling_of set z < prio set y
+  refused_ordered y z hy hz h lt =
       elim (cases_row y hy) [
         | inl ey ↦ absurd (let e : is_any (locks y.work) ≡ false = ap (λ (r : Row). is_any (locks r.work)) ey ∙ facts.no_lock in cc (e, h))
         | inr oy ↦ elim (cases_row z hz) [
           | inl ez ↦ (let c : ceiling_of set z ≡ 0 = ap (ceiling_of set) ez ∙ (waiting_ceiling set x b.job ∙ no_ceiling set x facts.no_lock) in omega (arith, c))
-          | inr oz ↦ inv.one y z oy.1 oz.1 h lt
+          | inr oz ↦ inv.ordered y z oy.1 oz.1 h lt
         ]
       ]
 
-  refused_two : (y : Row) (j : JobId) → IsPending new_rows y → y.waits_on ≡ Some j → (is_any (locks y.work) ≡ false) × (refused_too refused x.job y.job ≡ true)
-  refused_two y j hy waits =
+  refused_waiter : (y : Row) (j : JobId) → IsPending new_rows y → y.waits_on ≡ Some j → (is_any (locks y.work) ≡ false) × (refused_too refused x.job y.job ≡ true)
+  refused_waiter y j hy waits =
       elim (cases_row y hy) [
         | inl ey ↦ (ap (λ (r : Row). is_any (locks r.work)) ey ∙ facts.no_lock, or_right _ _ (ap (λ (r : Row). same_job r.job x.job) ey ∙ same_job_self x.job))
-        | inr oy ↦ (let t = inv.two y j oy.1 waits in (t.0, or_left _ _ t.1))
+        | inr oy ↦ (let t = inv.waiter_holds_nothing y j oy.1 waits in (t.0, or_left _ _ t.1))
       ]
 
   blocked_by : (y : Row) (j : JobId) → IsPending rows y → Blocks set rows y j → Blocks set new_rows y j
@@ -218,9 +219,9 @@ module _ (set : Set) (rows : List (Option Row)) (refused : JobId → Bool) (x b 
         | inr ne ↦ record { blocker = old.blocker; is = old.is; here = written_other rows x.job.tx.0 (waiting_row x b.job) old.blocker ne old.here; lower = old.lower; holds = old.holds; runs = old.runs }
       ]
 
-  refused_three : (y : Row) (j : JobId) → IsPending new_rows y → y.waits_on ≡ Some j → Blocks set new_rows y j
+  refused_waits : (y : Row) (j : JobId) → IsPending new_rows y → y.waits_on ≡ Some j → Blocks set new_rows y j
   unfolding new_rows
-  refused_three y j hy waits =
+  refused_waits y j hy waits =
       elim (cases_row y hy) [
         | inl ey ↦ (let w : Some j ≡ Some b.job = sym waits ∙ ap (λ (r : Row). r.waits_on) ey in
             let p : prio set y ≡ prio set x = ap (prio set) ey in record {
@@ -231,7 +232,7 @@ module _ (set : Set) (rows : List (Option Row)) (refused : JobId → Bool) (x b 
               holds = omega (arith, holds);
               runs = facts.runs;
             })
-        | inr oy ↦ blocked_by y j oy.1 (inv.three y j oy.1 waits)
+        | inr oy ↦ blocked_by y j oy.1 (inv.wait_has_ceiling y j oy.1 waits)
       ]
 
   -- every lower job but the blocker has only ceilings below
@@ -243,14 +244,14 @@ module _ (set : Set) (rows : List (Option Row)) (refused : JobId → Bool) (x b 
         | inr large ↦ elim (cases_order (prio set z) (prio set b)) [
           | inl e ↦ absurd (ne (named.apart z b hz here e))
           | inr o ↦ elim o [
-            | inl below ↦ absurd (omega (arith, inv.one b z here hz (holder_from_ceiling set b (omega (arith, holds))) below, facts.lower))
-            | inr over ↦ absurd (omega (arith, inv.one z b hz here (holder_from_ceiling set z (omega (arith, large))) over, holds))
+            | inl below ↦ absurd (omega (arith, inv.ordered b z here hz (holder_from_ceiling set b (omega (arith, holds))) below, facts.lower))
+            | inr over ↦ absurd (omega (arith, inv.ordered z b hz here (holder_from_ceiling set z (omega (arith, large))) over, holds))
           ]
         ]
       ]
 
-  refused_four : (y z : Row) → IsPending new_rows y → IsPending new_rows z → refused_too refused x.job y.job ≡ true → prio set z < prio set y → y.waits_on ≢ Some z.job → ceiling_of set z < prio set y
-  refused_four y z hy hz was lt free =
+  refused_others : (y z : Row) → IsPending new_rows y → IsPending new_rows z → refused_too refused x.job y.job ≡ true → prio set z < prio set y → y.waits_on ≢ Some z.job → ceiling_of set z < prio set y
+  refused_others y z hy hz was lt free =
       elim (cases_row y hy) [
         | inl ey ↦ elim (cases_row z hz) [
           | inl ez ↦ absurd (omega (arith, ap (prio set) ey, ap (prio set) ez))
@@ -263,7 +264,7 @@ module _ (set : Set) (rows : List (Option Row)) (refused : JobId → Bool) (x b 
               | inl ez ↦ (let free' : y.waits_on ≢ Some x.job = λ e. free (e ∙ ap Some (sym (ap (λ (r : Row). r.job) ez))) in
                   let lt' : prio set x < prio set y = omega (arith, ap (prio set) ez) in
                   absurd (run.waits y oy.1 lt' old free'))
-              | inr oz ↦ inv.four y z oy.1 oz.1 old lt free
+              | inr oz ↦ inv.others_below y z oy.1 oz.1 old lt free
             ])
       ] where
         same_tx_of : {a c : JobId} → a ≡ c → a.tx.0 ≡ c.tx.0
@@ -271,4 +272,9 @@ module _ (set : Set) (rows : List (Option Row)) (refused : JobId → Bool) (x b 
 
   pub refused_keeps : Protocol set (with_item rows x.job.tx.0 (Some (waiting_row x b.job))) (refused_too refused x.job)
   unfolding new_rows
-  refused_keeps = record { one = refused_one; two = refused_two; three = refused_three; four = refused_four }
+  refused_keeps = record {
+    ordered = refused_ordered;
+    waiter_holds_nothing = refused_waiter;
+    wait_has_ceiling = refused_waits;
+    others_below = refused_others;
+  }

@@ -1,4 +1,5 @@
--- What the locks of a job are, and how an operation changes them.
+-- What the locks of a job are, how an operation changes them, and what the lock rule's answer says: by cases over the
+-- operations and over the topmost row.
 use Rattle.std.proofs.Common.{◌≡◌, ◌⊎◌, ℕ, ◌<◌, ◌≤◌, ◌==◌, Bool, true, false, cond, not, ◌||◌, ℤ, List, [], ◌∷◌, ◌++◌, map, Option, None, Some, refl, ap, sym, ◌∙◌, subst, inl, inr, arith}
 use Rattle.std.proofs.lemmas.Bool.{eqb-true, eq-eqb, or_cases, not-true, not_from_false, or_left, or_right, ltb-true}
 use Rattle.std.specs.Prelude.{nat_lt, is_some}

@@ -1,4 +1,7 @@
--- The invariant of the protocol, and that the events keep it.
+-- The protocol's invariant, and what it says of the running job. Of two holders of locks the higher one's priority
+-- exceeds every ceiling of the lower one's locks; a waiting job holds nothing, and waits on a lower holder that waits
+-- on nobody. So the running job is the highest pending job, or the job on which that one waits, and no holder is
+-- higher.
 use Rattle.std.proofs.Common.{◌≡◌, ◌≢◌, ◌⊎◌, ℕ, zero, suc, ◌<◌, ◌≤◌, ◌==◌, Bool, true, false, cond, not, List, [], ◌∷◌, map, length, Option, None, Some, get_or, set, refl, ap, sym, ◌∙◌, subst, inl, inr, arith, get_or-set_same, get_or-set_other}
 use Rattle.std.proofs.lemmas.List.{get_or_past}
 use Rattle.std.proofs.lemmas.Bool.{cases_lt, cases_eq, eqb-true, eq-eqb, ne_eqb, ltb-false, and_parts, not_from_false}
@@ -41,15 +44,17 @@ pub record Blocks (set : Set) (rows : List (Option Row)) (x : Row) (j : JobId) :
   pub holds : prio set x ≤ ceiling_of set blocker
   pub runs : blocker.waits_on ≡ None
 
--- one: of two holders the higher one's priority exceeds every ceiling of the lower one's locks
--- two: a waiting job holds no lock, and was refused
--- three: a waiting job waits on a pending, lower job that holds a lock with a ceiling at least the waiter's priority and does not wait
--- four: where a pending job was refused, each lower job has only ceilings below its priority, except for the one on which it waits
+-- ordered: of two holders the higher one's priority exceeds every ceiling of the lower one's locks
+-- waiter_holds_nothing: a waiting job holds no lock, and was refused
+-- wait_has_ceiling: a waiting job waits on a pending, lower job that holds a lock with a ceiling at least the waiter's
+-- priority and does not wait
+-- others_below: where a pending job was refused, each lower job has only ceilings below its priority, except for the
+-- one on which it waits
 pub record Protocol (set : Set) (rows : List (Option Row)) (refused : JobId → Bool) : Type 0 where
-  pub one : (x y : Row) → IsPending rows x → IsPending rows y → IsHolder x → prio set y < prio set x → ceiling_of set y < prio set x
-  pub two : (x : Row) (j : JobId) → IsPending rows x → x.waits_on ≡ Some j → (is_any (locks x.work) ≡ false) × (refused x.job ≡ true)
-  pub three : (x : Row) (j : JobId) → IsPending rows x → x.waits_on ≡ Some j → Blocks set rows x j
-  pub four : (x z : Row) → IsPending rows x → IsPending rows z → refused x.job ≡ true → prio set z < prio set x → x.waits_on ≢ Some z.job → ceiling_of set z < prio set x
+  pub ordered : (x y : Row) → IsPending rows x → IsPending rows y → IsHolder x → prio set y < prio set x → ceiling_of set y < prio set x
+  pub waiter_holds_nothing : (x : Row) (j : JobId) → IsPending rows x → x.waits_on ≡ Some j → (is_any (locks x.work) ≡ false) × (refused x.job ≡ true)
+  pub wait_has_ceiling : (x : Row) (j : JobId) → IsPending rows x → x.waits_on ≡ Some j → Blocks set rows x j
+  pub others_below : (x z : Row) → IsPending rows x → IsPending rows z → refused x.job ≡ true → prio set z < prio set x → x.waits_on ≢ Some z.job → ceiling_of set z < prio set x
 
 -- small facts
 
@@ -158,7 +163,8 @@ refusal_is set rows x above ok h =
 
 -- the running job
 
--- what holds of the running job x: it waits on nobody, and a higher pending job holds no lock, and if it was refused it waits on x
+-- what holds of the running job x: it waits on nobody, and a higher pending job holds no lock, and if it was refused
+-- it waits on x
 pub record Runs (set : Set) (rows : List (Option Row)) (refused : JobId → Bool) (x : Row) : Type 0 where
   pub here : IsPending rows x
   pub runs : x.waits_on ≡ None
@@ -194,11 +200,11 @@ blocker_runs set rows refused h b inv top here holds runs = record {
   runs = runs;
   no_lock = λ y at lt. false_by _ (λ is.
       let le : prio set y ≤ prio set h = top.above y (in_pending rows y.job.tx.0 y at) in
-      let below : ceiling_of set b < prio set y = inv.one y b at here is lt in
+      let below : ceiling_of set b < prio set y = inv.ordered y b at here is lt in
       omega arith);
   waits = λ y at lt was not_on.
       let le : prio set y ≤ prio set h = top.above y (in_pending rows y.job.tx.0 y at) in
-      let below : ceiling_of set b < prio set y = inv.four y b at here was lt not_on in
+      let below : ceiling_of set b < prio set y = inv.others_below y b at here was lt not_on in
       omega arith;
   holds = λ y at lt. let le : prio set y ≤ prio set h = top.above y (in_pending rows y.job.tx.0 y at) in omega arith;
 }
@@ -222,7 +228,7 @@ runs_from set rows refused n h x None ok inv top e is =
     subst (Runs set rows refused) same (top_runs set rows refused h (highest_pending set rows h ok top) top e)
 runs_from set rows refused zero h x (Some j) ok inv top e is = absurd cc
 runs_from set rows refused (suc n) h x (Some j) ok inv top e is =
-    after_link set rows refused n j h x inv top (inv.three h j (highest_pending set rows h ok top) e) (job_row rows j) refl is
+    after_link set rows refused n j h x inv top (inv.wait_has_ceiling h j (highest_pending set rows h ok top) e) (job_row rows j) refl is
 
 running_from : (set : Set) (rows : List (Option Row)) (refused : JobId → Bool) (x : Row) (o : Option Row) → AreNamed set rows → Protocol set rows refused
     → highest set (pending rows) ≡ o → option_and_then (λ r. followed rows (length rows) r r.waits_on) o ≡ Some x → Runs set rows refused x

@@ -1,4 +1,5 @@
--- What is in a list, and the rows that are pending.
+-- What is in a list: filtered lists, the greatest member, the highest row of a list in falling priority, and the rows
+-- that are pending.
 use Rattle.std.proofs.Common.{◌≡◌, ◌⊎◌, ℕ, zero, suc, ◌<◌, ◌≤◌, Bool, true, false, cond, List, [], ◌∷◌, map, Option, None, Some, slice_get, set, refl, ap, sym, ◌∙◌, subst, inl, inr, arith}
 use Rattle.std.proofs.Math.Nat.{le-max_left, le-max_right}
 use Rattle.std.proofs.lemmas.Bool.{cases_lt, ltb-true, ltb-false}
@@ -29,14 +30,14 @@ in_filter p x [] h t = h
 in_filter p x (y ∷ ys) (inl e) t = in_filter_at p x y ys (p y) refl t (inl e)
 in_filter p x (y ∷ ys) (inr h) t = in_filter_at p x y ys (p y) refl t (inr (in_filter p x ys h t))
 
-mutual_filter : {A : Type 0} (p : A → Bool) (x y : A) (ys : List A) (b : Bool) → p y ≡ b → (In x (filter p ys) → In x ys × (p x ≡ true)) → In x (cond b (y ∷ filter p ys) (filter p ys)) → ((x ≡ y) ⊎ In x ys) × (p x ≡ true)
-mutual_filter p x y ys true e rest (inl same) = (inl same, ap p same ∙ e)
-mutual_filter p x y ys true e rest (inr h) = (inr (rest h).0, (rest h).1)
-mutual_filter p x y ys false e rest h = (inr (rest h).0, (rest h).1)
+filter_in_at : {A : Type 0} (p : A → Bool) (x y : A) (ys : List A) (b : Bool) → p y ≡ b → (In x (filter p ys) → In x ys × (p x ≡ true)) → In x (cond b (y ∷ filter p ys) (filter p ys)) → ((x ≡ y) ⊎ In x ys) × (p x ≡ true)
+filter_in_at p x y ys true e rest (inl same) = (inl same, ap p same ∙ e)
+filter_in_at p x y ys true e rest (inr h) = (inr (rest h).0, (rest h).1)
+filter_in_at p x y ys false e rest h = (inr (rest h).0, (rest h).1)
 
 pub filter_in : {A : Type 0} (p : A → Bool) (x : A) (xs : List A) → In x (filter p xs) → In x xs × (p x ≡ true)
 filter_in p x [] h = absurd h
-filter_in p x (y ∷ ys) h = mutual_filter p x y ys (p y) refl (filter_in p x ys) h
+filter_in p x (y ∷ ys) h = filter_in_at p x y ys (p y) refl (filter_in p x ys) h
 
 -- a pending row, by its place and by the list of pending rows
 pub in_pending : (rows : List (Option Row)) (n : ℕ) (y : Row) → row_of rows n ≡ Some y → In y (pending rows)

@@ -1,4 +1,6 @@
--- No legal history is stuck, and a job is refused once.
+-- After every legal history no jobs wait in a cycle, and where something is pending there is a running job; a job is
+-- refused once. By induction on the entries: the invariant holds in the opening state and each event keeps it; a
+-- blocker never waits.
 use Rattle.std.proofs.Common.{◌≡◌, ◌≢◌, ℕ, zero, suc, ◌+◌, ◌<◌, Bool, true, false, cond, ◌||◌, List, [], ◌∷◌, ◌++◌, length, map, Option, None, Some, get_or, refl, ap, sym, ◌∙◌, subst, arith}
 use Rattle.std.proofs.lemmas.List.{length-map}
 use Rattle.std.proofs.lemmas.Bool.{and_from, eq-eqb}
@@ -15,7 +17,7 @@ use Rattle.step_journal.specs.Instant.{arrived}
 use Rattle.step_journal.specs.Step.{Event, plan, ask, idle, given, may_plan, with_plan, may_ask, lock_refusal, with_wait, answered, asked, next_tick, idled, step}
 use Rattle.step_journal.specs.History.{event_of, state_given, entry_given, state_after, states_after, IsLegalEntry, IsLegalFrom, IsLegal, state_of}
 use Rattle.step_journal.specs.Timing.{WaitsOn, WaitAlong, IsWaitCycle}
-use Rattle.history_laws.specs.Protocol.{is_refusal_of, was_refused, NeverStuck}
+use Rattle.history_laws.specs.Protocol.{IsFirstRefusal, is_refusal_of, was_refused, NeverStuck}
 use Rattle.history_laws.proofs.Members.{pending_in, highest_is, highest_none}
 use Rattle.history_laws.proofs.Invariant.{IsPending, is_any, AreNamed, Protocol, Runs, running_is, refusal_is, in_range, same_row, job_row_is}
 use Rattle.history_laws.proofs.Events.{refused_facts, refused_too}
@@ -123,10 +125,10 @@ unfolding opening
 opening_sound set = record {
   frame = record { count = length-map set.txns (λ t. None); named = λ n x h. absurd (nothing_at set.txns n x h) };
   protocol = record {
-    one = λ x y hx hy h lt. absurd (nothing_at set.txns x.job.tx.0 x hx);
-    two = λ x j hx h. absurd (nothing_at set.txns x.job.tx.0 x hx);
-    three = λ x j hx h. absurd (nothing_at set.txns x.job.tx.0 x hx);
-    four = λ x z hx hz h lt ne. absurd (nothing_at set.txns x.job.tx.0 x hx);
+    ordered = λ x y hx hy h lt. absurd (nothing_at set.txns x.job.tx.0 x hx);
+    waiter_holds_nothing = λ x j hx h. absurd (nothing_at set.txns x.job.tx.0 x hx);
+    wait_has_ceiling = λ x j hx h. absurd (nothing_at set.txns x.job.tx.0 x hx);
+    others_below = λ x z hx hz h lt ne. absurd (nothing_at set.txns x.job.tx.0 x hx);
   };
   calendar = record {
     alive = λ x h. absurd (nothing_at set.txns x.job.tx.0 x h);
@@ -155,7 +157,7 @@ no_chain : (set : Set) (refused : JobId → Bool) (s : State) (a b c : JobId) �
 no_chain set refused s a b c inv ab bc =
     let x = waiter s.rows a b (job_row s.rows a) refl ab in
     let y = waiter s.rows b c (job_row s.rows b) refl bc in
-    let bl = inv.three x.0 b x.1 x.3 in
+    let bl = inv.wait_has_ceiling x.0 b x.1 x.3 in
     let same : y.0 ≡ bl.blocker = same_row s.rows y.0 bl.blocker y.1 bl.here (ap (λ (k : JobId). k.tx.0) (y.2 ∙ sym bl.is)) in
     let n : Some c ≡ None = sym y.3 ∙ (ap (λ (r : Row). r.waits_on) same ∙ bl.runs) in
     cc (n)
@@ -182,7 +184,7 @@ followed_some : (set : Set) (rows : List (Option Row)) (refused : JobId → Bool
 followed_some set rows refused n h None inv here e pos none = cc
 followed_some set rows refused zero h (Some j) inv here e pos none = omega arith
 followed_some set rows refused (suc n) h (Some j) inv here e pos none =
-    let bl = inv.three h j here e in
+    let bl = inv.wait_has_ceiling h j here e in
     let r : job_row rows j ≡ Some bl.blocker = job_row_here rows bl.blocker j bl.here bl.is in
     let at : option_and_then (λ (r : Row). followed rows n r r.waits_on) (Some bl.blocker) ≡ None = subst (λ (o : Option Row). option_and_then (λ (r : Row). followed rows n r r.waits_on) o ≡ None) r none in
     let last : followed rows n bl.blocker None ≡ None = subst (λ (o : Option JobId). followed rows n bl.blocker o ≡ None) bl.runs at in
@@ -241,10 +243,10 @@ all_is refused [] j = or_none (refused j) where
 all_is refused (e ∷ es) j = all_is (refused_after refused e) es j ∙ (ap (λ (b : Bool). b || was_refused es j) (after_is refused e j) ∙ or_assoc (refused j) (is_refusal_of j e) (was_refused es j))
 
 pub refused_once : (set : Set) (entries : List Entry) (job on : JobId) (op : Op) (ceiling tick : ℕ) → IsCompiled set → IsLegal set (entries ++ Blocked job op on ceiling tick ∷ [])
-    → (was_refused entries job ≡ false) × ((row : Row) → job_row (state_of set entries).rows job ≡ Some row → locks row.work ≡ [])
+    → IsFirstRefusal set entries job
 refused_once set entries job on op ceiling tick ok legal =
     let parts = legal_parts set (opening set) entries (Blocked job op on ceiling tick) legal in
     let sound = legal_sound set entries ok parts.0 in
     let refused : JobId → Bool = refused_all (λ _. false) entries in
     let g = entry_goes set refused (state_of set entries) (Blocked job op on ceiling tick) (step set (state_of set entries) (ask job op)) (step_goes set ok refused (state_of set entries) sound (ask job op)) parts.1 in
-    (sym (all_is (λ _. false) entries job) ∙ g.1.0, g.1.1)
+    record { first = sym (all_is (λ _. false) entries job) ∙ g.1.0; no_lock = g.1.1 }

@@ -1,4 +1,4 @@
--- One more legal entry.
+-- One more legal entry: the history with it is legal, and its state is the one that the step gives.
 use Rattle.std.proofs.Common.{◌≡◌, ℕ, ◌+◌, ◌<◌, ◌==◌, Bool, true, false, cond, List, [], ◌∷◌, ◌++◌, Some, set as with_item, refl, ap, sym, ◌∙◌, arith}
 use Rattle.std.proofs.lemmas.Bool.{ne_eqb}
 use Rattle.step_journal.specs.declared.entry.Entry.{Entry}

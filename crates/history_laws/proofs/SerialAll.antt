@@ -1,4 +1,5 @@
--- Every legal history is serial.
+-- Every legal history is serial, its pending jobs have been told what they would alone, no two of them conflict, and
+-- an ended job has no row: by induction on the entries, with the invariant of serial replies.
 use Rattle.std.proofs.Common.{◌≡◌, ◌≢◌, ◌⊎◌, ℕ, ◌+◌, ◌<◌, ◌≤◌, ◌==◌, Bool, true, false, cond, ◌||◌, List, [], ◌∷◌, ◌++◌, length, Option, None, Some, set as with_item, refl, ap, sym, ◌∙◌, subst, inl, inr, arith, get_or-set_same, get_or-set_other, append_assoc}
 use Rattle.std.proofs.lemmas.List.{append-nil}
 use Rattle.std.proofs.lemmas.Bool.{cases_eq, false_from_ne_true}
@@ -241,6 +242,6 @@ ended_hold_nothing set entries n ended ok legal at =
       waits = λ other h. let w = waiter rows ended.job other (job_row rows ended.job) refl h in over w.0 w.1 w.2;
       waited_on = λ other h.
           let w = waiter rows other ended.job (job_row rows other) refl h in
-          let b = (legal_sound set entries ok legal).protocol.three w.0 ended.job w.1 w.3 in
+          let b = (legal_sound set entries ok legal).protocol.wait_has_ceiling w.0 ended.job w.1 w.3 in
           over b.blocker b.here b.is;
     }

@@ -1,4 +1,5 @@
--- The events keep a history serial.
+-- Steps, ends and arrivals keep the invariant of serial replies: a commit changes only items on which its job holds
+-- write locks, and by the conflict law no other pending job has read these.
 use Rattle.std.proofs.Common.{◌≡◌, ◌≢◌, ◌⊎◌, ℕ, zero, suc, ◌+◌, ◌≤◌, ◌==◌, Bool, true, false, cond, not, List, [], ◌∷◌, ◌++◌, map, Option, None, Some, get_or, set as with_item, refl, ap, sym, ◌∙◌, subst, inl, inr, arith, get_or-set_same}
 use Rattle.std.proofs.lemmas.List.{append-nil, set-set}
 use Rattle.std.proofs.lemmas.Bool.{and_from, eq-eqb, or_left, false_from_ne_true}
@@ -26,7 +27,7 @@ use Rattle.history_laws.proofs.Invariant.{IsPending, Protocol, Runs, in_range, s
 use Rattle.history_laws.proofs.Events.{granted_keeps}
 use Rattle.history_laws.proofs.Holding.{step_is_granted}
 use Rattle.history_laws.proofs.Ends.{stays}
-use Rattle.history_laws.proofs.Calendar.{Frame, Sound, placed_in, sorted_in, named_from, late_rows, s1, due, after_due}
+use Rattle.history_laws.proofs.Calendar.{Frame, Sound, placed_in, sorted_in, named_from, late_rows, after_cancelled, due, after_due}
 use Rattle.history_laws.proofs.Histories.{frame_set}
 use Rattle.history_laws.proofs.Conflict.{IsDeclared, conflict, row_declared}
 use Rattle.history_laws.proofs.Alone.{work_more, outcomes_more, item_stays, ops_more, outcomes_more_in, serial_items_same, serial_outcomes_same, map_same}
@@ -86,8 +87,8 @@ late_serial set es t (r ∷ rs) s d may h =
     late_serial set es t rs (with_late t s r) d.1 (λ q i. later_may_end s t r q (d.0 q i) (may q (inr i))) next
 
 module _ (set : Set) (refused : JobId → Bool) (t : ℕ) (s : State) (ok : IsCompiled set) (sound : Sound set refused t s) (es : List Entry) (h : Serial set es s) where
-  after_late_serial : Serial set es (s1 set refused t s ok sound)
-  unfolding s1 late_rows
+  after_late_serial : Serial set es (after_cancelled set refused t s ok sound)
+  unfolding after_cancelled late_rows
   after_late_serial =
       let start : Serial set es (record s { now = t }) = record { declared = h.declared; done_row = h.done_row; done_plan = h.done_plan; rising = h.rising; done = h.done; alone = h.alone; planned_new = h.planned_new; future_new = h.future_new; items = h.items; outcomes = h.outcomes } in
       late_serial set es t (in_falling_priority set (filter (is_due set t) (pending s.rows))) (record s { now = t })
@@ -100,7 +101,7 @@ module _ (set : Set) (refused : JobId → Bool) (t : ℕ) (s : State) (ok : IsCo
       start
 
   pub arrived_serial : Serial set es (arrived set t s)
-  unfolding arrived with_releases with_cancellations s1 due late_rows
+  unfolding arrived with_releases with_cancellations after_cancelled due late_rows
   arrived_serial =
       let k = after_late_serial in
       let each = (after_due set refused t s ok sound).each in
@@ -115,24 +116,24 @@ module _ (set : Set) (refused : JobId → Bool) (t : ℕ) (s : State) (ok : IsCo
         done_row = λ e x i j same. elim (each x j) [
           | inl old ↦ k.done_row e x i old same
           | inr c ↦ (let b : x.job ≡ c.release.job = ap (λ (q : Row). q.job) c.is in
-              let d = k.done_plan e c.release i (filter_in (λ (r : Release). r.tick == t) c.release (s1 set refused t s ok sound).planned c.is_due).0 (same ∙ ap (λ (q : JobId). q.tx.0) b) in
+              let d = k.done_plan e c.release i (filter_in (λ (r : Release). r.tick == t) c.release (after_cancelled set refused t s ok sound).planned c.is_due).0 (same ∙ ap (λ (q : JobId). q.tx.0) b) in
               omega (arith, d, ap (λ (q : JobId). q.serial) b))
         ];
         rising = k.rising;
-        done_plan = λ e r i j same. k.done_plan e r i (filter_in (λ (q : Release). not (q.tick == t)) r (s1 set refused t s ok sound).planned j).0 same;
+        done_plan = λ e r i j same. k.done_plan e r i (filter_in (λ (q : Release). not (q.tick == t)) r (after_cancelled set refused t s ok sound).planned j).0 same;
         done = k.done;
         alone = λ x i. elim (each x i) [
           | inl old ↦ k.alone x old
           | inr c ↦ (let b : x.job ≡ c.release.job = ap (λ (q : Row). q.job) c.is in
               let w : x.work ≡ no_work = ap (λ (q : Row). q.work) c.is in
-              let u = k.planned_new c.release (filter_in (λ (r : Release). r.tick == t) c.release (s1 set refused t s ok sound).planned c.is_due).0 in
+              let u = k.planned_new c.release (filter_in (λ (r : Release). r.tick == t) c.release (after_cancelled set refused t s ok sound).planned c.is_due).0 in
               let o : ops_of es x.job ≡ [] = ap (ops_of es) b ∙ u.ops in
               record {
-                work = w ∙ ap (work_alone (s1 set refused t s ok sound).items no_work) (sym o);
-                outcomes = ap (outcomes_of es) b ∙ (u.outcomes ∙ ap (outcomes_alone (s1 set refused t s ok sound).items no_work) (sym o));
+                work = w ∙ ap (work_alone (after_cancelled set refused t s ok sound).items no_work) (sym o);
+                outcomes = ap (outcomes_of es) b ∙ (u.outcomes ∙ ap (outcomes_alone (after_cancelled set refused t s ok sound).items no_work) (sym o));
               })
         ];
-        planned_new = λ r i. k.planned_new r (filter_in (λ (q : Release). not (q.tick == t)) r (s1 set refused t s ok sound).planned i).0;
+        planned_new = λ r i. k.planned_new r (filter_in (λ (q : Release). not (q.tick == t)) r (after_cancelled set refused t s ok sound).planned i).0;
         future_new = k.future_new;
         items = k.items;
         outcomes = k.outcomes;

@@ -1,4 +1,6 @@
--- Every legal history is serial, in order of ending.
+-- The invariant of serial replies: each pending job has read, written and been told what it would alone on the
+-- present items, and the ended jobs what they would one after another. The end of a job is one more turn of the
+-- serial run.
 use Rattle.std.proofs.Common.{◌≡◌, ◌≢◌, ℕ, ◌<◌, ◌≤◌, true, List, [], ◌∷◌, ◌++◌, map, Option, None, refl, ap, sym, ◌∙◌, inl, inr, arith}
 use Rattle.std.proofs.lemmas.List.{append-nil, map-append}
 use Rattle.rt_base.specs.declared.ids.JobId.{JobId}

@@ -32,12 +32,18 @@ pub record NeverStuck (set : Set) (s : State) : Type 0 where
   pub runs : running set s.rows ≡ None → pending s.rows ≡ []
 
 abbrev pub NoHistoryIsStuck : Type 0
-NoHistoryIsStuck = (set : Set) (entries : List Entry) → IsCompiled set → IsLegal set entries → NeverStuck set (state_of set entries)
+NoHistoryIsStuck =
+    (set : Set) (entries : List Entry) → IsCompiled set → IsLegal set entries → NeverStuck set (state_of set entries)
 
--- A job is refused at most once, and then holds no lock.
+-- A job that is refused was not refused before, and holds no lock.
+pub record IsFirstRefusal (set : Set) (entries : List Entry) (job : JobId) : Type 0 where
+  pub first : was_refused entries job ≡ false
+  pub no_lock : (row : Row) → job_row (state_of set entries).rows job ≡ Some row → locks row.work ≡ []
+
 abbrev pub RefusedOnce : Type 0
-RefusedOnce = (set : Set) (entries : List Entry) (job on : JobId) (op : Op) (ceiling tick : ℕ) → IsCompiled set → IsLegal set (entries ++ Blocked job op on ceiling tick ∷ [])
-    → (was_refused entries job ≡ false) × ((row : Row) → job_row (state_of set entries).rows job ≡ Some row → locks row.work ≡ [])
+RefusedOnce =
+    (set : Set) (entries : List Entry) (job on : JobId) (op : Op) (ceiling tick : ℕ) → IsCompiled set
+    → IsLegal set (entries ++ Blocked job op on ceiling tick ∷ []) → IsFirstRefusal set entries job
 
 -- The outcomes and the items of each legal history are those of its ended jobs run alone, in order of ending.
 abbrev pub EachHistoryIsSerial : Type 0
@@ -45,12 +51,14 @@ EachHistoryIsSerial = (set : Set) (entries : List Entry) → IsCompiled set → 
 
 -- A pending job was told, has read and has written what it would alone on the present items.
 pub record IsAloneSoFar (set : Set) (entries : List Entry) (row : Row) : Type 0 where
-  pub outcomes : outcomes_of entries row.job ≡ outcomes_alone (state_of set entries).items no_work (ops_of entries row.job)
+  pub outcomes :
+      outcomes_of entries row.job ≡ outcomes_alone (state_of set entries).items no_work (ops_of entries row.job)
   pub work : row.work ≡ work_alone (state_of set entries).items no_work (ops_of entries row.job)
 
 abbrev pub EachPendingIsAlone : Type 0
-EachPendingIsAlone = (set : Set) (entries : List Entry) (job : JobId) (row : Row) → IsCompiled set → IsLegal set entries → job_row (state_of set entries).rows job ≡ Some row
-    → IsAloneSoFar set entries row
+EachPendingIsAlone =
+    (set : Set) (entries : List Entry) (job : JobId) (row : Row) → IsCompiled set → IsLegal set entries
+    → job_row (state_of set entries).rows job ≡ Some row → IsAloneSoFar set entries row
 
 -- A job has no row, so that it holds no lock; it waits on nobody, and nobody waits on it.
 pub record HoldsNothing (s : State) (job : JobId) : Type 0 where
@@ -59,18 +67,25 @@ pub record HoldsNothing (s : State) (job : JobId) : Type 0 where
   pub waited_on : (other : JobId) → ¬ WaitsOn s other job
 
 abbrev pub EndedHoldNothing : Type 0
-EndedHoldNothing = (set : Set) (entries : List Entry) (n : ℕ) (ended : EndedJob) → IsCompiled set → IsLegal set entries → slice_get (state_of set entries).ended n ≡ Some ended
-    → HoldsNothing (state_of set entries) ended.job
+EndedHoldNothing =
+    (set : Set) (entries : List Entry) (n : ℕ) (ended : EndedJob) → IsCompiled set → IsLegal set entries
+    → slice_get (state_of set entries).ended n ≡ Some ended → HoldsNothing (state_of set entries) ended.job
 
 -- Of two pending jobs none holds a lock on an item on which the other holds a write lock.
 abbrev pub NoConflict : Type 0
-NoConflict = (set : Set) (entries : List Entry) (a b : JobId) (x y : Row) (i : ℕ) → IsCompiled set → IsLegal set entries → job_row (state_of set entries).rows a ≡ Some x → job_row (state_of set entries).rows b ≡ Some y → a ≢ b
+NoConflict =
+    (set : Set) (entries : List Entry) (a b : JobId) (x y : Row) (i : ℕ) → IsCompiled set → IsLegal set entries
+    → job_row (state_of set entries).rows a ≡ Some x → job_row (state_of set entries).rows b ≡ Some y → a ≢ b
     → has_written x.work i ≡ true → (has_read y.work i || has_written y.work i) ≡ false
 
 -- All steps that delay a job are of one job, and there are at most as many as its blocking.
 pub record DelayedByOne (set : Set) (entries : List Entry) (job : JobId) : Type 0 where
-  pub one : (m n : ℕ) (a b : JobId) → slice_get (delayers set entries job) m ≡ Some a → slice_get (delayers set entries job) n ≡ Some b → a ≡ b
+  pub one :
+      (m n : ℕ) (a b : JobId) → slice_get (delayers set entries job) m ≡ Some a
+      → slice_get (delayers set entries job) n ≡ Some b → a ≡ b
   pub few : length (delayers set entries job) ≤ blocking set (prio_of set job)
 
 abbrev pub OneDelay : Type 0
-OneDelay = (set : Set) (entries : List Entry) (job : JobId) → IsCompiled set → IsLegal set entries → DelayedByOne set entries job
+OneDelay =
+    (set : Set) (entries : List Entry) (job : JobId) → IsCompiled set → IsLegal set entries
+    → DelayedByOne set entries job
