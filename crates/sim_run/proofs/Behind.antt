@@ -1,9 +1,9 @@
 -- A serial that a transaction's jobs have reached: no pending and no planned job of it comes before, and none that is to be
 -- planned. Every legal entry keeps it.
-use Rattle.std.proofs.Common.{◌≡◌, ◌≢◌, ◌⊎◌, ℕ, ◌+◌, ◌<◌, ◌≤◌, ◌==◌, Bool, true, false, cond, not, List, [], ◌∷◌, ◌++◌, length, map, Option, None, Some, set as with_item, refl, ap, sym, ◌∙◌, subst, inl, inr, arith, get_or-set_same, get_or-set_other}
+use Rattle.std.proofs.Common.{◌≡◌, ◌⊎◌, ℕ, ◌+◌, ◌<◌, ◌≤◌, ◌==◌, Bool, true, false, cond, List, [], ◌∷◌, ◌++◌, length, Option, None, Some, set as with_item, refl, ap, sym, ◌∙◌, subst, inl, inr, arith, get_or-set_same, get_or-set_other}
 use Rattle.std.proofs.lemmas.Bool.{cases_eq}
 use Rattle.std.specs.Option.{option_map, option_and_then}
-use Rattle.std.specs.List.{filter, fold, All}
+use Rattle.std.specs.List.{All}
 use Rattle.std.proofs.lemmas.List.Elements.{All-cons, All-tail}
 use Rattle.rt_base.specs.declared.ids.JobId.{JobId}
 use Rattle.rt_base.specs.declared.operation.Op.{Op}
@@ -12,7 +12,7 @@ use Rattle.rt_base.specs.declared.release.Plans.{Plans}
 use Rattle.rt_base.specs.declared.release.Release.{Release}
 use Rattle.txn_set.specs.Set.{Set, IsCompiled}
 use Rattle.step_journal.specs.declared.entry.Entry.{Entry}
-use Rattle.step_journal.specs.declared.entry.Entry.TheVariants.{Planned, Step, Blocked, Idle}
+use Rattle.step_journal.specs.declared.entry.Entry.TheVariants.{Planned, Idle}
 use Rattle.step_journal.specs.State.{State, Row, same_job, new_row, pending}
 use Rattle.step_journal.specs.LockRule.{Above}
 use Rattle.step_journal.specs.Running.{running, of_job}
@@ -55,7 +55,8 @@ from_old s s' n k plans rows planned h = record {
   number = omega (arith, h.number, ap (λ (l : List Plans). (plans_of (record s { plans = l }) n).number) plans);
 }
 
-pub arrived_behind : (set : Set) (refused : JobId → Bool) (t : ℕ) (s : State) (n k : ℕ) → IsCompiled set → Sound set refused t s → IsReached s n k → IsReached (arrived set t s) n k
+pub arrived_behind : (set : Set) (refused : JobId → Bool) (t : ℕ) (s : State) (n k : ℕ) → IsCompiled set
+    → Sound set refused t s → IsReached s n k → IsReached (arrived set t s) n k
 unfolding arrived with_releases with_cancellations after_cancelled due late_rows
 arrived_behind set refused t s n k ok sound h = from_old s (arrived set t s) n k (arrived_plans set t s)
     (λ y i. elim ((after_due set refused t s ok sound).each y i) [
@@ -64,7 +65,8 @@ arrived_behind set refused t s n k ok sound h = from_old s (arrived set t s) n k
     ])
     (λ r i. (left_planned set refused t s ok sound r i).0) h
 
-settled_behind : (set : Set) (s : State) (x : Row) (op : Op) (t : ℕ) (o : Option End) (n k : ℕ) → IsPending s.rows x → IsReached s n k → IsReached (settled set (row_after s x op) t o s) n k
+settled_behind : (set : Set) (s : State) (x : Row) (op : Op) (t : ℕ) (o : Option End) (n k : ℕ) → IsPending s.rows x
+    → IsReached s n k → IsReached (settled set (row_after s x op) t o s) n k
 unfolding with_end
 settled_behind set s x op t None n k here h = from_old s (settled set (row_after s x op) t None s) n k refl
     (λ y i. elim (written s.rows x.job.tx.0 (row_after s x op) y (in_range s.rows _ x here) refl i) [
@@ -74,7 +76,8 @@ settled_behind set s x op t None n k here h = from_old s (settled set (row_after
 settled_behind set s x op t (Some e) n k here h = from_old s (settled set (row_after s x op) t (Some e) s) n k refl
     (λ y i. let l = left s.rows x.job y i in inl (l.was, l.here, ap (λ (q : Row). q.job) l.is)) (λ r i. i) h
 
-step_behind : (set : Set) (refused : JobId → Bool) (s : State) (x : Row) (op : Op) (n k : ℕ) → IsCompiled set → Sound set refused (s.now + 1) s → Runs set s.rows refused x → lock_refusal set s x op ≡ None
+step_behind : (set : Set) (refused : JobId → Bool) (s : State) (x : Row) (op : Op) (n k : ℕ) → IsCompiled set
+    → Sound set refused (s.now + 1) s → Runs set s.rows refused x → lock_refusal set s x op ≡ None
     → IsReached s n k → IsReached (with_step set s x op) n k
 unfolding with_step after_effect
 step_behind set refused s x op n k ok sound run granted h =
@@ -82,7 +85,8 @@ step_behind set refused s x op n k ok sound run granted h =
     arrived_behind set refused (s.now + 1) (settled set (row_after s x op) (s.now + 1) (end_by set (row_after s x op) (s.now + 1) op) s) n k ok effect
     (settled_behind set s x op (s.now + 1) (end_by set (row_after s x op) (s.now + 1) op) n k run.here h)
 
-wait_behind : (s : State) (x : Row) (j : JobId) (n k : ℕ) → IsPending s.rows x → IsReached s n k → IsReached (with_wait s x j) n k
+wait_behind : (s : State) (x : Row) (j : JobId) (n k : ℕ) → IsPending s.rows x → IsReached s n k
+    → IsReached (with_wait s x j) n k
 unfolding with_wait
 wait_behind s x j n k here h = from_old s (with_wait s x j) n k refl
     (λ y i. elim (written s.rows x.job.tx.0 (record x { waits_on = Some j }) y (in_range s.rows _ x here) refl i) [
@@ -96,11 +100,13 @@ planned_state : State → ℕ → ℕ → List Release → List (Option Row) →
 planned_state s tx tick planned rows = record s { plans = with_item s.plans tx (record { number = (plans_of s tx).number + 1; last = tick }); planned = planned; rows = rows }
 
 module _ (set : Set) (refused : JobId → Bool) (s : State) (tx tick n k : ℕ) (sound : Sound set refused (s.now + 1) s) (in_set : tx < length set.txns) (h : IsReached s n k) where
-  number_same : (planned : List Release) (rows : List (Option Row)) → (plans_of (planned_state s tx tick planned rows) tx).number ≡ (plans_of s tx).number + 1
+  number_same : (planned : List Release) (rows : List (Option Row))
+      → (plans_of (planned_state s tx tick planned rows) tx).number ≡ (plans_of s tx).number + 1
   unfolding planned_state
   number_same planned rows = ap (λ (p : Plans). p.number) (get_or-set_same s.plans tx (record { number = (plans_of s tx).number + 1; last = tick }) (record { number = 0; last = 0 }) (omega (arith, in_set, sound.calendar.plans_count)))
 
-  number_behind : (planned : List Release) (rows : List (Option Row)) → k ≤ (plans_of (planned_state s tx tick planned rows) n).number
+  number_behind : (planned : List Release) (rows : List (Option Row))
+      → k ≤ (plans_of (planned_state s tx tick planned rows) n).number
   unfolding planned_state
   number_behind planned rows = elim (cases_eq n tx) [
     | inl e ↦ omega (arith, h.number, number_same planned rows, ap (λ (m : ℕ). (plans_of s m).number) e, ap (λ (m : ℕ). (plans_of (planned_state s tx tick planned rows) m).number) e)
@@ -135,7 +141,8 @@ module _ (set : Set) (refused : JobId → Bool) (s : State) (tx tick n k : ℕ) 
         number = number_behind s.planned (with_row tick s.rows (next_job s tx));
       }
 
-  plan_at : (b : Bool) → IsReached (planned_state s tx tick (cond b s.planned (s.planned ++ record { job = next_job s tx; tick = tick } ∷ [])) (cond b (with_row tick s.rows (next_job s tx)) s.rows)) n k
+  plan_at : (b : Bool)
+      → IsReached (planned_state s tx tick (cond b s.planned (s.planned ++ record { job = next_job s tx; tick = tick } ∷ [])) (cond b (with_row tick s.rows (next_job s tx)) s.rows)) n k
   plan_at true = at_once_behind
   plan_at false = later_behind
 
@@ -154,19 +161,23 @@ stays_given n k true p h = h refl
 stays_given n k false p h = tt
 
 module _ (set : Set) (ok : IsCompiled set) (refused : JobId → Bool) (s : State) (sound : Sound set refused (s.now + 1) s) (n k : ℕ) (h : IsReached s n k) where
-  stays_answered : (x : Row) (op : Op) (o : Option Above) → Runs set s.rows refused x → lock_refusal set s x op ≡ o → IsReached (answered set s x op o).1 n k
+  stays_answered : (x : Row) (op : Op) (o : Option Above) → Runs set s.rows refused x → lock_refusal set s x op ≡ o
+      → IsReached (answered set s x op o).1 n k
   stays_answered x op None run e = step_behind set refused s x op n k ok sound run e h
   stays_answered x op (Some above) run e = wait_behind s x above.holder n k run.here h
 
-  stays_asked_at : (job : JobId) (op : Op) (x : Row) (b : Bool) → Runs set s.rows refused x → Stays n k (option_and_then (asked set s op) (cond b (Some x) None))
+  stays_asked_at : (job : JobId) (op : Op) (x : Row) (b : Bool) → Runs set s.rows refused x
+      → Stays n k (option_and_then (asked set s op) (cond b (Some x) None))
   stays_asked_at job op x true run = stays_given n k (may_ask set x op) (answered set s x op (lock_refusal set s x op)) (λ _. stays_answered x op (lock_refusal set s x op) run refl)
   stays_asked_at job op x false run = tt
 
-  stays_asked : (job : JobId) (op : Op) (o : Option Row) → running set s.rows ≡ o → Stays n k (option_and_then (asked set s op) (option_and_then (of_job job) o))
+  stays_asked : (job : JobId) (op : Op) (o : Option Row) → running set s.rows ≡ o
+      → Stays n k (option_and_then (asked set s op) (option_and_then (of_job job) o))
   stays_asked job op None e = tt
   stays_asked job op (Some x) e = stays_asked_at job op x (same_job x.job job) (running_is set s.rows refused x (named_from set s.rows ok sound.frame) sound.protocol e)
 
-  stays_idle_at : (o : Option ℕ) → pending s.rows ≡ [] → next_tick s.planned ≡ o → Stays n k (option_map (λ t. (Idle s.now t, arrived set t s)) o)
+  stays_idle_at : (o : Option ℕ) → pending s.rows ≡ [] → next_tick s.planned ≡ o
+      → Stays n k (option_map (λ t. (Idle s.now t, arrived set t s)) o)
   stays_idle_at None none e = tt
   stays_idle_at (Some t) none e = arrived_behind set refused t s n k ok (idle_early set refused s t sound none e) h
 
@@ -180,12 +191,14 @@ module _ (set : Set) (ok : IsCompiled set) (refused : JobId → Bool) (s : State
   stays (ask job op) = stays_asked job op (running set s.rows) refl
   stays idle = stays_idle (pending s.rows) refl
 
-stays_given_by : (s : State) (entry : Entry) (o : Option (Entry × State)) (n k : ℕ) → Stays n k o → entry_given o ≡ Some entry → IsReached (state_given s o) n k
+stays_given_by : (s : State) (entry : Entry) (o : Option (Entry × State)) (n k : ℕ) → Stays n k o
+    → entry_given o ≡ Some entry → IsReached (state_given s o) n k
 stays_given_by s entry None n k h e = absurd cc
 stays_given_by s entry (Some p) n k h e = h
 
 -- a legal entry keeps it
-pub behind_after : (set : Set) (story : List Entry) (e : Entry) (n k : ℕ) → IsCompiled set → IsLegal set story → IsLegalEntry set (state_of set story) e
+pub behind_after : (set : Set) (story : List Entry) (e : Entry) (n k : ℕ) → IsCompiled set → IsLegal set story
+    → IsLegalEntry set (state_of set story) e
     → IsReached (state_of set story) n k → IsReached (state_after set (state_of set story) e) n k
 behind_after set story e n k ok legal is h =
     let s = state_of set story in
@@ -196,7 +209,8 @@ behind_after set story e n k ok legal is h =
 pub behind_zero : (s : State) (n : ℕ) → IsReached s n 0
 behind_zero s n = record { rows = λ y i e. omega arith; planned = all_from (NotBefore n 0) s.planned (λ r i e. omega arith); number = omega arith }
 
-pub behind_running : (set : Set) (story : List Entry) (x : Row) → IsCompiled set → IsLegal set story → running set (state_of set story).rows ≡ Some x
+pub behind_running : (set : Set) (story : List Entry) (x : Row) → IsCompiled set → IsLegal set story
+    → running set (state_of set story).rows ≡ Some x
     → IsReached (state_of set story) x.job.tx.0 x.job.serial
 behind_running set story x ok legal is =
     let s = state_of set story in
@@ -210,7 +224,8 @@ behind_running set story x ok legal is =
     }
 
 -- the running job's serial is none that comes before
-pub running_past : (set : Set) (story : List Entry) (x : Row) (k : ℕ) → IsCompiled set → IsLegal set story → running set (state_of set story).rows ≡ Some x
+pub running_past : (set : Set) (story : List Entry) (x : Row) (k : ℕ) → IsCompiled set → IsLegal set story
+    → running set (state_of set story).rows ≡ Some x
     → IsReached (state_of set story) x.job.tx.0 k → k ≤ x.job.serial
 running_past set story x k ok legal is h =
     let s = state_of set story in

@@ -1,8 +1,8 @@
 -- A run under way: how it begins, goes on by a turn, fits into the room, and ends.
-use Rattle.std.proofs.Common.{◌≡◌, ◌≢◌, ◌⊎◌, ℕ, zero, suc, ◌+◌, ◌<◌, ◌≤◌, ◌==◌, Bool, true, false, cond, List, [], ◌∷◌, ◌++◌, length, map, Option, None, Some, get_or, refl, ap, sym, ◌∙◌, subst, inl, inr, arith, append_assoc, length-append}
+use Rattle.std.proofs.Common.{◌≡◌, ◌≢◌, ◌⊎◌, ℕ, zero, suc, ◌+◌, ◌<◌, ◌≤◌, Bool, true, false, cond, List, [], ◌∷◌, ◌++◌, length, map, Option, None, Some, get_or, refl, ap, sym, ◌∙◌, subst, inl, inr, arith, append_assoc, length-append}
 use Rattle.std.proofs.lemmas.List.{append-nil}
-use Rattle.std.proofs.lemmas.Bool.{cases_eq, eq-eqb, ne_eqb}
-use Rattle.std.specs.Option.{option_map, option_and_then}
+use Rattle.std.proofs.lemmas.Bool.{eq-eqb, ne_eqb}
+use Rattle.std.specs.Option.{option_map}
 use Rattle.rt_base.specs.declared.ids.TxId.{TxId}
 use Rattle.rt_base.specs.declared.ids.JobId.{JobId}
 use Rattle.rt_base.specs.declared.operation.Op.{Op}
@@ -17,12 +17,12 @@ use Rattle.step_journal.specs.Instant.{arrived}
 use Rattle.step_journal.specs.Step.{Event, plan, ask, idle, may_ask, next_tick, idled, step}
 use Rattle.step_journal.specs.History.{event_of, entry_given, IsLegalEntry, IsLegal, state_of}
 use Rattle.step_journal.specs.Serial.{outcomes_of}
-use Rattle.board.specs.Stories.{IsStory, running_of}
+use Rattle.board.specs.Stories.{IsStory}
 use Rattle.counting_laws.specs.Counting.{plans_in, plan_count, room_of_jobs}
 use Rattle.counting_laws.proofs.CountingAll.{entries_few}
 use Rattle.history_laws.proofs.Never.{never_stuck}
 use Rattle.sim_history.specs.Sim.{Body, Workload, IsAsked, IsScriptRun, IsFixed, IsSim, plans, plans_from, next_event, event_for, event_in, op_asked}
-use Rattle.sim_run.specs.Workloads.{ticks_of, workload, AreAccepted, ObeysAt}
+use Rattle.sim_run.specs.Workloads.{ticks_of, workload, ObeysAt}
 use Rattle.sim_run.specs.Turns.{IsFollowing, IsUnderWay, IsTurned, job_of}
 use Rattle.sim_run.proofs.Histories.{legal_next}
 use Rattle.sim_run.proofs.Asks.{asked_entry, asked_legal}
@@ -79,12 +79,15 @@ nothing_kept set room first (e ∷ es) is = absurd (let c : first + length (e �
 pub first_zero : (set : Set) (room first : ℕ) (kept : List Entry) → IsStory set room first kept [] → first ≡ 0
 first_zero set room first kept is = let c : first + length kept ≡ 0 = is.counted in omega arith
 
-pub begins : (w : Workload) (story start : List Entry) → story ≡ start ++ plans_from 0 w.releases → start ≡ [] → IsUnderWay w story
+pub begins : (w : Workload) (story start : List Entry) → story ≡ start ++ plans_from 0 w.releases → start ≡ []
+    → IsUnderWay w story
 begins w story start h none =
     let is : story ≡ plans w = h ∙ ap (λ (l : List Entry). l ++ plans_from 0 w.releases) none in
     record { script_run = subst (IsScriptRun w) (sym is) (plans_run w); rest = []; begins = is ∙ sym (append-nil (plans w)); fixed = tt }
 
-pub follows_first : (stands : ℕ → List Outcome → Type 0) (set : Set) (story start : List Entry) (releases : List (List ℕ)) (tx serial : ℕ) → story ≡ start ++ plans_from 0 releases → start ≡ [] → serial ≡ 0 → stands 0 []
+pub follows_first : (stands : ℕ → List Outcome → Type 0) (set : Set) (story start : List Entry)
+    (releases : List (List ℕ)) (tx serial : ℕ) → story ≡ start ++ plans_from 0 releases → start ≡ [] → serial ≡ 0
+    → stands 0 []
     → IsFollowing stands set story tx serial
 follows_first stands set story start releases tx serial h none first begun =
     let is : story ≡ plans_from 0 releases = h ∙ ap (λ (l : List Entry). l ++ plans_from 0 releases) none in
@@ -97,7 +100,8 @@ follows_first stands set story start releases tx serial h none first begun =
 
 -- how a run goes on
 
-split_last : (story : List Entry) (e : Entry) (before : List Entry) (x : Entry) (after : List Entry) → story ++ e ∷ [] ≡ before ++ x ∷ after
+split_last : (story : List Entry) (e : Entry) (before : List Entry) (x : Entry) (after : List Entry)
+    → story ++ e ∷ [] ≡ before ++ x ∷ after
     → ((story ≡ before) × (e ≡ x)) ⊎ ((rest : List Entry) × (story ≡ before ++ x ∷ rest))
 split_last [] e [] x after h = inl (refl, cc)
 split_last [] e (b ∷ []) x after h = absurd cc
@@ -111,30 +115,35 @@ split_last (s ∷ ss) e (b ∷ bs) x after h =
       | inr more ↦ inr (more.0, ap (λ (y : Entry). y ∷ ss) head ∙ ap (λ (l : List Entry). b ∷ l) more.1)
     ]
 
-script_more : (w : Workload) (story : List Entry) (e : Entry) → IsScriptRun w story → IsAsked w story e → IsScriptRun w (story ++ e ∷ [])
+script_more : (w : Workload) (story : List Entry) (e : Entry) → IsScriptRun w story → IsAsked w story e
+    → IsScriptRun w (story ++ e ∷ [])
 script_more w story e run asked = λ before after x h. elim (split_last story e before x after h) [
   | inl last ↦ subst (IsAsked w before) last.1 (subst (λ (l : List Entry). IsAsked w l e) last.0 asked)
   | inr more ↦ run before more.0 x more.1
 ]
 
-fixed_more : (w : Workload) (before rest : List Entry) (e : Entry) → IsFixed w before rest → next_event w (before ++ rest) ≡ Some (event_of e) → IsFixed w before (rest ++ e ∷ [])
+fixed_more : (w : Workload) (before rest : List Entry) (e : Entry) → IsFixed w before rest
+    → next_event w (before ++ rest) ≡ Some (event_of e) → IsFixed w before (rest ++ e ∷ [])
 fixed_more w before [] e h next = (ap (next_event w) (sym (append-nil before)) ∙ next, tt)
 fixed_more w before (x ∷ rest) e h next = (h.0, fixed_more w (before ++ x ∷ []) rest e h.1 (ap (next_event w) (append_assoc before (x ∷ []) rest) ∙ next))
 
-asked_at : (w : Workload) (story : List Entry) (s : State) (o : Option Row) (job : JobId) (op : Op) → event_for w story s o ≡ Some (ask job op) → op ≡ op_asked w story job
+asked_at : (w : Workload) (story : List Entry) (s : State) (o : Option Row) (job : JobId) (op : Op)
+    → event_for w story s o ≡ Some (ask job op) → op ≡ op_asked w story job
 asked_at w story s (Some row) job op h = let same : row.job ≡ job = cc in let is : op_asked w story row.job ≡ op = cc in sym is ∙ ap (op_asked w story) same
 asked_at w story s None job op h = none_asked s.planned h where
   none_asked : (planned : List Release) → event_in planned ≡ Some (ask job op) → op ≡ op_asked w story job
   none_asked [] h = absurd cc
   none_asked (r ∷ rs) h = absurd cc
 
-entry_asked : (w : Workload) (story : List Entry) (e : Entry) → next_event w story ≡ Some (event_of e) → IsAsked w story e
+entry_asked : (w : Workload) (story : List Entry) (e : Entry) → next_event w story ≡ Some (event_of e)
+    → IsAsked w story e
 entry_asked w story (Planned tx tick) h = tt
 entry_asked w story (Step job op outcome over tick) h = asked_at w story (state_of w.set story) (running w.set (state_of w.set story).rows) job op h
 entry_asked w story (Blocked job op by ceiling tick) h = asked_at w story (state_of w.set story) (running w.set (state_of w.set story).rows) job op h
 entry_asked w story (Idle from to) h = tt
 
-pub goes_on : (w : Workload) (story after : List Entry) (e : Entry) → IsUnderWay w story → next_event w story ≡ Some (event_of e) → after ≡ story ++ e ∷ [] → IsUnderWay w after
+pub goes_on : (w : Workload) (story after : List Entry) (e : Entry) → IsUnderWay w story
+    → next_event w story ≡ Some (event_of e) → after ≡ story ++ e ∷ [] → IsUnderWay w after
 goes_on w story after e u next is = record {
   script_run = subst (IsScriptRun w) (sym is) (script_more w story e u.script_run (entry_asked w story e next));
   rest = u.rest ++ e ∷ [];
@@ -143,8 +152,10 @@ goes_on w story after e u next is = record {
 }
 
 -- a turn of a workload with other releases is one of this
-pub goes_by : (w : Workload) (set : Set) (bodies bodies' : List Body) (releases : List (List ℕ)) (story after : List Entry) (result : Bool) → w ≡ workload set bodies releases → bodies' ≡ bodies → result ≡ true
-    → (set' : Set) → set' ≡ set → IsTurned (workload set' bodies' []) story result after → IsUnderWay w story → IsUnderWay w after
+pub goes_by : (w : Workload) (set : Set) (bodies bodies' : List Body) (releases : List (List ℕ))
+    (story after : List Entry) (result : Bool) → w ≡ workload set bodies releases → bodies' ≡ bodies → result ≡ true
+    → (set' : Set) → set' ≡ set → IsTurned (workload set' bodies' []) story result after → IsUnderWay w story
+    → IsUnderWay w after
 goes_by w set bodies bodies' releases story after result is same went set' sets turned u =
     let t : IsTurned (workload set bodies []) story true after = subst (λ (b : Bool). IsTurned (workload set bodies []) story b after) went
     (subst (λ (l : List Body). IsTurned (workload set l []) story result after) same (subst (λ (q : Set). IsTurned (workload q bodies' []) story result after) sets turned)) in
@@ -170,7 +181,8 @@ count_before tx n [] lt = refl
 count_before tx n (ticks ∷ rest) lt =
     omega (arith, count_append (map (Planned (record { 0 = tx })) ticks) (plans_from (tx + 1) rest) n, count_there tx n ticks (λ e. omega (arith, e, lt)), count_before (tx + 1) n rest (omega (arith, lt)))
 
-count_plans : (tx n k : ℕ) (releases : List (List ℕ)) → n ≡ tx + k → plan_count (plans_from tx releases) n ≡ length (get_or releases k [])
+count_plans : (tx n k : ℕ) (releases : List (List ℕ)) → n ≡ tx + k
+    → plan_count (plans_from tx releases) n ≡ length (get_or releases k [])
 count_plans tx n k [] e = refl
 count_plans tx n zero (ticks ∷ rest) e =
     let same : n ≡ tx = omega (arith, e) in
@@ -180,14 +192,16 @@ count_plans tx n (suc k) (ticks ∷ rest) e =
     omega (arith, count_append (map (Planned (record { 0 = tx })) ticks) (plans_from (tx + 1) rest) n, count_there tx n ticks (λ same. omega (arith, e, same)), count_plans (tx + 1) n k rest (omega (arith, e)))
 
 -- an entry of a fixed event is no plan
-no_plan_at : (w : Workload) (story : List Entry) (s : State) (o : Option Row) (tx tick : ℕ) → event_for w story s o ≡ Some (plan tx tick) → ⊥
+no_plan_at : (w : Workload) (story : List Entry) (s : State) (o : Option Row) (tx tick : ℕ)
+    → event_for w story s o ≡ Some (plan tx tick) → ⊥
 no_plan_at w story s (Some row) tx tick h = cc
 no_plan_at w story s None tx tick h = none_planned s.planned h where
   none_planned : (planned : List Release) → event_in planned ≡ Some (plan tx tick) → ⊥
   none_planned [] h = cc
   none_planned (r ∷ rs) h = cc
 
-no_plan : (w : Workload) (story : List Entry) (e : Entry) (n : ℕ) → next_event w story ≡ Some (event_of e) → plans_in n e ≡ 0
+no_plan : (w : Workload) (story : List Entry) (e : Entry) (n : ℕ) → next_event w story ≡ Some (event_of e)
+    → plans_in n e ≡ 0
 no_plan w story (Planned tx tick) n h = absurd (no_plan_at w story (state_of w.set story) (running w.set (state_of w.set story).rows) tx.0 tick h)
 no_plan w story (Step job op outcome over tick) n h = refl
 no_plan w story (Blocked job op by ceiling tick) n h = refl
@@ -197,12 +211,14 @@ count_fixed : (w : Workload) (before rest : List Entry) (n : ℕ) → IsFixed w 
 count_fixed w before [] n h = refl
 count_fixed w before (e ∷ rest) n h = omega (arith, no_plan w before e n h.0, count_fixed w (before ++ e ∷ []) rest n h.1)
 
-way_count : (w : Workload) (story : List Entry) (n : ℕ) → IsUnderWay w story → plan_count story n ≡ length (ticks_of w.releases n)
+way_count : (w : Workload) (story : List Entry) (n : ℕ) → IsUnderWay w story
+    → plan_count story n ≡ length (ticks_of w.releases n)
 way_count w story n u =
     ap (λ (l : List Entry). plan_count l n) u.begins
     ∙ omega (arith, count_append (plans w) u.rest n, count_fixed w (plans w) u.rest n u.fixed, count_plans 0 n n w.releases (omega arith))
 
-pub way_fits : (w : Workload) (story : List Entry) → IsCompiled w.set → IsLegal w.set story → IsUnderWay w story → length story ≤ room_of_jobs w.set.txns (λ n. length (ticks_of w.releases n))
+pub way_fits : (w : Workload) (story : List Entry) → IsCompiled w.set → IsLegal w.set story → IsUnderWay w story
+    → length story ≤ room_of_jobs w.set.txns (λ n. length (ticks_of w.releases n))
 way_fits w story ok legal u = (entries_few w.set story ok legal).jobs (λ n. length (ticks_of w.releases n)) (λ n lt. omega (arith, way_count w story n u))
 
 -- the event that the state fixes has an entry
@@ -212,7 +228,9 @@ pub record HasEntry (set : Set) (story : List Entry) (event : Event) : Type 0 wh
   pub is : event_of entry ≡ event
   pub legal : IsLegalEntry set (state_of set story) entry
 
-idle_some : (set : Set) (story : List Entry) (planned : List Release) (o : Option ℕ) → pending (state_of set story).rows ≡ [] → (state_of set story).planned ≡ planned → next_tick planned ≡ o → o ≢ None → HasEntry set story idle
+idle_some : (set : Set) (story : List Entry) (planned : List Release) (o : Option ℕ)
+    → pending (state_of set story).rows ≡ [] → (state_of set story).planned ≡ planned → next_tick planned ≡ o → o ≢ None
+    → HasEntry set story idle
 unfolding step
 idle_some set story planned None none is e ne = absurd (ne refl)
 idle_some set story planned (Some t) none is e ne = record {
@@ -225,14 +243,17 @@ idle_some set story planned (Some t) none is e ne = record {
 some_event : (a b : Event) → Some a ≡ Some b → a ≡ b
 some_event a b e = cc
 
-idle_entry_for : (set : Set) (story : List Entry) (planned : List Release) (event : Event) → pending (state_of set story).rows ≡ [] → (state_of set story).planned ≡ planned → event_in planned ≡ Some event → HasEntry set story event
+idle_entry_for : (set : Set) (story : List Entry) (planned : List Release) (event : Event)
+    → pending (state_of set story).rows ≡ [] → (state_of set story).planned ≡ planned → event_in planned ≡ Some event
+    → HasEntry set story event
 idle_entry_for set story [] event none is h = absurd cc
 idle_entry_for set story (r ∷ rs) event none is h = subst (HasEntry set story) (some_event idle event h) (idle_some set story (r ∷ rs) (next_tick (r ∷ rs)) none is refl (λ e. cc))
 
 job_same : (x y : Row) → Some x ≡ Some y → x.job ≡ y.job
 job_same x y e = let same : x ≡ y = cc in ap (λ (q : Row). q.job) same
 
-entry_for : (w : Workload) (story : List Entry) (o : Option Row) (event : Event) → IsCompiled w.set → IsLegal w.set story → ObeysAt w story → running w.set (state_of w.set story).rows ≡ o
+entry_for : (w : Workload) (story : List Entry) (o : Option Row) (event : Event) → IsCompiled w.set
+    → IsLegal w.set story → ObeysAt w story → running w.set (state_of w.set story).rows ≡ o
     → event_for w story (state_of w.set story) o ≡ Some event → HasEntry w.set story event
 entry_for w story (Some row) event ok legal obeys runs h =
     let op : Op = op_asked w story row.job in
@@ -241,7 +262,8 @@ entry_for w story (Some row) event ok legal obeys runs h =
     subst (HasEntry w.set story) (some_event (ask row.job op) event h) (record { entry = a.entry; is = a.event; legal = asked_legal w.set (state_of w.set story) row.job op a })
 entry_for w story None event ok legal obeys runs h = idle_entry_for w.set story (state_of w.set story).planned event ((never_stuck w.set story ok legal).runs runs) refl h
 
-pub room_left : (w : Workload) (story : List Entry) (room : ℕ) (event : Event) → IsCompiled w.set → IsLegal w.set story → ObeysAt w story → IsUnderWay w story → room_of_jobs w.set.txns (λ n. length (ticks_of w.releases n)) ≤ room
+pub room_left : (w : Workload) (story : List Entry) (room : ℕ) (event : Event) → IsCompiled w.set → IsLegal w.set story
+    → ObeysAt w story → IsUnderWay w story → room_of_jobs w.set.txns (λ n. length (ticks_of w.releases n)) ≤ room
     → next_event w story ≡ Some event → length story < room
 room_left w story room event ok legal obeys u le next =
     let h = entry_for w story (running w.set (state_of w.set story).rows) event ok legal obeys refl next in
@@ -250,22 +272,30 @@ room_left w story room event ok legal obeys u le next =
     omega (arith, fits, le, length-append story (h.entry ∷ []))
 
 -- the same where the set and the bodies are those of now
-pub room_by : (set set' : Set) (bodies bodies' : List Body) (releases : List (List ℕ)) (story : List Entry) (room room' : ℕ) (event : Event) → set' ≡ set → bodies' ≡ bodies → room' ≡ room → IsCompiled set' → IsLegal set' story
-    → (IsLegal set story → IsScriptRun (workload set bodies releases) story → ObeysAt (workload set bodies releases) story) → IsUnderWay (workload set bodies releases) story
-    → room_of_jobs set.txns (λ n. length (ticks_of releases n)) ≤ room → next_event (workload set' bodies' []) story ≡ Some event → length story < room'
+pub room_by : (set set' : Set) (bodies bodies' : List Body) (releases : List (List ℕ)) (story : List Entry)
+    (room room' : ℕ) (event : Event) → set' ≡ set → bodies' ≡ bodies → room' ≡ room → IsCompiled set'
+    → IsLegal set' story
+    → (IsLegal set story → IsScriptRun (workload set bodies releases) story → ObeysAt (workload set bodies releases) story)
+    → IsUnderWay (workload set bodies releases) story
+    → room_of_jobs set.txns (λ n. length (ticks_of releases n)) ≤ room
+    → next_event (workload set' bodies' []) story ≡ Some event → length story < room'
 room_by set set' bodies bodies' releases story room room' event es eb er ok legal obeys u le next =
     let l : IsLegal set story = subst (λ (q : Set). IsLegal q story) es legal in
     let n : next_event (workload set bodies releases) story ≡ Some event = ap (λ (q : Set). next_event (workload q bodies releases) story) (sym es) ∙ (ap (λ (b : List Body). next_event (workload set' b releases) story) (sym eb) ∙ next) in
     omega (arith, room_left (workload set bodies releases) story room event (subst IsCompiled es ok) l (obeys l u.script_run) u le n, er)
 
-pub plans_room : (set : Set) (releases : List (List ℕ)) (bodies : List Body) (start : List Entry) (room : ℕ) → IsCompiled set → IsLegal set (plans_from 0 releases) → start ≡ [] → room_of_jobs set.txns (λ n. length (ticks_of releases n)) ≤ room
+pub plans_room : (set : Set) (releases : List (List ℕ)) (bodies : List Body) (start : List Entry) (room : ℕ)
+    → IsCompiled set → IsLegal set (plans_from 0 releases) → start ≡ []
+    → room_of_jobs set.txns (λ n. length (ticks_of releases n)) ≤ room
     → length start + length (plans_from 0 releases) ≤ room
 plans_room set releases bodies start room ok legal none le =
     omega (arith, way_fits (workload set bodies releases) (plans_from 0 releases) ok legal (begins (workload set bodies releases) (plans_from 0 releases) [] refl refl), le, ap (λ (l : List Entry). length l) none)
 
 -- how a run ends
-pub ended : (set set' : Set) (bodies bodies' : List Body) (releases : List (List ℕ)) (story after : List Entry) (result : Bool) → set' ≡ set → result ≡ false → IsLegal set' story
-    → IsTurned (workload set' bodies' []) story result after → IsUnderWay (workload set bodies releases) story → IsSim (workload set bodies releases) after
+pub ended : (set set' : Set) (bodies bodies' : List Body) (releases : List (List ℕ)) (story after : List Entry)
+    (result : Bool) → set' ≡ set → result ≡ false → IsLegal set' story
+    → IsTurned (workload set' bodies' []) story result after → IsUnderWay (workload set bodies releases) story
+    → IsSim (workload set bodies releases) after
 ended set set' bodies bodies' releases story after result es over legal turned u =
     let t : IsTurned (workload set' bodies' []) story false after = subst (λ (b : Bool). IsTurned (workload set' bodies' []) story b after) over turned in
     subst (IsSim (workload set bodies releases)) (sym t.0) (record {

@@ -1,9 +1,7 @@
 //! The run of a workload on one board and one thread.
 #![tactic(auto)]
 
-ghost use Rattle.std.specs.Prelude.{◌≡◌, ◌≢◌, ℕ, ◌+◌, ◌<◌, ◌≤◌, List, [], ◌++◌, Some, map, length, true, slice_get, replicate};
-ghost use Rattle.rt_base.specs.declared.ids.TxId.{TxId as Tx};
-ghost use Rattle.step_journal.specs.declared.entry.Entry.{Entry as Noted};
+ghost use Rattle.std.specs.Prelude.{◌≡◌, ◌≢◌, ℕ, ◌+◌, ◌<◌, ◌≤◌, [], ◌++◌, Some, map, length, slice_get};
 ghost use Rattle.step_journal.specs.declared.entry.Entry.TheVariants.{Planned};
 ghost use Rattle.step_journal.specs.Step.{Event, ask as asking};
 ghost use Rattle.step_journal.specs.History.{IsLegal};
@@ -15,7 +13,7 @@ ghost use Rattle.sim_run.specs.Workloads.{workload, ticks_of, AreAccepted, Obeys
 ghost use Rattle.sim_run.specs.Turns.{IsFollowing, AreFollowing, MayAsk, IsNoted, IsTurned};
 
 use board::{Board, IdleReply, StepReply};
-use rt_base::{JobId, List as Ticks, Tick, TxId};
+use rt_base::{JobId, List, Tick, TxId};
 use step_script::Body;
 
 // Lets the body begin the job with this serial, unless it has.
@@ -39,10 +37,12 @@ fn ask<B: Board, Y: Body>(board: &mut B, body: &mut Y, serial: &mut u32, job: Jo
     requires may { MayAsk (B.set board.old) (B.kept board.old) (Y.gives body.old) }
     requires follows { IsFollowing (Y.stands body.old) (B.set board.old) (B.kept board.old) job.tx.0 serial.old }
     requires room { length (B.kept board.old) < B.room board.old }
-    ensures asked { IsNoted (asking job (Y.gives body.old job.serial (outcomes_of (B.kept board.old) job))) (B.kept board.old) (B.kept board.new) }
+    ensures asked { let op = Y.gives body.old job.serial (outcomes_of (B.kept board.old) job) in
+        IsNoted (asking job op) (B.kept board.old) (B.kept board.new) }
     ensures stands { B.stands board.new (B.kept board.new) }
     ensures follows { IsFollowing (Y.stands body.new) (B.set board.old) (B.kept board.new) job.tx.0 serial.new }
-    ensures fixed { (B.set board.new ≡ B.set board.old) × (B.room board.new ≡ B.room board.old) × (B.first board.new ≡ B.first board.old) }
+    ensures fixed { (B.set board.new ≡ B.set board.old) × (B.room board.new ≡ B.room board.old) ×
+        (B.first board.new ≡ B.first board.old) }
     ensures same { Y.gives body.new ≡ Y.gives body.old }
 {
     begin_new(body, serial, job.serial);
@@ -54,18 +54,24 @@ fn ask<B: Board, Y: Body>(board: &mut B, body: &mut Y, serial: &mut u32, job: Jo
     }
 }
 
-// The event that the state fixes: the running job's step, or idling. False where nothing is pending and nothing planned.
+// The event that the state fixes: the step of the running job, or idling. False where nothing is pending and nothing
+// planned.
 fn turn<B: Board, Y: Body>(board: &mut B, bodies: &mut [Y], serials: &mut [u32]) -> bool
     requires stands { B.stands board.old (B.kept board.old) }
     requires first { B.first board.old ≡ 0 }
-    requires each { (length bodies.old ≡ length (B.set board.old).txns) × (length serials.old ≡ length (B.set board.old).txns) }
+    requires each { (length bodies.old ≡ length (B.set board.old).txns) ×
+        (length serials.old ≡ length (B.set board.old).txns) }
     requires may { ObeysAt (workload (B.set board.old) (map Y.gives bodies.old) []) (B.kept board.old) }
     requires follows { AreFollowing Y.stands (B.set board.old) (B.kept board.old) bodies.old serials.old }
-    requires room { (event : Event) → next_event (workload (B.set board.old) (map Y.gives bodies.old) []) (B.kept board.old) ≡ Some event → length (B.kept board.old) < B.room board.old }
-    ensures turned { IsTurned (workload (B.set board.old) (map Y.gives bodies.old) []) (B.kept board.old) result (B.kept board.new) }
+    requires room { let w = workload (B.set board.old) (map Y.gives bodies.old) [] in
+        (event : Event) → next_event w (B.kept board.old) ≡ Some event →
+        length (B.kept board.old) < B.room board.old }
+    ensures turned { let w = workload (B.set board.old) (map Y.gives bodies.old) [] in
+        IsTurned w (B.kept board.old) result (B.kept board.new) }
     ensures stands { B.stands board.new (B.kept board.new) }
     ensures follows { AreFollowing Y.stands (B.set board.old) (B.kept board.new) bodies.new serials.new }
-    ensures fixed { (B.set board.new ≡ B.set board.old) × (B.room board.new ≡ B.room board.old) × (B.first board.new ≡ B.first board.old) }
+    ensures fixed { (B.set board.new ≡ B.set board.old) × (B.room board.new ≡ B.room board.old) ×
+        (B.first board.new ≡ B.first board.old) }
     ensures same { map Y.gives bodies.new ≡ map Y.gives bodies.old }
 {
     match board.running() {
@@ -91,7 +97,8 @@ fn plan_each<B: Board>(board: &mut B, tx: TxId, ticks: &[Tick])
     requires room { length (B.kept board.old) + length ticks.now ≤ B.room board.old }
     ensures planned { B.kept board.new ≡ B.kept board.old ++ map (Planned tx) ticks.now }
     ensures stands { B.stands board.new (B.kept board.new) }
-    ensures fixed { (B.set board.new ≡ B.set board.old) × (B.room board.new ≡ B.room board.old) × (B.first board.new ≡ B.first board.old) }
+    ensures fixed { (B.set board.new ≡ B.set board.old) × (B.room board.new ≡ B.room board.old) ×
+        (B.first board.new ≡ B.first board.old) }
 {
     for tick in ticks {
         let Ok(_) = board.plan(tx, *tick) else {
@@ -101,7 +108,7 @@ fn plan_each<B: Board>(board: &mut B, tx: TxId, ticks: &[Tick])
 }
 
 // Plans all releases, by transaction and then by index.
-fn plan_all<B: Board>(board: &mut B, releases: &[Ticks<Tick>])
+fn plan_all<B: Board>(board: &mut B, releases: &[List<Tick>])
     requires stands { B.stands board.old (B.kept board.old) }
     requires first { B.first board.old ≡ 0 }
     requires each { length releases.now ≡ length (B.set board.old).txns }
@@ -109,7 +116,8 @@ fn plan_all<B: Board>(board: &mut B, releases: &[Ticks<Tick>])
     requires room { length (B.kept board.old) + length (plans_from 0 releases.now) ≤ B.room board.old }
     ensures planned { B.kept board.new ≡ B.kept board.old ++ plans_from 0 releases.now }
     ensures stands { B.stands board.new (B.kept board.new) }
-    ensures fixed { (B.set board.new ≡ B.set board.old) × (B.room board.new ≡ B.room board.old) × (B.first board.new ≡ B.first board.old) }
+    ensures fixed { (B.set board.new ≡ B.set board.old) × (B.room board.new ≡ B.room board.old) ×
+        (B.first board.new ≡ B.first board.old) }
 {
     for (tx, ticks) in releases.iter().enumerate() {
         plan_each(board, TxId(tx as u32), ticks.as_slice());
@@ -119,7 +127,9 @@ fn plan_all<B: Board>(board: &mut B, releases: &[Ticks<Tick>])
 // Lets each body begin with the serial 0.
 fn begin_all<Y: Body>(bodies: &mut [Y], serials: &mut [u32])
     requires { length serials.old ≡ length bodies.old }
-    ensures begun { (tx : ℕ) (body : _) (serial : ℕ) → slice_get bodies.new tx ≡ Some body → slice_get serials.new tx ≡ Some serial → (serial ≡ 0) × Y.stands body 0 [] }
+    ensures begun { (tx : ℕ) (body : _) (serial : ℕ) →
+        slice_get bodies.new tx ≡ Some body → slice_get serials.new tx ≡ Some serial →
+        (serial ≡ 0) × Y.stands body 0 [] }
     ensures same { map Y.gives bodies.new ≡ map Y.gives bodies.old }
 {
     for tx in 0..bodies.len() {
@@ -128,17 +138,23 @@ fn begin_all<Y: Body>(bodies: &mut [Y], serials: &mut [u32])
     }
 }
 
-/// Plans every release, then lets the running job ask for its body's operation, and idles where nothing is pending, until
-/// nothing is pending and nothing is planned.
-pub fn run<B: Board, Y: Body>(board: &mut B, bodies: &mut [Y], serials: &mut [u32], releases: &[Ticks<Tick>])
+/// Runs a workload on a board that has no history yet: plans every release, by transaction and then by index; then lets
+/// the running job ask for its body's operation, and idles where nothing is pending, until nothing is pending and
+/// nothing is planned. The board then keeps the run of the workload, of which there is one. Releases are in ticks.
+/// `bodies`, `serials` and `releases` have a place for each transaction of the board's set. What stands in `serials`
+/// and in the bodies before does not matter, since each body begins anew. It takes no memory, and makes at most two
+/// calls of the board for each entry, and two at the end.
+pub fn run<B: Board, Y: Body>(board: &mut B, bodies: &mut [Y], serials: &mut [u32], releases: &[List<Tick>])
     requires opened { B.stands board.old [] }
-    requires each { (length bodies.old ≡ length (B.set board.old).txns) × (length serials.old ≡ length (B.set board.old).txns) }
+    requires each { (length bodies.old ≡ length (B.set board.old).txns) ×
+        (length serials.old ≡ length (B.set board.old).txns) }
     requires accepted { AreAccepted (B.set board.old) releases.now }
     requires obedient { IsObedient (workload (B.set board.old) (map Y.gives bodies.old) releases.now) }
     requires room { room_of_jobs (B.set board.old).txns (λ tx. length (ticks_of releases.now tx)) ≤ B.room board.old }
     ensures run { IsSim (workload (B.set board.old) (map Y.gives bodies.old) releases.now) (B.kept board.new) }
     ensures stands { B.stands board.new (B.kept board.new) }
-    ensures fixed { (B.set board.new ≡ B.set board.old) × (B.room board.new ≡ B.room board.old) × (B.first board.new ≡ B.first board.old) }
+    ensures fixed { (B.set board.new ≡ B.set board.old) × (B.room board.new ≡ B.room board.old) ×
+        (B.first board.new ≡ B.first board.old) }
     ensures same { map Y.gives bodies.new ≡ map Y.gives bodies.old }
 {
     plan_all(board, releases);

@@ -1,7 +1,5 @@
-use Rattle.std.proofs.Common.{◌≡◌, List, sym, ap, subst, ◌∙◌}
-use Rattle.rt_base.specs.declared.operation.Outcome.{Outcome}
+use Rattle.std.proofs.Common.{sym, subst, ◌∙◌}
 use Rattle.step_journal.specs.Serial.{outcomes_of}
-use Rattle.board.specs.Stories.{IsStory, noted, step_entry, now_of}
 use Rattle.sim_run.specs.Turns.{IsFollowing}
 use Rattle.sim_run.proofs.Asks.{job_in_set, answer_stands, kept_more, after_answer, turn_done_follows, turn_blocked_follows}
 use Rattle.sim_run.proofs.ask.Goals as goal

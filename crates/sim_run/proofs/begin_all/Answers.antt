@@ -1,4 +1,4 @@
-use Rattle.std.proofs.Common.{◌≡◌, ◌<◌, [], length, arith, ap, ◌∙◌}
+use Rattle.std.proofs.Common.{◌<◌, [], length, arith, ◌∙◌}
 use Rattle.std.proofs.lemmas.Option.{slice_get_within}
 use Rattle.sim_run.proofs.Turns.{begun_more, map_set_same}
 use Rattle.sim_run.proofs.begin_all.Goals as goal

@@ -1,11 +1,11 @@
-use Rattle.std.proofs.Common.{◌≡◌, ◌≤◌, ◌+◌, [], ◌++◌, length, map, sym, ap, subst, ◌∙◌, true, false, refl, arith}
+use Rattle.std.proofs.Common.{[], ◌++◌, map, sym, subst, ◌∙◌, refl}
 use Rattle.txn_set.specs.Set.{Set}
 use Rattle.step_journal.specs.History.{IsLegal}
 use Rattle.sim_history.specs.Sim.{plans_from}
 use Rattle.sim_run.specs.Workloads.{workload}
 use Rattle.sim_run.specs.Turns.{AreFollowing}
 use Rattle.sim_run.proofs.Planning.{releases_legal}
-use Rattle.sim_run.proofs.Runs.{nothing_kept, begins, follows_first, goes_by, room_by, plans_room, ended}
+use Rattle.sim_run.proofs.Runs.{nothing_kept, begins, follows_first, goes_by, room_by, plans_room}
 use Rattle.sim_run.proofs.run.Goals as goal
 
 pub plan_all-requires-clause-legal : goal.plan_all-requires-clause-legal

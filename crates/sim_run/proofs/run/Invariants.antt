@@ -1,4 +1,4 @@
-use Rattle.std.proofs.Common.{◌≡◌, ℕ, ◌-◌, List, map, length}
+use Rattle.std.proofs.Common.{◌≡◌, ◌-◌, map, length}
 use Rattle.sim_run.specs.Workloads.{workload}
 use Rattle.sim_run.specs.Turns.{AreFollowing, IsUnderWay}
 use Rattle.sim_run.proofs.run.Given as goal
@@ -9,7 +9,7 @@ invariant-loop g l = record {
   stands : g.B.Board.stands l.board (g.B.Board.kept l.board);
   follows : AreFollowing g.Y.Body.stands (g.B.Board.set l.fn.board) (g.B.Board.kept l.board) l.bodies l.serials;
   fixed : (g.B.Board.set l.board ≡ g.B.Board.set l.fn.board) × (g.B.Board.room l.board ≡ g.B.Board.room l.fn.board) × (g.B.Board.first l.board ≡ g.B.Board.first l.fn.board);
-  same : map g.Y.Body.gives l.bodies ≡ map g.Y.Body.gives l.fn.bodies
+  same : map g.Y.Body.gives l.bodies ≡ map g.Y.Body.gives l.fn.bodies;
 }
 
 abbrev pub decreases-loop : goal.decreases-loop

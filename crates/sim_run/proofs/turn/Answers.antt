@@ -1,4 +1,4 @@
-use Rattle.std.proofs.Common.{rules, ◌≡◌, ℕ, ◌<◌, List, [], ◌∷◌, ◌++◌, length, map, sym, ap, subst, ◌∙◌, refl, arith, inl, inr, slice_index_or}
+use Rattle.std.proofs.Common.{rules, ◌<◌, List, [], length, map, sym, ap, subst, ◌∙◌, arith, inl, inr, slice_index_or}
 use Rattle.board.specs.Stories.{noted, idle_entry, now_of}
 use Rattle.sim_run.specs.Workloads.{workload}
 use Rattle.step_journal.specs.declared.entry.Entry.{Entry}
@@ -97,8 +97,7 @@ returns-in-Nothing-clause-turned g c =
     let run = sym (c.running.ensures _ c.requires.stands) ∙ c.in-None.is in
     let answer = c.idle.ensures.answer story c.requires.stands in
     let same = kept_is _ _ _ (g.B.Board.kept c.idle.new.self) _ (c.idle.ensures.fixed.2 ∙ c.requires.first) (g.met.B.Board.is_story c.idle.new.self _ (c.idle.ensures.after story c.requires.stands)) in
-    let w = workload set (map g.Y.Body.gives c.args.bodies.now) [] in
-    (
+    let w = workload set (map g.Y.Body.gives c.args.bodies.now) [] in (
       same ∙ ap (λ r. noted story (idle_entry (now_of set story) r)) c.in-Nothing.is,
       nothing_pending set story is.compiled is.legal run,
       elim (idled w story (g.B.Board.room c.args.board.now) c.idle.result run c.requires.room answer) [
