@@ -1,0 +1,255 @@
+-- One step of the running job: what the board answers, and that the body follows.
+use Rattle.std.proofs.Common.{◌≡◌, ◌≢◌, ◌⊎◌, ℕ, ◌+◌, ◌<◌, ◌≤◌, Bool, true, false, cond, List, [], ◌∷◌, ◌++◌, length, Option, None, Some, drop, refl, ap, sym, ◌∙◌, subst, inl, inr, arith}
+use Rattle.std.proofs.lemmas.Bool.{cases_eq, eq-eqb, and_from, false_from_ne_true}
+use Rattle.std.proofs.lemmas.List.{append-nil}
+use Rattle.std.specs.Option.{option_map, option_and_then}
+use Rattle.rt_base.specs.declared.ids.JobId.{JobId}
+use Rattle.rt_base.specs.declared.operation.Op.{Op}
+use Rattle.rt_base.specs.declared.operation.Outcome.{Outcome}
+use Rattle.rt_base.specs.declared.operation.End.{End}
+use Rattle.txn_set.specs.Set.{Set, IsCompiled}
+use Rattle.item_model.specs.Work.{outcome_of}
+use Rattle.step_journal.specs.declared.entry.Entry.{Entry}
+use Rattle.step_journal.specs.declared.entry.Entry.TheVariants.{Planned, Step, Blocked, Idle}
+use Rattle.step_journal.specs.State.{State, Row, same_job}
+use Rattle.step_journal.specs.LockRule.{Above}
+use Rattle.step_journal.specs.Running.{running, of_job}
+use Rattle.step_journal.specs.Step.{Event, ask, given, may_ask, lock_refusal, with_step, end_of, answered, asked, step}
+use Rattle.step_journal.specs.History.{event_of, entry_given, state_after, IsLegalEntry, IsLegal, state_of}
+use Rattle.step_journal.specs.Serial.{outcome_in, outcomes_of}
+use Rattle.board.specs.declared.replies.StepReply.{StepReply}
+use Rattle.board.specs.declared.replies.StepReply.TheVariants as reply
+use Rattle.board.specs.Stories.{IsStory, noted, step_entry, step_answer, now_of, running_of}
+use Rattle.board.proofs.Asks.{steps_are_steps}
+use Rattle.history_laws.proofs.Invariant.{IsPending, running_is, in_range, same_job_is}
+use Rattle.history_laws.proofs.Calendar.{Sound, named_from}
+use Rattle.history_laws.proofs.Never.{legal_sound, refused_all}
+use Rattle.history_laws.proofs.Alone.{outcomes_more_in}
+use Rattle.sim_history.specs.Sim.{Body}
+use Rattle.sim_run.specs.Turns.{IsReached, IsFollowing, MayAsk, IsNoted, job_of}
+use Rattle.sim_run.proofs.Behind.{behind_after, behind_running, running_past}
+use Rattle.sim_run.proofs.Histories.{state_next}
+
+self_same : (j : JobId) → same_job j j ≡ true
+self_same j = and_from _ _ (eq-eqb j.tx.0 j.tx.0 refl) (eq-eqb j.serial j.serial refl)
+
+-- the running row
+pub record RunningRow (set : Set) (story : List Entry) (job : JobId) : Type 0 where
+  pub row : Row
+  pub runs : running set (state_of set story).rows ≡ Some row
+  pub is : row.job ≡ job
+
+row_by : (job : JobId) (o : Option Row) → option_map (λ (r : Row). r.job) o ≡ Some job → (x : Row) × (o ≡ Some x) × (x.job ≡ job)
+row_by job None h = absurd cc
+row_by job (Some x) h = (x, refl, cc)
+
+pub running_row : (set : Set) (story : List Entry) (job : JobId) → running_of set story ≡ Some job → RunningRow set story job
+running_row set story job h = let r = row_by job (running set (state_of set story).rows) h in record { row = r.0; runs = r.1; is = r.2 }
+
+pub job_in_set : (set : Set) (story : List Entry) (job : JobId) → IsCompiled set → IsLegal set story → running_of set story ≡ Some job → job.tx.0 < length set.txns
+job_in_set set story job ok legal h =
+    let r = running_row set story job h in
+    let s = state_of set story in
+    let refused : JobId → Bool = refused_all (λ _. false) story in
+    let sound = legal_sound set story ok legal in
+    let run = running_is set s.rows refused r.row (named_from set s.rows ok sound.frame) sound.protocol r.runs in
+    omega (arith, in_range s.rows r.row.job.tx.0 r.row run.here, sound.frame.count, ap (λ (j : JobId). j.tx.0) r.is)
+
+-- the step gives an entry
+
+pub record Asked (set : Set) (s : State) (job : JobId) (op : Op) : Type 0 where
+  pub entry : Entry
+  pub event : event_of entry ≡ ask job op
+  pub gives : entry_given (step set s (ask job op)) ≡ Some entry
+
+answered_event : (set : Set) (s : State) (x : Row) (op : Op) (o : Option Above) → event_of (answered set s x op o).0 ≡ ask x.job op
+answered_event set s x op None = refl
+answered_event set s x op (Some above) = refl
+
+step_given : (set : Set) (s : State) (job : JobId) (op : Op) (x : Row) → running set s.rows ≡ Some x → x.job ≡ job → may_ask set x op ≡ true
+    → step set s (ask job op) ≡ Some (answered set s x op (lock_refusal set s x op))
+unfolding step
+step_given set s job op x runs is may =
+    let own : same_job x.job job ≡ true = ap (same_job x.job) (sym is) ∙ self_same x.job in
+    ap (λ (o : Option Row). option_and_then (asked set s op) (option_and_then (of_job job) o)) runs
+    ∙ (ap (λ (b : Bool). option_and_then (asked set s op) (cond b (Some x) None)) own
+    ∙ ap (λ (b : Bool). given b (answered set s x op (lock_refusal set s x op))) may)
+
+pub asked_entry : (set : Set) (story : List Entry) (job : JobId) (op : Op) → running_of set story ≡ Some job
+    → ((row : Row) → running set (state_of set story).rows ≡ Some row → may_ask set row op ≡ true) → Asked set (state_of set story) job op
+asked_entry set story job op run may =
+    let r = running_row set story job run in
+    let s = state_of set story in
+    let a : Entry × State = answered set s r.row op (lock_refusal set s r.row op) in
+    record {
+      entry = a.0;
+      event = answered_event set s r.row op (lock_refusal set s r.row op) ∙ ap (λ (j : JobId). ask j op) r.is;
+      gives = ap entry_given (step_given set s job op r.row r.runs r.is (may r.row r.runs));
+    }
+
+pub asked_legal : (set : Set) (s : State) (job : JobId) (op : Op) (a : Asked set s job op) → IsLegalEntry set s a.entry
+asked_legal set s job op a = ap (λ (v : Event). entry_given (step set s v)) a.event ∙ a.gives
+
+-- the answer has that entry
+pub answer_entry : (set : Set) (room first : ℕ) (story : List Entry) (job : JobId) (op : Op) (r : StepReply) → IsStory set room first story story → length story < room
+    → r ≡ step_answer set story (length story) room job op → (a : Asked set (state_of set story) job op) → step_entry (now_of set story) job op r ≡ Some a.entry
+answer_entry set room first story job op r is fits e a =
+    ap (step_entry (now_of set story) job op) e ∙ (steps_are_steps set story (length story) room job op is.compiled is.legal fits ∙ a.gives)
+
+-- so it is Done or Blocked
+pub answer_stands : (now : ℕ) (job : JobId) (op : Op) (r : StepReply) (entry : Entry) → step_entry now job op r ≡ Some entry
+    → ((by : JobId) (ceiling : ℕ) → r ≡ reply.Blocked by ceiling → ⊥) → ((outcome : Outcome) (over : Option End) → r ≡ reply.Done outcome over → ⊥) → ⊥
+answer_stands now job op (reply.NoJob ended last) entry h b d = cc
+answer_stands now job op (reply.NotYet running) entry h b d = cc
+answer_stands now job op (reply.Undeclared item) entry h b d = cc
+answer_stands now job op (reply.TooEarly left) entry h b d = cc
+answer_stands now job op (reply.Unwritten item) entry h b d = cc
+answer_stands now job op (reply.Full room) entry h b d = cc
+answer_stands now job op (reply.Blocked by ceiling) entry h b d = b by ceiling refl
+answer_stands now job op (reply.Done outcome over) entry h b d = d outcome over refl
+
+-- a board that keeps its whole history keeps the new entry
+pub kept_more : (set : Set) (room first : ℕ) (kept story : List Entry) (o : Option Entry) (e : Entry) → o ≡ Some e → first ≡ 0 → IsStory set room first kept (noted story o) → kept ≡ story ++ e ∷ []
+kept_more set room first kept story o e is zero s = s.rest ∙ (ap (λ (n : ℕ). drop n (noted story o)) zero ∙ ap (noted story) is)
+
+-- the body after it began
+
+pub follows_new : (stands stands' : ℕ → List Outcome → Type 0) (set : Set) (story : List Entry) (job : JobId) (serial : ℕ) → IsCompiled set → IsLegal set story → running_of set story ≡ Some job
+    → IsFollowing stands set story job.tx.0 serial
+    → (serial ≡ job.serial → stands job.serial (outcomes_of story job) → stands' job.serial (outcomes_of story job))
+    → (serial ≢ job.serial → stands' job.serial [])
+    → IsFollowing stands' set story job.tx.0 job.serial
+follows_new stands stands' set story job serial ok legal run f kept begun =
+    let r = running_row set story job run in
+    let past : serial ≤ r.row.job.serial = running_past set story r.row serial ok legal r.runs (subst (λ (j : JobId). IsReached (state_of set story) j.tx.0 serial) (sym r.is) f.reached) in
+    let le : serial ≤ job.serial = omega (arith, past, ap (λ (j : JobId). j.serial) r.is) in
+    record {
+      told = elim (cases_eq serial job.serial) [
+        | inl e ↦ kept e (subst (λ (k : ℕ). stands k (outcomes_of story (job_of job.tx.0 k))) e f.told)
+        | inr ne ↦ subst (stands' job.serial) (sym (f.later job.serial (omega (arith, le, ne)))) (begun ne)
+      ];
+      later = λ k lt. f.later k (omega (arith, le, lt));
+      reached = subst (λ (j : JobId). IsReached (state_of set story) j.tx.0 j.serial) r.is (behind_running set story r.row ok legal r.runs);
+    }
+
+-- the outcomes after an entry
+
+other_false : (a b : JobId) → (a ≡ b → ⊥) → same_job a b ≡ false
+other_false a b h = false_from_ne_true _ (λ t. h (same_job_is a b t))
+
+pub outcomes_same : (story : List Entry) (e : Entry) (job : JobId) → outcome_in job e ≡ None → outcomes_of (story ++ e ∷ []) job ≡ outcomes_of story job
+outcomes_same story e job h = outcomes_more_in story e job None h ∙ append-nil (outcomes_of story job)
+
+step_own : (story : List Entry) (job : JobId) (op : Op) (outcome : Outcome) (over : Option End) (tick : ℕ) → outcomes_of (story ++ Step job op outcome over tick ∷ []) job ≡ outcomes_of story job ++ outcome ∷ []
+step_own story job op outcome over tick =
+    outcomes_more_in story (Step job op outcome over tick) job (Some outcome) (ap (λ (b : Bool). cond {A = Option Outcome} b (Some outcome) None) (self_same job))
+
+step_other : (job j : JobId) (op : Op) (outcome : Outcome) (over : Option End) (tick : ℕ) → (job ≡ j → ⊥) → outcome_in j (Step job op outcome over tick) ≡ None
+step_other job j op outcome over tick ne = ap (λ (b : Bool). cond {A = Option Outcome} b (Some outcome) None) (other_false job j ne)
+
+-- what an entry of an asked operation is of no other job
+pub asked_other : (e : Entry) (job j : JobId) (op : Op) → event_of e ≡ ask job op → (job ≡ j → ⊥) → outcome_in j e ≡ None
+asked_other (Step by op' outcome over tick) job j op h ne = step_other by j op' outcome over tick (λ same. let is : by ≡ job = cc in ne (sym is ∙ same))
+asked_other (Planned tx tick) job j op h ne = refl
+asked_other (Blocked by op' on ceiling tick) job j op h ne = refl
+asked_other (Idle from to) job j op h ne = refl
+
+reached_next : (set : Set) (story : List Entry) (e : Entry) (tx serial : ℕ) → IsCompiled set → IsLegal set story → IsLegalEntry set (state_of set story) e
+    → IsReached (state_of set story) tx serial → IsReached (state_of set (story ++ e ∷ [])) tx serial
+reached_next set story e tx serial ok legal is r = subst (λ (s : State). IsReached s tx serial) (sym (state_next set story e)) (behind_after set story e tx serial ok legal is r)
+
+-- a body that was told what the new entry tells follows on
+pub follows_on : (stands stands' : ℕ → List Outcome → Type 0) (set : Set) (story : List Entry) (e : Entry) (tx serial : ℕ) → IsCompiled set → IsLegal set story → IsLegalEntry set (state_of set story) e
+    → IsFollowing stands set story tx serial → ((k : ℕ) → serial < k → outcome_in (job_of tx k) e ≡ None)
+    → stands' serial (outcomes_of (story ++ e ∷ []) (job_of tx serial)) → IsFollowing stands' set (story ++ e ∷ []) tx serial
+follows_on stands stands' set story e tx serial ok legal is f none told = record {
+  told = told;
+  later = λ k lt. outcomes_same story e (job_of tx k) (none k lt) ∙ f.later k lt;
+  reached = reached_next set story e tx serial ok legal is f.reached;
+}
+
+serial_apart : (job : JobId) (k : ℕ) → job.serial < k → job ≡ job_of job.tx.0 k → ⊥
+serial_apart job k lt e = let s : job.serial ≡ k = ap (λ (j : JobId). j.serial) e in omega arith
+
+pub follows_done : (stands stands' : ℕ → List Outcome → Type 0) (set : Set) (story : List Entry) (job : JobId) (op : Op) (outcome : Outcome) (over : Option End) (tick : ℕ) → IsCompiled set → IsLegal set story
+    → IsLegalEntry set (state_of set story) (Step job op outcome over tick) → IsFollowing stands set story job.tx.0 job.serial
+    → ((os : List Outcome) → stands job.serial os → stands' job.serial (os ++ outcome ∷ [])) → IsFollowing stands' set (story ++ Step job op outcome over tick ∷ []) job.tx.0 job.serial
+follows_done stands stands' set story job op outcome over tick ok legal is f told =
+    let e : Entry = Step job op outcome over tick in
+    follows_on stands stands' set story e job.tx.0 job.serial ok legal is f
+    (λ k lt. step_other job (job_of job.tx.0 k) op outcome over tick (serial_apart job k lt))
+    (subst (stands' job.serial) (sym (step_own story job op outcome over tick)) (told (outcomes_of story job) f.told))
+
+pub follows_same : (stands : ℕ → List Outcome → Type 0) (set : Set) (story : List Entry) (e : Entry) (tx serial : ℕ) → IsCompiled set → IsLegal set story → IsLegalEntry set (state_of set story) e
+    → ((k : ℕ) → outcome_in (job_of tx k) e ≡ None) → IsFollowing stands set story tx serial → IsFollowing stands set (story ++ e ∷ []) tx serial
+follows_same stands set story e tx serial ok legal is none f =
+    follows_on stands stands set story e tx serial ok legal is f (λ k lt. none k) (subst (stands serial) (sym (outcomes_same story e (job_of tx serial) (none serial))) f.told)
+
+-- what is known of the answer to the body's operation
+pub record Turn (set : Set) (story : List Entry) (job : JobId) (op : Op) (r : StepReply) : Type 0 where
+  pub entry : Entry
+  pub event : event_of entry ≡ ask job op
+  pub legal : IsLegalEntry set (state_of set story) entry
+  pub is : step_entry (now_of set story) job op r ≡ Some entry
+
+pub turn_of : (set : Set) (room first : ℕ) (story : List Entry) (job : JobId) (op : Op) (gives : Body) (r : StepReply) → IsStory set room first story story → running_of set story ≡ Some job → MayAsk set story gives
+    → op ≡ gives job.serial (outcomes_of story job) → length story < room → r ≡ step_answer set story (length story) room job op → Turn set story job op r
+turn_of set room first story job op gives r is run may same fits e =
+    let w = running_row set story job run in
+    let a = asked_entry set story job op run (λ row runs.
+    let one : Some row ≡ Some w.row = sym runs ∙ w.runs in
+    let j : row.job ≡ job = some_job row w.row one ∙ w.is in
+    ap (may_ask set row) (same ∙ ap (λ (k : JobId). gives k.serial (outcomes_of story k)) (sym j)) ∙ may row runs) in
+    record { entry = a.entry; event = a.event; legal = asked_legal set (state_of set story) job op a; is = answer_entry set room first story job op r is fits e a } where
+      some_job : (x y : Row) → Some x ≡ Some y → x.job ≡ y.job
+      some_job x y e = let same : x ≡ y = cc in ap (λ (q : Row). q.job) same
+
+pub done_is : (set : Set) (story : List Entry) (job : JobId) (op : Op) (r : StepReply) (outcome : Outcome) (over : Option End) → (t : Turn set story job op r) → r ≡ reply.Done outcome over → t.entry ≡ Step job op outcome over (now_of set story)
+done_is set story job op r outcome over t e =
+    let a : Some (Step job op outcome over (now_of set story)) ≡ Some t.entry = ap (step_entry (now_of set story) job op) (sym e) ∙ t.is in
+    some_entry _ _ (sym a) where
+      some_entry : (x y : Entry) → Some x ≡ Some y → x ≡ y
+      some_entry x y e = cc
+
+pub blocked_is : (set : Set) (story : List Entry) (job : JobId) (op : Op) (r : StepReply) (by : JobId) (ceiling : ℕ) → (t : Turn set story job op r) → r ≡ reply.Blocked by ceiling → t.entry ≡ Blocked job op by ceiling (now_of set story)
+blocked_is set story job op r by ceiling t e =
+    let a : Some (Blocked job op by ceiling (now_of set story)) ≡ Some t.entry = ap (step_entry (now_of set story) job op) (sym e) ∙ t.is in
+    some_entry _ _ (sym a) where
+      some_entry : (x y : Entry) → Some x ≡ Some y → x ≡ y
+      some_entry x y e = cc
+
+pub turn_done_follows : (stands stands' : ℕ → List Outcome → Type 0) (set : Set) (story after : List Entry) (job : JobId) (op : Op) (r : StepReply) (outcome : Outcome) (over : Option End) → IsCompiled set → IsLegal set story
+    → (t : Turn set story job op r) → r ≡ reply.Done outcome over → after ≡ story ++ t.entry ∷ [] → IsFollowing stands set story job.tx.0 job.serial
+    → ((os : List Outcome) → stands job.serial os → stands' job.serial (os ++ outcome ∷ [])) → IsFollowing stands' set after job.tx.0 job.serial
+turn_done_follows stands stands' set story after job op r outcome over ok legal t e more f told =
+    let is = done_is set story job op r outcome over t e in
+    let l : IsLegalEntry set (state_of set story) (Step job op outcome over (now_of set story)) = subst (IsLegalEntry set (state_of set story)) is t.legal in
+    subst (λ (h : List Entry). IsFollowing stands' set h job.tx.0 job.serial) (sym (more ∙ ap (λ (x : Entry). story ++ x ∷ []) is))
+    (follows_done stands stands' set story job op outcome over (now_of set story) ok legal l f told)
+
+pub turn_blocked_follows : (stands : ℕ → List Outcome → Type 0) (set : Set) (story after : List Entry) (job : JobId) (op : Op) (r : StepReply) (by : JobId) (ceiling : ℕ) → IsCompiled set → IsLegal set story
+    → (t : Turn set story job op r) → r ≡ reply.Blocked by ceiling → after ≡ story ++ t.entry ∷ [] → IsFollowing stands set story job.tx.0 job.serial → IsFollowing stands set after job.tx.0 job.serial
+turn_blocked_follows stands set story after job op r by ceiling ok legal t e more f =
+    let is = blocked_is set story job op r by ceiling t e in
+    let l : IsLegalEntry set (state_of set story) (Blocked job op by ceiling (now_of set story)) = subst (IsLegalEntry set (state_of set story)) is t.legal in
+    subst (λ (h : List Entry). IsFollowing stands set h job.tx.0 job.serial) (sym (more ∙ ap (λ (x : Entry). story ++ x ∷ []) is))
+    (follows_same stands set story (Blocked job op by ceiling (now_of set story)) job.tx.0 job.serial ok legal l (λ k. refl) f)
+
+-- all that is known after the board's answer, before the body is told
+pub record After (stands : ℕ → List Outcome → Type 0) (gives : Body) (set : Set) (story : List Entry) (job : JobId) (op : Op) (r : StepReply) : Type 0 where
+  pub compiled : IsCompiled set
+  pub legal : IsLegal set story
+  pub follows : IsFollowing stands set story job.tx.0 job.serial
+  pub turn : Turn set story job op r
+  pub asked : event_of turn.entry ≡ ask job (gives job.serial (outcomes_of story job))
+
+pub after_answer : (stands stands' : ℕ → List Outcome → Type 0) (gives gives' : Body) (set : Set) (room first : ℕ) (story : List Entry) (job : JobId) (op : Op) (r : StepReply) (serial : ℕ)
+    → IsStory set room first story story → running_of set story ≡ Some job → MayAsk set story gives → IsFollowing stands set story job.tx.0 serial → length story < room
+    → (serial ≡ job.serial → stands job.serial (outcomes_of story job) → stands' job.serial (outcomes_of story job)) → (serial ≢ job.serial → stands' job.serial [])
+    → gives' ≡ gives → ((k : ℕ) (os : List Outcome) → stands' k os → op ≡ gives' k os) → r ≡ step_answer set story (length story) room job op
+    → After stands' gives set story job op r
+after_answer stands stands' gives gives' set room first story job op r serial is run may f fits kept begun same next e =
+    let f' = follows_new stands stands' set story job serial is.compiled is.legal run f kept begun in
+    let op_is : op ≡ gives job.serial (outcomes_of story job) = next job.serial (outcomes_of story job) f'.told ∙ ap (λ (h : Body). h job.serial (outcomes_of story job)) same in
+    let t = turn_of set room first story job op gives r is run may op_is fits e in
+    record { compiled = is.compiled; legal = is.legal; follows = f'; turn = t; asked = t.event ∙ ap (ask job) op_is }

@@ -1,0 +1,279 @@
+-- A run under way: how it begins, goes on by a turn, fits into the room, and ends.
+use Rattle.std.proofs.Common.{◌≡◌, ◌≢◌, ◌⊎◌, ℕ, zero, suc, ◌+◌, ◌<◌, ◌≤◌, ◌==◌, Bool, true, false, cond, List, [], ◌∷◌, ◌++◌, length, map, Option, None, Some, get_or, refl, ap, sym, ◌∙◌, subst, inl, inr, arith, append_assoc, length-append}
+use Rattle.std.proofs.lemmas.List.{append-nil}
+use Rattle.std.proofs.lemmas.Bool.{cases_eq, eq-eqb, ne_eqb}
+use Rattle.std.specs.Option.{option_map, option_and_then}
+use Rattle.rt_base.specs.declared.ids.TxId.{TxId}
+use Rattle.rt_base.specs.declared.ids.JobId.{JobId}
+use Rattle.rt_base.specs.declared.operation.Op.{Op}
+use Rattle.rt_base.specs.declared.operation.Outcome.{Outcome}
+use Rattle.rt_base.specs.declared.release.Release.{Release}
+use Rattle.txn_set.specs.Set.{Set, IsCompiled}
+use Rattle.step_journal.specs.declared.entry.Entry.{Entry}
+use Rattle.step_journal.specs.declared.entry.Entry.TheVariants.{Planned, Step, Blocked, Idle}
+use Rattle.step_journal.specs.State.{State, Row, pending}
+use Rattle.step_journal.specs.Running.{running}
+use Rattle.step_journal.specs.Instant.{arrived}
+use Rattle.step_journal.specs.Step.{Event, plan, ask, idle, may_ask, next_tick, idled, step}
+use Rattle.step_journal.specs.History.{event_of, entry_given, IsLegalEntry, IsLegal, state_of}
+use Rattle.step_journal.specs.Serial.{outcomes_of}
+use Rattle.board.specs.Stories.{IsStory, running_of}
+use Rattle.counting_laws.specs.Counting.{plans_in, plan_count, room_of_jobs}
+use Rattle.counting_laws.proofs.CountingAll.{entries_few}
+use Rattle.history_laws.proofs.Never.{never_stuck}
+use Rattle.sim_history.specs.Sim.{Body, Workload, IsAsked, IsScriptRun, IsFixed, IsSim, plans, plans_from, next_event, event_for, event_in, op_asked}
+use Rattle.sim_run.specs.Workloads.{ticks_of, workload, AreAccepted, ObeysAt}
+use Rattle.sim_run.specs.Turns.{IsFollowing, IsUnderWay, IsTurned, job_of}
+use Rattle.sim_run.proofs.Histories.{legal_next}
+use Rattle.sim_run.proofs.Asks.{asked_entry, asked_legal}
+use Rattle.sim_run.proofs.Behind.{behind_zero}
+
+-- plans alone
+
+abbrev IsPlan : Entry → Type 0
+IsPlan (Planned tx tick) = Unit {0}
+IsPlan (Step job op outcome over tick) = ⊥
+IsPlan (Blocked job op by ceiling tick) = ⊥
+IsPlan (Idle from to) = ⊥
+
+abbrev ArePlans : List Entry → Type 0
+ArePlans [] = Unit {0}
+ArePlans (e ∷ es) = IsPlan e × ArePlans es
+
+plans_append : (tx : TxId) (ticks : List ℕ) (es : List Entry) → ArePlans es → ArePlans (map (Planned tx) ticks ++ es)
+plans_append tx [] es h = h
+plans_append tx (tick ∷ ticks) es h = (tt, plans_append tx ticks es h)
+
+all_plans : (tx : ℕ) (releases : List (List ℕ)) → ArePlans (plans_from tx releases)
+all_plans tx [] = tt
+all_plans tx (ticks ∷ rest) = plans_append (record { 0 = tx }) ticks (plans_from (tx + 1) rest) (all_plans (tx + 1) rest)
+
+plan_asked : (w : Workload) (before : List Entry) (e : Entry) → IsPlan e → IsAsked w before e
+plan_asked w before (Planned tx tick) h = tt
+plan_asked w before (Step job op outcome over tick) h = absurd h
+plan_asked w before (Blocked job op by ceiling tick) h = absurd h
+plan_asked w before (Idle from to) h = absurd h
+
+plan_at : (es before : List Entry) (e : Entry) (after : List Entry) → es ≡ before ++ e ∷ after → ArePlans es → IsPlan e
+plan_at [] [] e after h all = absurd cc
+plan_at [] (b ∷ bs) e after h all = absurd cc
+plan_at (x ∷ xs) [] e after h all = let same : x ≡ e = cc in subst IsPlan same all.0
+plan_at (x ∷ xs) (b ∷ bs) e after h all = let rest : xs ≡ bs ++ e ∷ after = cc in plan_at xs bs e after rest all.1
+
+plans_run : (w : Workload) → IsScriptRun w (plans w)
+plans_run w = λ before after e h. plan_asked w before e (plan_at (plans w) before e after h (all_plans 0 w.releases))
+
+no_outcomes : (es : List Entry) (job : JobId) → ArePlans es → outcomes_of es job ≡ []
+no_outcomes [] job h = refl
+no_outcomes (Planned tx tick ∷ es) job h = no_outcomes es job h.1
+no_outcomes (Step by op outcome over tick ∷ es) job h = absurd h.0
+no_outcomes (Blocked by op on ceiling tick ∷ es) job h = absurd h.0
+no_outcomes (Idle from to ∷ es) job h = absurd h.0
+
+-- how a run begins
+
+pub nothing_kept : (set : Set) (room first : ℕ) (kept : List Entry) → IsStory set room first kept [] → kept ≡ []
+nothing_kept set room first [] is = refl
+nothing_kept set room first (e ∷ es) is = absurd (let c : first + length (e ∷ es) ≡ 0 = is.counted in omega arith)
+
+pub first_zero : (set : Set) (room first : ℕ) (kept : List Entry) → IsStory set room first kept [] → first ≡ 0
+first_zero set room first kept is = let c : first + length kept ≡ 0 = is.counted in omega arith
+
+pub begins : (w : Workload) (story start : List Entry) → story ≡ start ++ plans_from 0 w.releases → start ≡ [] → IsUnderWay w story
+begins w story start h none =
+    let is : story ≡ plans w = h ∙ ap (λ (l : List Entry). l ++ plans_from 0 w.releases) none in
+    record { script_run = subst (IsScriptRun w) (sym is) (plans_run w); rest = []; begins = is ∙ sym (append-nil (plans w)); fixed = tt }
+
+pub follows_first : (stands : ℕ → List Outcome → Type 0) (set : Set) (story start : List Entry) (releases : List (List ℕ)) (tx serial : ℕ) → story ≡ start ++ plans_from 0 releases → start ≡ [] → serial ≡ 0 → stands 0 []
+    → IsFollowing stands set story tx serial
+follows_first stands set story start releases tx serial h none first begun =
+    let is : story ≡ plans_from 0 releases = h ∙ ap (λ (l : List Entry). l ++ plans_from 0 releases) none in
+    let out : (k : ℕ) → outcomes_of story (job_of tx k) ≡ [] = λ k. ap (λ (l : List Entry). outcomes_of l (job_of tx k)) is ∙ no_outcomes (plans_from 0 releases) (job_of tx k) (all_plans 0 releases) in
+    subst (IsFollowing stands set story tx) (sym first) (record {
+      told = subst (stands 0) (sym (out 0)) begun;
+      later = λ k lt. out k;
+      reached = behind_zero (state_of set story) tx;
+    })
+
+-- how a run goes on
+
+split_last : (story : List Entry) (e : Entry) (before : List Entry) (x : Entry) (after : List Entry) → story ++ e ∷ [] ≡ before ++ x ∷ after
+    → ((story ≡ before) × (e ≡ x)) ⊎ ((rest : List Entry) × (story ≡ before ++ x ∷ rest))
+split_last [] e [] x after h = inl (refl, cc)
+split_last [] e (b ∷ []) x after h = absurd cc
+split_last [] e (b ∷ c ∷ bs) x after h = absurd cc
+split_last (s ∷ ss) e [] x after h = let same : s ≡ x = cc in inr (ss, ap (λ (y : Entry). y ∷ ss) same)
+split_last (s ∷ ss) e (b ∷ bs) x after h =
+    let head : s ≡ b = cc in
+    let tail : ss ++ e ∷ [] ≡ bs ++ x ∷ after = cc in
+    elim (split_last ss e bs x after tail) [
+      | inl last ↦ inl (ap (λ (y : Entry). y ∷ ss) head ∙ ap (λ (l : List Entry). b ∷ l) last.0, last.1)
+      | inr more ↦ inr (more.0, ap (λ (y : Entry). y ∷ ss) head ∙ ap (λ (l : List Entry). b ∷ l) more.1)
+    ]
+
+script_more : (w : Workload) (story : List Entry) (e : Entry) → IsScriptRun w story → IsAsked w story e → IsScriptRun w (story ++ e ∷ [])
+script_more w story e run asked = λ before after x h. elim (split_last story e before x after h) [
+  | inl last ↦ subst (IsAsked w before) last.1 (subst (λ (l : List Entry). IsAsked w l e) last.0 asked)
+  | inr more ↦ run before more.0 x more.1
+]
+
+fixed_more : (w : Workload) (before rest : List Entry) (e : Entry) → IsFixed w before rest → next_event w (before ++ rest) ≡ Some (event_of e) → IsFixed w before (rest ++ e ∷ [])
+fixed_more w before [] e h next = (ap (next_event w) (sym (append-nil before)) ∙ next, tt)
+fixed_more w before (x ∷ rest) e h next = (h.0, fixed_more w (before ++ x ∷ []) rest e h.1 (ap (next_event w) (append_assoc before (x ∷ []) rest) ∙ next))
+
+asked_at : (w : Workload) (story : List Entry) (s : State) (o : Option Row) (job : JobId) (op : Op) → event_for w story s o ≡ Some (ask job op) → op ≡ op_asked w story job
+asked_at w story s (Some row) job op h = let same : row.job ≡ job = cc in let is : op_asked w story row.job ≡ op = cc in sym is ∙ ap (op_asked w story) same
+asked_at w story s None job op h = none_asked s.planned h where
+  none_asked : (planned : List Release) → event_in planned ≡ Some (ask job op) → op ≡ op_asked w story job
+  none_asked [] h = absurd cc
+  none_asked (r ∷ rs) h = absurd cc
+
+entry_asked : (w : Workload) (story : List Entry) (e : Entry) → next_event w story ≡ Some (event_of e) → IsAsked w story e
+entry_asked w story (Planned tx tick) h = tt
+entry_asked w story (Step job op outcome over tick) h = asked_at w story (state_of w.set story) (running w.set (state_of w.set story).rows) job op h
+entry_asked w story (Blocked job op by ceiling tick) h = asked_at w story (state_of w.set story) (running w.set (state_of w.set story).rows) job op h
+entry_asked w story (Idle from to) h = tt
+
+pub goes_on : (w : Workload) (story after : List Entry) (e : Entry) → IsUnderWay w story → next_event w story ≡ Some (event_of e) → after ≡ story ++ e ∷ [] → IsUnderWay w after
+goes_on w story after e u next is = record {
+  script_run = subst (IsScriptRun w) (sym is) (script_more w story e u.script_run (entry_asked w story e next));
+  rest = u.rest ++ e ∷ [];
+  begins = is ∙ (ap (λ (l : List Entry). l ++ e ∷ []) u.begins ∙ append_assoc (plans w) u.rest (e ∷ []));
+  fixed = fixed_more w (plans w) u.rest e u.fixed (ap (next_event w) (sym u.begins) ∙ next);
+}
+
+-- a turn of a workload with other releases is one of this
+pub goes_by : (w : Workload) (set : Set) (bodies bodies' : List Body) (releases : List (List ℕ)) (story after : List Entry) (result : Bool) → w ≡ workload set bodies releases → bodies' ≡ bodies → result ≡ true
+    → (set' : Set) → set' ≡ set → IsTurned (workload set' bodies' []) story result after → IsUnderWay w story → IsUnderWay w after
+goes_by w set bodies bodies' releases story after result is same went set' sets turned u =
+    let t : IsTurned (workload set bodies []) story true after = subst (λ (b : Bool). IsTurned (workload set bodies []) story b after) went
+    (subst (λ (l : List Body). IsTurned (workload set l []) story result after) same (subst (λ (q : Set). IsTurned (workload q bodies' []) story result after) sets turned)) in
+    let next : next_event (workload set bodies releases) story ≡ Some (event_of t.2.0) = t.1 ∙ ap Some (sym t.2.1) in
+    goes_on w story after t.2.0 u (ap (λ (v : Workload). next_event v story) is ∙ next) t.2.2
+
+-- the room
+
+count_append : (xs ys : List Entry) (n : ℕ) → plan_count (xs ++ ys) n ≡ plan_count xs n + plan_count ys n
+count_append [] ys n = omega arith
+count_append (x ∷ xs) ys n = omega (arith, count_append xs ys n)
+
+count_here : (tx : ℕ) (ticks : List ℕ) → plan_count (map (Planned (record { 0 = tx })) ticks) tx ≡ length ticks
+count_here tx [] = refl
+count_here tx (tick ∷ ticks) = omega (arith, ap {B = ℕ} (λ (b : Bool). cond b 1 0) (eq-eqb tx tx refl), count_here tx ticks)
+
+count_there : (tx n : ℕ) (ticks : List ℕ) → n ≢ tx → plan_count (map (Planned (record { 0 = tx })) ticks) n ≡ 0
+count_there tx n [] ne = refl
+count_there tx n (tick ∷ ticks) ne = omega (arith, ap {B = ℕ} (λ (b : Bool). cond b 1 0) (ne_eqb n tx ne), count_there tx n ticks ne)
+
+count_before : (tx n : ℕ) (releases : List (List ℕ)) → n < tx → plan_count (plans_from tx releases) n ≡ 0
+count_before tx n [] lt = refl
+count_before tx n (ticks ∷ rest) lt =
+    omega (arith, count_append (map (Planned (record { 0 = tx })) ticks) (plans_from (tx + 1) rest) n, count_there tx n ticks (λ e. omega (arith, e, lt)), count_before (tx + 1) n rest (omega (arith, lt)))
+
+count_plans : (tx n k : ℕ) (releases : List (List ℕ)) → n ≡ tx + k → plan_count (plans_from tx releases) n ≡ length (get_or releases k [])
+count_plans tx n k [] e = refl
+count_plans tx n zero (ticks ∷ rest) e =
+    let same : n ≡ tx = omega (arith, e) in
+    let here : plan_count (map (Planned (record { 0 = tx })) ticks) n ≡ length ticks = ap (plan_count (map (Planned (record { 0 = tx })) ticks)) same ∙ count_here tx ticks in
+    omega (arith, count_append (map (Planned (record { 0 = tx })) ticks) (plans_from (tx + 1) rest) n, here, count_before (tx + 1) n rest (omega (arith, same)))
+count_plans tx n (suc k) (ticks ∷ rest) e =
+    omega (arith, count_append (map (Planned (record { 0 = tx })) ticks) (plans_from (tx + 1) rest) n, count_there tx n ticks (λ same. omega (arith, e, same)), count_plans (tx + 1) n k rest (omega (arith, e)))
+
+-- an entry of a fixed event is no plan
+no_plan_at : (w : Workload) (story : List Entry) (s : State) (o : Option Row) (tx tick : ℕ) → event_for w story s o ≡ Some (plan tx tick) → ⊥
+no_plan_at w story s (Some row) tx tick h = cc
+no_plan_at w story s None tx tick h = none_planned s.planned h where
+  none_planned : (planned : List Release) → event_in planned ≡ Some (plan tx tick) → ⊥
+  none_planned [] h = cc
+  none_planned (r ∷ rs) h = cc
+
+no_plan : (w : Workload) (story : List Entry) (e : Entry) (n : ℕ) → next_event w story ≡ Some (event_of e) → plans_in n e ≡ 0
+no_plan w story (Planned tx tick) n h = absurd (no_plan_at w story (state_of w.set story) (running w.set (state_of w.set story).rows) tx.0 tick h)
+no_plan w story (Step job op outcome over tick) n h = refl
+no_plan w story (Blocked job op by ceiling tick) n h = refl
+no_plan w story (Idle from to) n h = refl
+
+count_fixed : (w : Workload) (before rest : List Entry) (n : ℕ) → IsFixed w before rest → plan_count rest n ≡ 0
+count_fixed w before [] n h = refl
+count_fixed w before (e ∷ rest) n h = omega (arith, no_plan w before e n h.0, count_fixed w (before ++ e ∷ []) rest n h.1)
+
+way_count : (w : Workload) (story : List Entry) (n : ℕ) → IsUnderWay w story → plan_count story n ≡ length (ticks_of w.releases n)
+way_count w story n u =
+    ap (λ (l : List Entry). plan_count l n) u.begins
+    ∙ omega (arith, count_append (plans w) u.rest n, count_fixed w (plans w) u.rest n u.fixed, count_plans 0 n n w.releases (omega arith))
+
+pub way_fits : (w : Workload) (story : List Entry) → IsCompiled w.set → IsLegal w.set story → IsUnderWay w story → length story ≤ room_of_jobs w.set.txns (λ n. length (ticks_of w.releases n))
+way_fits w story ok legal u = (entries_few w.set story ok legal).jobs (λ n. length (ticks_of w.releases n)) (λ n lt. omega (arith, way_count w story n u))
+
+-- the event that the state fixes has an entry
+
+pub record HasEntry (set : Set) (story : List Entry) (event : Event) : Type 0 where
+  pub entry : Entry
+  pub is : event_of entry ≡ event
+  pub legal : IsLegalEntry set (state_of set story) entry
+
+idle_some : (set : Set) (story : List Entry) (planned : List Release) (o : Option ℕ) → pending (state_of set story).rows ≡ [] → (state_of set story).planned ≡ planned → next_tick planned ≡ o → o ≢ None → HasEntry set story idle
+unfolding step
+idle_some set story planned None none is e ne = absurd (ne refl)
+idle_some set story planned (Some t) none is e ne = record {
+  entry = Idle (state_of set story).now t;
+  is = refl;
+  legal = ap (λ (rows : List Row). entry_given (idled set (state_of set story) rows)) none
+      ∙ ap (λ (o : Option ℕ). entry_given (option_map (λ u. (Idle (state_of set story).now u, arrived set u (state_of set story))) o)) (ap next_tick is ∙ e);
+}
+
+some_event : (a b : Event) → Some a ≡ Some b → a ≡ b
+some_event a b e = cc
+
+idle_entry_for : (set : Set) (story : List Entry) (planned : List Release) (event : Event) → pending (state_of set story).rows ≡ [] → (state_of set story).planned ≡ planned → event_in planned ≡ Some event → HasEntry set story event
+idle_entry_for set story [] event none is h = absurd cc
+idle_entry_for set story (r ∷ rs) event none is h = subst (HasEntry set story) (some_event idle event h) (idle_some set story (r ∷ rs) (next_tick (r ∷ rs)) none is refl (λ e. cc))
+
+job_same : (x y : Row) → Some x ≡ Some y → x.job ≡ y.job
+job_same x y e = let same : x ≡ y = cc in ap (λ (q : Row). q.job) same
+
+entry_for : (w : Workload) (story : List Entry) (o : Option Row) (event : Event) → IsCompiled w.set → IsLegal w.set story → ObeysAt w story → running w.set (state_of w.set story).rows ≡ o
+    → event_for w story (state_of w.set story) o ≡ Some event → HasEntry w.set story event
+entry_for w story (Some row) event ok legal obeys runs h =
+    let op : Op = op_asked w story row.job in
+    let a = asked_entry w.set story row.job op (ap (option_map (λ (r : Row). r.job)) runs) (λ x is.
+    ap (λ (j : JobId). may_ask w.set x (op_asked w story j)) (job_same row x (sym runs ∙ is)) ∙ obeys x is) in
+    subst (HasEntry w.set story) (some_event (ask row.job op) event h) (record { entry = a.entry; is = a.event; legal = asked_legal w.set (state_of w.set story) row.job op a })
+entry_for w story None event ok legal obeys runs h = idle_entry_for w.set story (state_of w.set story).planned event ((never_stuck w.set story ok legal).runs runs) refl h
+
+pub room_left : (w : Workload) (story : List Entry) (room : ℕ) (event : Event) → IsCompiled w.set → IsLegal w.set story → ObeysAt w story → IsUnderWay w story → room_of_jobs w.set.txns (λ n. length (ticks_of w.releases n)) ≤ room
+    → next_event w story ≡ Some event → length story < room
+room_left w story room event ok legal obeys u le next =
+    let h = entry_for w story (running w.set (state_of w.set story).rows) event ok legal obeys refl next in
+    let after : List Entry = story ++ h.entry ∷ [] in
+    let fits = way_fits w after ok (legal_next w.set story h.entry legal h.legal) (goes_on w story after h.entry u (next ∙ ap Some (sym h.is)) refl) in
+    omega (arith, fits, le, length-append story (h.entry ∷ []))
+
+-- the same where the set and the bodies are those of now
+pub room_by : (set set' : Set) (bodies bodies' : List Body) (releases : List (List ℕ)) (story : List Entry) (room room' : ℕ) (event : Event) → set' ≡ set → bodies' ≡ bodies → room' ≡ room → IsCompiled set' → IsLegal set' story
+    → (IsLegal set story → IsScriptRun (workload set bodies releases) story → ObeysAt (workload set bodies releases) story) → IsUnderWay (workload set bodies releases) story
+    → room_of_jobs set.txns (λ n. length (ticks_of releases n)) ≤ room → next_event (workload set' bodies' []) story ≡ Some event → length story < room'
+room_by set set' bodies bodies' releases story room room' event es eb er ok legal obeys u le next =
+    let l : IsLegal set story = subst (λ (q : Set). IsLegal q story) es legal in
+    let n : next_event (workload set bodies releases) story ≡ Some event = ap (λ (q : Set). next_event (workload q bodies releases) story) (sym es) ∙ (ap (λ (b : List Body). next_event (workload set' b releases) story) (sym eb) ∙ next) in
+    omega (arith, room_left (workload set bodies releases) story room event (subst IsCompiled es ok) l (obeys l u.script_run) u le n, er)
+
+pub plans_room : (set : Set) (releases : List (List ℕ)) (bodies : List Body) (start : List Entry) (room : ℕ) → IsCompiled set → IsLegal set (plans_from 0 releases) → start ≡ [] → room_of_jobs set.txns (λ n. length (ticks_of releases n)) ≤ room
+    → length start + length (plans_from 0 releases) ≤ room
+plans_room set releases bodies start room ok legal none le =
+    omega (arith, way_fits (workload set bodies releases) (plans_from 0 releases) ok legal (begins (workload set bodies releases) (plans_from 0 releases) [] refl refl), le, ap (λ (l : List Entry). length l) none)
+
+-- how a run ends
+pub ended : (set set' : Set) (bodies bodies' : List Body) (releases : List (List ℕ)) (story after : List Entry) (result : Bool) → set' ≡ set → result ≡ false → IsLegal set' story
+    → IsTurned (workload set' bodies' []) story result after → IsUnderWay (workload set bodies releases) story → IsSim (workload set bodies releases) after
+ended set set' bodies bodies' releases story after result es over legal turned u =
+    let t : IsTurned (workload set' bodies' []) story false after = subst (λ (b : Bool). IsTurned (workload set' bodies' []) story b after) over turned in
+    subst (IsSim (workload set bodies releases)) (sym t.0) (record {
+      legal = subst (λ (q : Set). IsLegal q story) es legal;
+      script_run = u.script_run;
+      rest = u.rest;
+      begins = u.begins;
+      fixed = u.fixed;
+      none_pending = subst (λ (q : Set). pending (state_of q story).rows ≡ []) es t.1;
+      none_planned = subst (λ (q : Set). (state_of q story).planned ≡ []) es t.2;
+    })
