@@ -47,11 +47,11 @@ given_plans : (s : State) (b : Bool) (p : Entry × State) → p.1.plans ≡ s.pl
 given_plans s true p h = h
 given_plans s false p h = refl
 
-asked_plans : (set : Set) (s : State) (op : Op) (o : Option Row) → (state_given s (option_and_then (asked set s op) o)).plans ≡ s.plans
+pub asked_plans : (set : Set) (s : State) (op : Op) (o : Option Row) → (state_given s (option_and_then (asked set s op) o)).plans ≡ s.plans
 asked_plans set s op None = refl
 asked_plans set s op (Some row) = given_plans s (may_ask set row op) (answered set s row op (lock_refusal set s row op)) (answered_plans set s row op (lock_refusal set s row op))
 
-idled_plans : (set : Set) (s : State) (rows : List Row) (o : Option ℕ) → next_tick s.planned ≡ o → (state_given s (idled set s rows)).plans ≡ s.plans
+pub idled_plans : (set : Set) (s : State) (rows : List Row) (o : Option ℕ) → next_tick s.planned ≡ o → (state_given s (idled set s rows)).plans ≡ s.plans
 idled_plans set s (r ∷ rs) o e = refl
 idled_plans set s [] None e = ap (λ (n : Option ℕ). (state_given s (option_map (λ t. (Idle s.now t, arrived set t s)) n)).plans) e
 idled_plans set s [] (Some t) e = ap (λ (n : Option ℕ). (state_given s (option_map (λ t. (Idle s.now t, arrived set t s)) n)).plans) e ∙ arrived_plans set t s

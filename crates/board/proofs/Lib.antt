@@ -5,3 +5,5 @@ pub mod Rooms
 pub mod Bounds
 pub mod Counts
 pub mod More
+pub mod Overs
+pub mod Ended

@@ -1,0 +1,10 @@
+pub mod Runs
+pub mod Stood
+pub mod Tallies
+pub mod Idles
+pub mod Refusals
+pub mod StepSays
+pub mod Blocks
+pub mod Goes
+pub mod SlotReads
+pub mod Opens

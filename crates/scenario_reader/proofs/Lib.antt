@@ -1,0 +1,5 @@
+pub mod Marking
+pub mod Scripts
+pub mod Forming
+pub mod Tables
+pub mod FirstForms

@@ -1,0 +1,4 @@
+pub mod Shown
+pub mod FirstForm
+pub mod Marks
+pub mod Parts
