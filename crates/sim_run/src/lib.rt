@@ -144,7 +144,12 @@ fn begin_all<Y: Body>(bodies: &mut [Y], serials: &mut [u32])
 /// `bodies`, `serials` and `releases` have a place for each transaction of the board's set. What stands in `serials`
 /// and in the bodies before does not matter, since each body begins anew. It takes no memory, and makes at most two
 /// calls of the board for each entry, and two at the end.
-pub fn run<B: Board, Y: Body>(board: &mut B, bodies: &mut [Y], serials: &mut [u32], releases: &[List<Tick>])
+pub fn run<B: Board, Y: Body>(
+    board: &mut B,
+    bodies: &mut [Y],
+    serials: &mut [u32],
+    releases: &[List<Tick>],
+)
     requires opened { B.stands board.old [] }
     requires each { (length bodies.old ≡ length (B.set board.old).txns) ×
         (length serials.old ≡ length (B.set board.old).txns) }
