@@ -1,0 +1,4 @@
+mod Heads
+mod Keeps
+mod Moves
+mod Ticks

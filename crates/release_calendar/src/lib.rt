@@ -1,0 +1,11 @@
+//! The calendar of releases: how many jobs of each transaction were planned, and which releases are still to come.
+#![tactic(auto)]
+
+mod calendar;
+mod heap;
+mod planned;
+
+pub use calendar::Calendar;
+
+#[cfg(test)]
+mod tests;
