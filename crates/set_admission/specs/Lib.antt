@@ -1,0 +1,4 @@
+pub mod Bounds
+pub mod Admission
+pub mod Rows
+pub mod Laws
