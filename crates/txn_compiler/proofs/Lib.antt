@@ -1,0 +1,13 @@
+pub mod Reach
+pub mod Derivation
+pub mod Named
+pub mod Noting
+pub mod Grouped
+pub mod Keeping
+pub mod Verdict
+pub mod Judged
+pub mod Raising
+pub mod Search
+pub mod Single
+pub mod Refusing
+pub mod Rows

@@ -1,0 +1,6 @@
+use Rattle.txn_compiler.specs.Tables.{raise_absolute}
+use Rattle.txn_compiler.proofs.Named.{IsDueAt}
+use Rattle.txn_compiler.proofs.ceilings.raise_absolute.Given as goal
+
+abbrev pub invariant-loop-item : goal.invariant-loop-item
+invariant-loop-item l = IsDueAt (raise_absolute l.prio) l.items l.item-index l.initial.table l.table

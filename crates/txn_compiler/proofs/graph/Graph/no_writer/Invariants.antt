@@ -1,0 +1,6 @@
+use Rattle.std.proofs.Common.{◌≡◌, drop}
+use Rattle.txn_compiler.specs.Refusal.{first_refusal, no_writer_at}
+use Rattle.txn_compiler.proofs.graph.Graph.no_writer.Given as goal
+
+abbrev pub invariant-loop-place : goal.invariant-loop-place
+invariant-loop-place l = first_refusal (λ item decl. no_writer_at l.self.items l.self.txns item) 0 l.self.items ≡ first_refusal (λ item decl. no_writer_at l.self.items l.self.txns item) l.place (drop l.place l.self.items)
