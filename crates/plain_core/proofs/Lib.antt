@@ -8,3 +8,4 @@ pub mod Blocks
 pub mod Goes
 pub mod SlotReads
 pub mod Opens
+pub mod BaseCompiled

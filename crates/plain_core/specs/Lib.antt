@@ -5,3 +5,4 @@ pub mod Checks
 pub mod Locks
 pub mod Grants
 pub mod Steps
+pub mod BaseSet

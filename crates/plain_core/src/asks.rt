@@ -67,7 +67,8 @@ fn over(own: Option<End>, due: bool) -> Option<End>
 {
     match own {
         Some(end) => Some(end),
-        None => { if due { Some(End::Late) } else { None } }
+        None if due => Some(End::Late),
+        None => None,
     }
 }
 

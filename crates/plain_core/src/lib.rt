@@ -11,3 +11,6 @@ mod plans;
 mod running;
 
 pub use plain::PlainCore;
+
+#[cfg(test)]
+mod tests;
