@@ -1,0 +1,5 @@
+mod Lines
+mod Obeys
+mod Meets
+mod Left
+mod Compiles

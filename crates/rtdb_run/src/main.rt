@@ -1,0 +1,41 @@
+//! The program: a real-time database for plant control, run from a scenario.
+#![tactic(auto)]
+
+mod command;
+mod run;
+mod status;
+#[cfg(test)]
+mod tests;
+mod text;
+mod top;
+
+pub use command::Word;
+use io_edge::{StdSink, StdSource};
+pub use status::Status;
+use std::alloc::Global;
+use std::env;
+use std::env::Env;
+use std::process::ExitCode;
+pub use top::rtdb;
+
+// The words after the program's name. Where one is no text they are the empty word alone.
+fn words<R: Env + Alloc<A = Global>>(rt: &R) -> Option<Vec<Word>> {
+    let mut words = Vec::new(rt.alloc());
+    let Ok(args) = env::args(rt) else {
+        words.push(Word::new(rt.alloc(), "").ok()?).ok()?;
+        return Some(words);
+    };
+    for arg in args.skip(1) {
+        words.push(Word::new(rt.alloc(), arg.as_str()).ok()?).ok()?;
+    }
+    Some(words)
+}
+
+fn main(rt: HostRuntime) -> ExitCode {
+    let Some(words) = words(&rt) else {
+        return ExitCode::from(Status::OutOfMemory as u8);
+    };
+    let mut source = StdSource::new(rt.stdin());
+    let mut sink = StdSink::new(rt.stdout());
+    ExitCode::from(rtdb(rt.alloc(), &words, &mut source, &mut sink) as u8)
+}

@@ -1,0 +1,20 @@
+//! How a call of the program ended.
+
+/// How a call of the program ended. The numbers are the exit statuses, from 0 in this order.
+#[derive(Clone, Copy, Debug, PartialEq, Eq)]
+pub enum Status {
+    /// The input was read to its end, and the whole text was written.
+    Ok,
+    /// The input is refused, and the refusal's line was written.
+    Refused,
+    /// The words are no command's, and the usage line was written.
+    Usage,
+    /// The source failed in this call. Nothing was written.
+    ReadFault,
+    /// The sink failed in this call. A prefix of the text was written.
+    WriteFault,
+    /// A growth was refused. Nothing was written.
+    OutOfMemory,
+    /// The source gave more bytes than the limit, and the refusal's line was written.
+    TooLong,
+}

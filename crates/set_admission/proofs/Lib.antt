@@ -1,7 +1,0 @@
-pub mod Falling
-pub mod Found
-pub mod Link
-pub mod Tables
-pub mod AgeRows
-pub mod Admitted
-pub mod Kept

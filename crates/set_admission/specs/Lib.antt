@@ -1,4 +1,0 @@
-pub mod Bounds
-pub mod Admission
-pub mod Rows
-pub mod Laws
