@@ -225,7 +225,7 @@ admitted-meets set ok h = record {
         → 2 ≤ length (filter (λ i. may_read (txn_of set tx) i.0) g.items) → greatest (map (λ i. age_bound set (response_of set) i.0) (filter (λ i. may_read (txn_of set tx) i.0) g.items)) ≤ g.within
     near tx g dated le two =
         let all = All-filter (λ (i : ItemId). may_read (txn_of set tx) i.0) (λ i. age_bound set h.response i.0 ≡ age_bound set (response_of set) i.0) g.items
-            (All-weaker (λ (i : ItemId). IsTrue (is_dated set.items i.0)) (λ i. age_bound set h.response i.0 ≡ age_bound set (response_of set) i.0) (λ i d. same-bounds set ok h i.0 d) g.items dated) in
+        (All-weaker (λ (i : ItemId). IsTrue (is_dated set.items i.0)) (λ i. age_bound set h.response i.0 ≡ age_bound set (response_of set) i.0) (λ i d. same-bounds set ok h i.0 d) g.items dated) in
         subst (λ (xs : List ℕ). greatest xs ≤ g.within) (map-same (age_bound set h.response) (age_bound set (response_of set)) (filter (λ i. may_read (txn_of set tx) i.0) g.items) all) (le two)
 
 meets-admitted : (set : Set) → MeetsAdmission set → IsAdmitted set

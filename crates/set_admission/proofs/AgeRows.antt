@@ -174,7 +174,7 @@ one-more : (set : Set) → IsCompiled set → (i : ℕ) → i < length set.items
 unfolding rows.age_of
 one-more set ok i inside = age_of-rule (age_rows set) (rows-good set ok) i (omega (arith, length-age_rows set))
 
-same-age : (set : Set) → IsCompiled set → (i : ℕ) → i < length set.items → rows.age_of (age_rows set) i ≡ age_of set i
+pub same-age : (set : Set) → IsCompiled set → (i : ℕ) → i < length set.items → rows.age_of (age_rows set) i ≡ age_of set i
 unfolding age_of
 same-age set ok i inside = one-more set ok i inside ∙ (ap (λ (n : ℕ). rows.age_within (age_rows set) (suc n) i) (length-age_rows set) ∙ same-within set (suc (length set.items)) i inside)
 
@@ -197,7 +197,7 @@ past-base set tx past =
 past-parents : (set : Set) (tx : ℕ) → length set.txns ≤ tx → [] ≡ dated_reads set (txn_of set tx)
 past-parents set tx past = ap (λ (t : TxnDecl). dated_reads set t) (sym (past-is set tx past))
 
-pub row-past : (set : Set) (item writer : ℕ) (derived : Bool) (parents : List ℕ) → derived ≡ is_derived set.items item → writer ≡ writer_of set item → length set.txns ≤ writer → parents ≡ [] → record {derived = derived; base = 0; parents = parents} ≡ age_row set item
+pub row-past : (set : Set) (item writer : ℕ) (derived : Bool) (parents : List ℕ) → derived ≡ is_derived set.items item → writer ≡ writer_of set item → length set.txns ≤ writer → parents ≡ [] → record { derived = derived; base = 0; parents = parents } ≡ age_row set item
 row-past set item writer derived parents d w past none =
     let base : 0 ≡ (txn_of set (writer_of set item)).period + response_of set (writer_of set item) = past-base set (writer_of set item) (omega arith) in
     let reads : [] ≡ dated_reads set (txn_of set (writer_of set item)) = past-parents set (writer_of set item) (omega arith) in

@@ -5,3 +5,5 @@ pub mod Tables
 pub mod AgeRows
 pub mod Admitted
 pub mod Kept
+pub mod Agree
+pub mod TestSets

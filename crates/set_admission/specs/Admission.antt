@@ -74,7 +74,8 @@ apart_age set tx group =
 abbrev pub apart_from : Set → TxId → ℕ → List TogetherDecl → Option AdmitError
 apart_from set tx place [] = None
 apart_from set tx place (group ∷ groups) =
-    first_of_both (option_map (λ age. TooApart tx place age) (apart_age set tx group)) (apart_from set tx (suc place) groups)
+    first_of_both (option_map (λ age. TooApart tx place age) (apart_age set tx group))
+    (apart_from set tx (suc place) groups)
 
 abbrev pub too_apart : Set → TxId → Option AdmitError
 too_apart set tx = apart_from set tx 0 set.together
@@ -92,7 +93,8 @@ Refuses found (NotSchedulable tx demand) = found ≡ Some (NotSchedulable tx dem
 Refuses found (TooOld tx item age) = found ≡ Some (TooOld tx item age)
 Refuses found (TooApart tx place age) = found ≡ Some (TooApart tx place age)
 
--- what an admitted set keeps: it is compiled and meets the admission rule, and its responses and age bounds stand beside it
+-- what an admitted set keeps: it is compiled and meets the admission rule, and its responses and age bounds stand
+-- beside it
 pub record IsKept (set : Set) (responses ages : List ℕ) : Type 0 where
   pub compiled : IsCompiled set
   pub admitted : MeetsAdmission set

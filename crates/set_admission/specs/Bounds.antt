@@ -13,8 +13,8 @@ response_of set tx = unwrap_or (response set tx) 0
 unfoldable pub age_of : Set → ℕ → ℕ
 age_of set item = age_bound set (response_of set) item
 
--- the admission rule by the bounds that are found: each transaction has its response, and the age bounds by the responses are
--- within the validities and the intervals
+-- the admission rule by the bounds that are found: each transaction has its response, and the age bounds by the
+-- responses are within the validities and the intervals
 pub record MeetsAdmission (set : Set) : Type 0 where
   pub responses : (tx : ℕ) → tx < length set.txns → IsResponse set tx (response_of set tx)
   pub ages : IsAdmittedBy set (age_bound set (response_of set))

@@ -2,3 +2,4 @@ pub mod Bounds
 pub mod Admission
 pub mod Rows
 pub mod Laws
+pub mod Named

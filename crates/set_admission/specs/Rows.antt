@@ -12,7 +12,8 @@ use Rattle.fresh_laws.specs.Ages.{writer_of}
 use Rattle.set_admission.specs.Bounds.{response_of}
 
 abbrev pub resp_row : Set → TxnDecl → RespRow
-resp_row set txn = record { steps = txn.steps; blocking = blocking set txn.prio; period = txn.period; deadline = txn.deadline }
+resp_row set txn =
+    record { steps = txn.steps; blocking = blocking set txn.prio; period = txn.period; deadline = txn.deadline }
 
 -- a row for each of these transactions
 abbrev pub resp_rows : Set → List TxId → List RespRow

@@ -2,7 +2,7 @@
 //! apart.
 #![tactic(auto)]
 
-ghost use Rattle.set_admission.specs.Laws.{FallingPriority, AdmittedUnlessRefused, AdmittedKeepsBounds};
+ghost use Rattle.set_admission.specs.Laws.{FallingPriority, RowsOfSet, AdmittedUnlessRefused, AdmittedKeepsBounds};
 
 mod admission;
 mod age;
@@ -18,6 +18,12 @@ pub use error::AdmitError;
 /// ones.
 pub fn falling_priority()
     ensures { FallingPriority }
+{}
+
+/// The rows of a set for the response test and for the age bounds have the responses of its transactions and the age
+/// bounds of its items.
+pub fn rows_of_set()
+    ensures { RowsOfSet }
 {}
 
 /// A set is refused exactly where it does not meet the admission rule: each transaction has a response within its
