@@ -1,0 +1,5 @@
+pub mod Bounds
+pub mod Admission
+pub mod Rows
+pub mod Laws
+pub mod Named
