@@ -93,7 +93,7 @@ IsOf id s = (s.table_id ≡ id) × (id.words ≡ 3) × (id.slots ≡ 1)
 abbrev pub fresh : {N : Type 0} → TableId → List N → ℕ → Bool → Standing N
 fresh id past first marked = record { cell = id; view = opened past first marked 1 }
 
--- the seats are of this cell, and none holds the turn
-abbrev pub AreIdle : {N : Type 0} → TableId → List (Standing N) → Type 0
-AreIdle {N} id seats =
-    (k : ℕ) (s : Standing N) → get_elem? seats k ≡ some s → (s.cell ≡ id) × (s.view.holds ≡ false)
+-- what these have in them are seats of this cell, none of which holds the turn
+abbrev pub AreIdle : {S N : Type 0} → (S → Standing N) → TableId → List S → Type 0
+AreIdle {S} standing id seats =
+    (k : ℕ) (s : S) → get_elem? seats k ≡ some s → ((standing s).cell ≡ id) × ((standing s).view.holds ≡ false)

@@ -2,7 +2,7 @@
 ghost use Rattle.std.specs.Prelude.{◌≡◌, ◌≢◌, ◌≤◌, ◌+◌, ◌-◌, ◌<◌, ◌^◌, ◌++◌, ◌∷◌, [], true, false, length, map, replicate, IfSome, IfNone, IfOk, IfErr, Some, None, vec_capacity};
 ghost use Rattle.std.specs.Borrow.{sem};
 ghost use Rattle.turn_cell.specs.Turn.{Begins, counted, unborn, missing, taking, noting, draining, released};
-ghost use Rattle.turn_cell.specs.Seats.{IsOf, Ready, AreIdle, fresh, Gathered, Whole};
+ghost use Rattle.turn_cell.specs.Seats.{Standing, IsOf, Ready, AreIdle, fresh, Gathered, Whole};
 ghost use Rattle.turn_cell.specs.Lending.{LendsValue};
 
 use crate::plays::TurnRule;
@@ -58,6 +58,23 @@ impl<T: Storied> Model for TurnSeat<T> {
 impl<T: Storied> Drop for TurnSeat<T> {
     fn drop(self) {
         let Self { seat: _ } = self;
+    }
+}
+
+/// What has a seat of a cell in it, as a seat of a layer above. By it that layer hands its own seats to `close`.
+pub trait HasSeat<T: Storied>: Drop {
+    ghost standing: { Self → Standing T.Note };
+
+    /// The seat of the cell.
+    fn into_turn_seat(self) -> TurnSeat<T>
+        ensures { result ≡ standing self };
+}
+
+impl<T: Storied> HasSeat<T> for TurnSeat<T> {
+    ghost standing = { λ s. s };
+
+    fn into_turn_seat(self) -> TurnSeat<T> {
+        self
     }
 }
 
@@ -183,16 +200,16 @@ impl<T: Storied> TurnCell<T> {
     /// all is handed back. The value stands for one story, with which what each seat has seen begins; each note that was
     /// counted is one seat's, once, and stands at its place there; and the marked seat's number is the number of notes
     /// that the value no longer keeps. It takes no memory.
-    pub fn close(self, seats: Vec<TurnSeat<T>>) -> Result<T, (TurnCell<T>, Vec<TurnSeat<T>>)>
-        requires { AreIdle self.id seats.items }
+    pub fn close<S: HasSeat<T>>(self, seats: Vec<S>) -> Result<T, (TurnCell<T>, Vec<S>)>
+        requires { AreIdle S.standing self.id seats.items }
         ensures enough { IfOk result (λ x. self.seats ≤ length seats.items) }
-        ensures whole { IfOk result (λ x. Whole T.stands T.fixed T.first self.origin self.start x (map (λ s. s.view) seats.items)) }
+        ensures whole { IfOk result (λ x. Whole T.stands T.fixed T.first self.origin self.start x (map (λ s. (S.standing s).view) seats.items)) }
         ensures refused { IfErr result (λ r. (length seats.items < self.seats) × (r.0 ≡ self) × (r.1 ≡ seats)) }
     {
         if seats.len() < self.seats as usize {
             return Err((self, seats));
         }
-        let all = gather(&self.table.shared, seats);
+        let all = gather::<T, S>(&self.table.shared, seats);
         let TurnCell { table, seats: _ } = self;
         let mut closed = table.close_with(all);
         let slot = closed.take(0);
@@ -237,18 +254,25 @@ fn deal<T: Storied, P: Past<T::Note>>(
 }
 
 // Joins the seats into one.
-fn gather<T: Storied>(table: &TurnTable<T>, mut seats: Vec<TurnSeat<T>>) -> TableSeat<T>
+fn gather<T: Storied, S: HasSeat<T>>(table: &TurnTable<T>, mut seats: Vec<S>) -> TableSeat<T>
     requires cell { (table.now.table_id.words ≡ 3) × (table.now.table_id.slots ≡ 1) }
     requires some { 0 < length seats.items }
-    requires seats { AreIdle table.now.table_id seats.items }
+    requires seats { AreIdle S.standing table.now.table_id seats.items }
     ensures cell { result.table_id ≡ table.now.table_id }
-    ensures all { Gathered (map (λ s. s.view) seats.items) result.me.0 }
+    ensures all { Gathered (map (λ s. (S.standing s).view) seats.items) result.me.0 }
 {
-    let mut all = seats.pop().unwrap().into_seat();
+    let mut all = inner::<T, S>(seats.pop().unwrap());
     while let Some(next) = seats.pop() {
-        glue(table, &mut all, next.into_seat());
+        glue(table, &mut all, inner::<T, S>(next));
     }
     all
+}
+
+// The table's seat in what has one.
+fn inner<T: Storied, S: HasSeat<T>>(seat: S) -> TableSeat<T>
+    ensures { (result.table_id ≡ (S.standing seat).cell) × (result.me.0 ≡ (S.standing seat).view) × Ready result.me }
+{
+    seat.into_turn_seat().into_seat()
 }
 
 // What was to be the table's one slot.

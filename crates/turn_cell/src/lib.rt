@@ -11,5 +11,5 @@ mod storied;
 mod tests;
 mod view;
 
-pub use cell::{Taken, TurnCell, TurnSeat};
+pub use cell::{HasSeat, Taken, TurnCell, TurnSeat};
 pub use storied::{Past, Storied};
