@@ -5,7 +5,7 @@ use lib.ListN.{get_elem?}
 pub use Rattle.atomic_table.specs.Seated.{TableId}
 use Rattle.atomic_table.specs.Table.{Me}
 use Rattle.atomic_table.specs.declared.shared.Seat.{Seat}
-pub use Rattle.turn_cell.specs.declared.view.View.{View}
+use Rattle.turn_cell.specs.declared.view.View.{View}
 use Rattle.turn_cell.specs.Turn.{Begins, Stand, Heard, mark_number, below, times, total, times_in}
 
 module _ {N : Type 0} where

@@ -2,7 +2,7 @@ use Rattle.std.proofs.Common.{◌≡◌, List, [], ◌∷◌, ◌++◌, map, len
 use Rattle.std.specs.Option.{option_to_list}
 use Rattle.turn_cell.specs.declared.view.View.{View}
 use Rattle.turn_cell.specs.Turn.{joined}
-use Rattle.turn_cell.specs.Seats.{Standing, Gathered, slots_of}
+use Rattle.turn_cell.specs.Seats.{Gathered, slots_of}
 use Rattle.turn_cell.proofs.Lists.{popped_views, popped_last, popped_rest}
 use Rattle.turn_cell.proofs.Ends.{gathered_one, gathered_more}
 use Rattle.turn_cell.proofs.cell.gather.Goals as goal
