@@ -1,0 +1,46 @@
+-- What a seat knows after some tries.
+use Rattle.std.proofs.Common.{◌≡◌, ℕ, ◌+◌, List, Option, None, refl, sym, ap, subst, ◌∙◌, arith, le_refl}
+use Rattle.turn_cell.proofs.Lists.{whole, chained}
+use Rattle.step_journal.specs.declared.entry.Entry.{Entry}
+use Rattle.rt_base.specs.declared.operation.Op.{Op}
+use Rattle.rt_base.specs.declared.ids.JobId.{JobId}
+use Rattle.txn_set.specs.Set.{Set}
+use Rattle.board.specs.declared.replies.StepReply.{StepReply}
+use Rattle.board.specs.declared.replies.StepReply.TheVariants.{NoJob, NotYet, Undeclared, TooEarly, Unwritten, Full, Blocked, Done}
+use Rattle.board.specs.Stories.{step_entry}
+use Rattle.shared_plant.specs.Seats.{SeatFacts, PlantFacts, IsOf}
+use Rattle.shared_plant.specs.Answers.{Later, Answered, IsNotYet, missed_once, missed_more, turned}
+
+pub later_refl : (s : SeatFacts) → Later s s
+later_refl s = record { plant = refl; tx = refl; seen = whole s.seen; mine = refl; turns = le_refl s.turns; missed = le_refl s.missed; drained = refl; base = le_refl s.base }
+
+pub later_missed : (s t u : SeatFacts) → Later s t → u ≡ missed_once t → Later s u
+later_missed s t u l e = subst (λ (x : SeatFacts). Later s x) (sym e)
+    (record { plant = l.plant; tx = l.tx; seen = l.seen; mine = l.mine; turns = l.turns; missed = let m = l.missed in omega arith; drained = l.drained; base = l.base })
+
+-- after an answer that made no entry
+pub later_answered : (set : Set) (s t u : SeatFacts) (found : List Entry → ℕ → Type 0) (own : List Entry → Option Entry) → Later s t → Answered set found own t u → ((story : List Entry) → own story ≡ None) → Later s u
+later_answered set s t u found own l a none =
+    let is : u ≡ turned t a.story a.base None = a.after ∙ ap (turned t a.story a.base) (none a.story) in
+    subst (λ (x : SeatFacts). Later s x) (sym is)
+    (record { plant = l.plant; tx = l.tx; seen = chained s.seen t.seen a.story l.seen a.begins; mine = l.mine; turns = let n = l.turns in omega arith; missed = l.missed; drained = l.drained; base = let p = l.base in let q = a.rises in omega arith })
+
+pub not_yet_has_none : (r : StepReply) (job : JobId) (op : Op) (now : ℕ) → IsNotYet r → step_entry now job op r ≡ None
+not_yet_has_none (NoJob ended last) job op now h = absurd h
+not_yet_has_none (NotYet running) job op now h = refl
+not_yet_has_none (Undeclared item) job op now h = absurd h
+not_yet_has_none (TooEarly left) job op now h = absurd h
+not_yet_has_none (Unwritten item) job op now h = absurd h
+not_yet_has_none (Full room) job op now h = absurd h
+not_yet_has_none (Blocked by ceiling) job op now h = absurd h
+not_yet_has_none (Done outcome over) job op now h = absurd h
+
+-- a later seat is of the same plant
+pub later_of : (p : PlantFacts) (s t : SeatFacts) → Later s t → IsOf p s → IsOf p t
+later_of p s t l of = (l.plant ∙ of.0, λ tx e. of.1 tx (sym l.tx ∙ e))
+
+pub missed_none : (s : SeatFacts) → s ≡ missed_more s 0
+missed_none s = let e : s.missed ≡ s.missed + 0 = omega arith in ap (λ (n : ℕ). record s { missed = n }) e
+
+pub missed_again : (s : SeatFacts) (n : ℕ) → missed_once (missed_more s n) ≡ missed_more s (n + 1)
+missed_again s n = let e : (s.missed + n) + 1 ≡ s.missed + (n + 1) = omega arith in ap (λ (m : ℕ). record s { missed = m }) e

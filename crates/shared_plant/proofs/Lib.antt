@@ -1,0 +1,5 @@
+pub mod Kept
+pub mod Answering
+pub mod Laters
+pub mod Closing
+pub mod Starting

@@ -1,0 +1,24 @@
+use Rattle.std.proofs.Common.{◌≡◌, ℕ, ◌+◌, ◌-◌, ◌≤◌, ◌++◌, ◌∷◌, [], true, false, length, replicate, subst, sym, ap, ◌∙◌, arith}
+use Rattle.txn_set.specs.Set.{Set}
+use Rattle.turn_cell.specs.Seats.{fresh}
+use Rattle.shared_plant.specs.Seats.{PlantFacts, AreOf}
+use Rattle.shared_plant.proofs.Starting.{all_are_of}
+use Rattle.shared_plant.proofs.plant.Plant.start.Goals as goal
+
+pub seat_all-requires-clause-fresh : goal.seat_all-requires-clause-fresh
+seat_all-requires-clause-fresh g c =
+    let id = c.in-Ok-new.cell.id in let past = g.P.Past.past in let first = g.B.Board.first c.args.board in
+    let txs : ℕ = length c.txns.result.now in let n : (txs + 1) - 1 ≡ txs = omega arith in
+    let counted = (g.met.B.Board.is_story c.args.board past c.requires).counted in
+    let within : first ≤ length past = omega arith in
+    (id, past, first, c.count-front.ensures past c.requires, within, subst (λ k. c.in-Ok-new.cells.items ≡ replicate k (fresh id past first false) ++ fresh id past first true ∷ []) n c.in-Ok-new.ensures.fresh)
+
+pub returns-in-Ok-new-clause-members : goal.returns-in-Ok-new-clause-members
+returns-in-Ok-new-clause-members g c =
+    let id = c.in-Ok-new.cell.id in let past = g.P.Past.past in let first = g.B.Board.first c.args.board in
+    let txs : ℕ = length c.txns.result.now in let n : (txs + 1) - 1 ≡ txs = omega arith in
+    let fresh_is = subst (λ k. c.in-Ok-new.cells.items ≡ replicate k (fresh id past first false) ++ fresh id past first true ∷ []) n c.in-Ok-new.ensures.fresh in
+    let cell = c.in-Ok-new.cell in
+    let p : PlantFacts = record { id = cell.id; set = g.B.Board.set cell.origin.board; room = g.B.Board.room cell.origin.board; start = cell.start; seats = cell.seats } in
+    let long : txs ≡ length p.set.txns = ap length c.txns.ensures ∙ (ap (λ (z : Set). length z.txns) c.set-2.ensures ∙ sym (ap (λ x. length (g.B.Board.set x.board).txns) c.in-Ok-new.ensures.cell.0)) in
+    subst (AreOf p) (sym (c.seat_all.ensures id past first fresh_is)) (all_are_of p past first txs long)

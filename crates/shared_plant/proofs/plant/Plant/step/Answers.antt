@@ -1,0 +1,21 @@
+use Rattle.std.proofs.Common.{◌≡◌, ◌∙◌, true, rules}
+use Rattle.board.specs.Stories.{now_of}
+use Rattle.shared_plant.proofs.Laters.{later_answered, not_yet_has_none}
+use Rattle.shared_plant.proofs.plant.Plant.step.Goals as goal
+
+pub returns-then-not-is_not_yet-clause-answer : goal.returns-then-not-is_not_yet-clause-answer
+returns-then-not-is_not_yet-clause-answer g c = λ tx e. record {
+  before = c.loop.seat;
+  later = c.loop.invariant.2;
+  answered = c.in-Said.ensures.said tx (c.loop.invariant.2.tx ∙ e);
+}
+
+pub loop-preserved-else-not-is_not_yet : goal.loop-preserved-else-not-is_not_yet
+loop-preserved-else-not-is_not_yet g c =
+    let i = c.loop.invariant in let tx = c.requires.tx in
+    let is : c.is_not_yet.result ≡ true = search rules in
+    let yet = c.is_not_yet.ensures.yes is in (
+      tt,
+      tt,
+      later_answered _ _ _ _ _ _ i.2 (c.in-Said.ensures.said tx.0 (i.2.tx ∙ tx.1)) (λ story. not_yet_has_none c.in-Said.reply (record { tx = tx.0; serial = c.args.serial }) c.args.op (now_of c.args.self.now.set story) yet),
+    )

@@ -1,0 +1,35 @@
+use Rattle.std.proofs.Common.{◌≡◌, ◌≤◌, List, None, Some, length, slice_get, refl, sym, ap, subst, ◌∙◌, arith}
+use Rattle.step_journal.specs.declared.entry.Entry.{Entry}
+use Rattle.step_journal.specs.History.{state_of}
+use Rattle.turn_cell.specs.declared.view.View.{View}
+use Rattle.turn_cell.specs.Turn.{released}
+use Rattle.shared_plant.specs.Seats.{PlantFacts}
+use Rattle.shared_plant.specs.Shared.{noting_own}
+use Rattle.shared_plant.proofs.Kept.{kept_noted}
+use Rattle.shared_plant.proofs.Answering.{answered}
+use Rattle.shared_plant.proofs.plant.Plant.try_peek.Goals as goal
+
+pub invariant_of-seat-2 : goal.invariant_of-seat-2
+invariant_of-seat-2 g c =
+    let said = c.in-Some.ensures in
+    kept_noted c.seat.inside.seat c.settle-seat-inside.new.seat c.seat.inside.tx c.seat.inside.front c.settle-seat-inside.result c.try_take.new.seat.view.seen (g.B.Board.first c.in-Some.taken.value.board) None c.seat.invariant said.story.0
+    (c.settle-seat-inside.ensures.view ∙ ap (λ (v : View Entry). released (noting_own v None)) said.some.0) c.settle-seat-inside.ensures.front
+
+pub returns-clause-said : goal.returns-clause-said
+returns-clause-said g c =
+    let said = c.in-Some.ensures in
+    let story : List Entry = c.try_take.new.seat.view.seen in
+    let at = ap (λ s. s.board) c.value.ensures in
+    let x = c.value.result.now.board in
+    let stood = subst (λ b. g.B.Board.stands b story) (sym at) said.story.1 in
+    let is = g.met.B.Board.is_story x story stood in
+    let counted = is.counted in
+    let within : g.B.Board.first x ≤ length story = omega arith in
+    answered g.B.Board.set g.B.Board.room g.B.Board.first
+    (λ set room told base. slice_get (state_of set told).items c.args.item.0 ≡ Some (record { value = c.peek-reply.result.0; stamp = c.peek-reply.result.1 }))
+    (λ set told. None)
+    x c.in-Some.taken.value.board c.self.inside.cell.origin.board c.args.self.now c.seat.inside.seat c.try_take.new.seat c.settle-seat-inside.new.seat c.seat.inside.tx None c.args.seat.now
+    at said.story.2 (ap (λ (p : PlantFacts). p.set) c.self.view_is) (ap (λ (p : PlantFacts). p.room) c.self.view_is)
+    said.some.0 said.story.0 said.base
+    (c.peek-reply.ensures story stood) refl is.legal within
+    (c.settle-seat-inside.ensures.cell ∙ said.cell) c.settle-seat-inside.ensures.view c.seat.view_is

@@ -1,0 +1,164 @@
+//! A board in a cell: its story is the board's history, its notes are the entries, and its fixed part is the set and the
+//! room. Each call gives the board's answer and the entry that the board appended, if any.
+ghost use Rattle.std.specs.Prelude.{◌≡◌, ℕ, ◌+◌, ◌-◌, ◌≤◌, ◌<◌, ◌++◌, List, length, min, take, drop, vec_len, vec_capacity};
+ghost use Rattle.step_journal.specs.declared.entry.Entry.{Entry as Noted};
+ghost use Rattle.board.specs.Stories.{noted, plan_entry, plan_next_entry, step_entry, idle_entry, plan_answer, plan_next_answer, step_answer, idle_answer, now_of};
+ghost use Rattle.shared_plant.specs.Shared.{IsNext};
+
+use board::{Board, IdleReply, StepReply};
+use rt_base::{JobId, Op, PlanRefused, Tick, TxId};
+use step_journal::Entry;
+use turn_cell::Storied;
+use txn_set::CompiledSet;
+
+#[derive(Drop)]
+pub(crate) struct SharedBoard<B> {
+    pub(crate) board: B,
+}
+
+impl<B: Board> Storied for SharedBoard<B> {
+    type Note = Entry;
+
+    type Fixed = (CompiledSet, usize);
+
+    ghost stands = { λ s story. B.stands s.board story };
+
+    ghost fixed = { λ s. (B.set s.board, B.room s.board) };
+
+    ghost first = { λ s. B.first s.board };
+
+    fn count(&self) -> u64 {
+        self.board.count()
+    }
+
+    fn first(&self) -> u64 {
+        self.board.first()
+    }
+}
+
+impl<B: Board> SharedBoard<B> {
+    pub(crate) fn into_board(self) -> B
+        ensures { result ≡ self.board }
+    {
+        let SharedBoard { board } = self;
+        board
+    }
+
+    pub(crate) fn plan(
+        &mut self,
+        tx: TxId,
+        tick: Tick,
+    ) -> (Result<JobId, PlanRefused>, Option<Entry>)
+        requires { tx.0 < length (B.set self.old.board).txns }
+        ensures fixed { (B.set self.new.board ≡ B.set self.old.board) × (B.room self.new.board ≡ B.room self.old.board) × (B.first self.new.board ≡ B.first self.old.board) }
+        ensures answer { (story : List Noted) → B.stands self.old.board story → result.0 ≡ plan_answer (B.set self.old.board) story (length story - B.first self.old.board) (B.room self.old.board) tx.0 tick }
+        ensures entry { (story : List Noted) → B.stands self.old.board story → result.1 ≡ plan_entry tx tick result.0 }
+        ensures after { (story : List Noted) → B.stands self.old.board story → IsNext B.stands B.set B.first self.old.board self.new.board story (noted story result.1) }
+    {
+        let reply = self.board.plan(tx, tick);
+        let entry = entry_of_plan(tx, tick, &reply);
+        (reply, entry)
+    }
+
+    pub(crate) fn plan_next(
+        &mut self,
+        tx: TxId,
+    ) -> (Result<(JobId, Tick), PlanRefused>, Option<Entry>)
+        requires { tx.0 < length (B.set self.old.board).txns }
+        ensures fixed { (B.set self.new.board ≡ B.set self.old.board) × (B.room self.new.board ≡ B.room self.old.board) × (B.first self.new.board ≡ B.first self.old.board) }
+        ensures answer { (story : List Noted) → B.stands self.old.board story → result.0 ≡ plan_next_answer (B.set self.old.board) story (length story - B.first self.old.board) (B.room self.old.board) tx.0 }
+        ensures entry { (story : List Noted) → B.stands self.old.board story → result.1 ≡ plan_next_entry tx result.0 }
+        ensures after { (story : List Noted) → B.stands self.old.board story → IsNext B.stands B.set B.first self.old.board self.new.board story (noted story result.1) }
+    {
+        let reply = self.board.plan_next(tx);
+        let entry = entry_of_plan_next(tx, &reply);
+        (reply, entry)
+    }
+
+    pub(crate) fn step(&mut self, job: JobId, op: Op) -> (StepReply, Option<Entry>)
+        requires { job.tx.0 < length (B.set self.old.board).txns }
+        ensures fixed { (B.set self.new.board ≡ B.set self.old.board) × (B.room self.new.board ≡ B.room self.old.board) × (B.first self.new.board ≡ B.first self.old.board) }
+        ensures answer { (story : List Noted) → B.stands self.old.board story → result.0 ≡ step_answer (B.set self.old.board) story (length story - B.first self.old.board) (B.room self.old.board) job op }
+        ensures entry { (story : List Noted) → B.stands self.old.board story → result.1 ≡ step_entry (now_of (B.set self.old.board) story) job op result.0 }
+        ensures after { (story : List Noted) → B.stands self.old.board story → IsNext B.stands B.set B.first self.old.board self.new.board story (noted story result.1) }
+    {
+        let now = self.board.now();
+        let reply = self.board.step(job, op);
+        let entry = entry_of_step(now, job, op, &reply);
+        (reply, entry)
+    }
+
+    pub(crate) fn idle(&mut self) -> (IdleReply, Option<Entry>)
+        ensures fixed { (B.set self.new.board ≡ B.set self.old.board) × (B.room self.new.board ≡ B.room self.old.board) × (B.first self.new.board ≡ B.first self.old.board) }
+        ensures answer { (story : List Noted) → B.stands self.old.board story → result.0 ≡ idle_answer (B.set self.old.board) story (length story - B.first self.old.board) (B.room self.old.board) }
+        ensures entry { (story : List Noted) → B.stands self.old.board story → result.1 ≡ idle_entry (now_of (B.set self.old.board) story) result.0 }
+        ensures after { (story : List Noted) → B.stands self.old.board story → IsNext B.stands B.set B.first self.old.board self.new.board story (noted story result.1) }
+    {
+        let now = self.board.now();
+        let reply = self.board.idle();
+        let entry = entry_of_idle(now, &reply);
+        (reply, entry)
+    }
+
+    pub(crate) fn drain(&mut self, most: usize, into: &mut Vec<Entry>) -> usize
+        ensures fixed { (B.set self.new.board ≡ B.set self.old.board) × (B.room self.new.board ≡ B.room self.old.board) × (B.first self.new.board ≡ B.first self.old.board + result) }
+        ensures count { (story : List Noted) → B.stands self.old.board story → result ≡ min most (min (length story - B.first self.old.board) (vec_capacity into.old - vec_len into.old)) }
+        ensures moved { (story : List Noted) → B.stands self.old.board story → into.new.items ≡ into.old.items ++ take result (drop (B.first self.old.board) story) }
+        ensures places { vec_capacity into.new ≡ vec_capacity into.old }
+        ensures within { (story : List Noted) → B.stands self.old.board story → B.first self.old.board + result ≤ length story }
+        ensures after { (story : List Noted) → B.stands self.old.board story → IsNext B.stands B.set B.first self.old.board self.new.board story story }
+    {
+        self.board.drain(most, into)
+    }
+}
+
+// The entry of a plan that was granted.
+fn entry_of_plan(tx: TxId, tick: Tick, reply: &Result<JobId, PlanRefused>) -> Option<Entry>
+    ensures { result ≡ plan_entry tx tick reply.now }
+{
+    match reply {
+        Ok(_) => Some(Entry::Planned { tx, tick }),
+        Err(_) => None,
+    }
+}
+
+fn entry_of_plan_next(tx: TxId, reply: &Result<(JobId, Tick), PlanRefused>) -> Option<Entry>
+    ensures { result ≡ plan_next_entry tx reply.now }
+{
+    match reply {
+        Ok((_, tick)) => Some(Entry::Planned { tx, tick: *tick }),
+        Err(_) => None,
+    }
+}
+
+// The entry of an operation that was granted, or that was refused for the first time.
+fn entry_of_step(now: Tick, job: JobId, op: Op, reply: &StepReply) -> Option<Entry>
+    ensures { result ≡ step_entry now job op reply.now }
+{
+    match reply {
+        StepReply::Done { outcome, over } => Some(Entry::Step {
+            job,
+            op,
+            outcome: *outcome,
+            over: *over,
+            tick: now,
+        }),
+        StepReply::Blocked { by, ceiling } => Some(Entry::Blocked {
+            job,
+            op,
+            by: *by,
+            ceiling: *ceiling,
+            tick: now,
+        }),
+        _ => None,
+    }
+}
+
+fn entry_of_idle(now: Tick, reply: &IdleReply) -> Option<Entry>
+    ensures { result ≡ idle_entry now reply.now }
+{
+    match reply {
+        IdleReply::Advanced { to } => Some(Entry::Idle { from: now, to: *to }),
+        _ => None,
+    }
+}

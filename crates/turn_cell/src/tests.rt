@@ -1,0 +1,199 @@
+//! A diary behind a turn, by one thread and by two.
+ghost use Rattle.std.specs.Prelude.{◌≡◌, ℕ, List, ◌+◌, ◌<◌, ◌^◌, ◌++◌, ◌∷◌, [], true, false, length, drop, vec_len, IfOk};
+
+use crate::{Past, Storied, TurnCell, TurnSeat};
+use std::alloc::{AllocError, Global};
+use std::test::Fail;
+use std::thread::{Threads, join};
+
+/// Some notes, of which the oldest may be gone.
+#[derive(Drop)]
+struct Diary {
+    gone: u64,
+    kept: Vec<u8>,
+    ghost short: { gone + vec_len kept < 2 ^ 63 },
+}
+
+impl Storied for Diary {
+    type Note = u8;
+
+    type Fixed = ();
+
+    ghost stands = { λ d story. (length story ≡ d.gone + length d.kept.items) × (drop d.gone story ≡ d.kept.items) };
+
+    ghost fixed = { λ d. tt };
+
+    ghost first = { λ d. d.gone };
+
+    fn count(&self) -> u64 {
+        self.gone + self.kept.len() as u64
+    }
+
+    fn first(&self) -> u64 {
+        self.gone
+    }
+}
+
+impl Diary {
+    fn add(&mut self, note: u8) -> bool
+        ensures yes { result ≡ true → (self.new.gone ≡ self.old.gone) × (self.new.kept.items ≡ self.old.kept.items ++ note ∷ []) }
+        ensures no { result ≡ false → (self.new.gone ≡ self.old.gone) × (self.new.kept.items ≡ self.old.kept.items) }
+    {
+        if self.kept.len() == self.kept.capacity()
+            || self.gone + self.kept.len() as u64 >= 1 << 62
+        {
+            return false;
+        }
+        self.kept.push_reserved(note);
+        true
+    }
+
+    fn forget(&mut self) -> u64
+        ensures gone { self.new.gone ≡ self.old.gone + result }
+        ensures stands { (story : List ℕ) → length story ≡ self.old.gone + length self.old.kept.items → (length story ≡ self.new.gone + length self.new.kept.items) × (drop self.new.gone story ≡ self.new.kept.items) }
+    {
+        let count = self.kept.len() as u64;
+        self.kept.clear();
+        self.gone += count;
+        count
+    }
+}
+
+type Writer = TurnSeat<Diary>;
+
+/// The story of a new diary.
+struct NoNote;
+
+impl Past<u8> for NoNote {
+    ghost past = { [] };
+}
+
+/// None where the turn was taken, and else whether there was room.
+fn try_write(cell: &TurnCell<Diary>, seat: &mut Writer, note: u8) -> Option<bool>
+    requires cell { seat.old.cell ≡ cell.now.id }
+    requires idle { seat.old.view.holds ≡ false }
+    ensures cell { (seat.new.cell ≡ seat.old.cell) × (seat.new.view.holds ≡ false) }
+{
+    let mut taken = cell.try_take(seat)?;
+    if taken.value_mut().add(note) {
+        cell.note(seat, &mut taken, note);
+        cell.give(seat, taken);
+        Some(true)
+    } else {
+        cell.give(seat, taken);
+        Some(false)
+    }
+}
+
+/// One thread with both seats of a cell: what each step answered, and the diary.
+fn visited<P: Past<u8>>(alloc: Global, diary: Diary) -> Option<([u64; 6], Diary)>
+    requires { (length P.past ≡ diary.gone + length diary.kept.items) × (drop diary.gone P.past ≡ diary.kept.items) }
+{
+    let Ok((cell, mut seats)) = TurnCell::new::<P>(alloc, diary, 2) else {
+        return None;
+    };
+    let mut marked = seats.pop().unwrap();
+    let mut other = seats.pop().unwrap();
+    let before = cell.look(&mut other);
+    let mut taken = cell.try_take(&mut other)?;
+    let busy = cell.try_take(&mut marked);
+    let missed = match busy {
+        Some(taken) => {
+            cell.give(&mut marked, taken);
+            0
+        }
+        None => 1,
+    };
+    if !taken.value_mut().add(7) {
+        cell.give(&mut other, taken);
+        return None;
+    }
+    cell.note(&mut other, &mut taken, 7);
+    cell.give(&mut other, taken);
+    let after = cell.look(&mut marked);
+    let mut taken = cell.try_take(&mut marked)?;
+    let kept = taken.value().kept.len() as u64;
+    let gone = taken.value_mut().forget();
+    cell.drained(&mut marked, &mut taken, gone);
+    cell.give(&mut marked, taken);
+    seats.push_reserved(marked);
+    let (cell, mut seats, refused) = match cell.close(seats) {
+        Ok(_) => return None,
+        Err((cell, seats)) => (cell, seats, 1),
+    };
+    seats.push_reserved(other);
+    match cell.close(seats) {
+        Ok(diary) => Some(([before, missed, after, kept, gone, refused], diary)),
+        Err(_) => None,
+    }
+}
+
+/// Two threads with a seat each try to write a note.
+fn written<P: Past<u8>, R: Threads>(
+    rt: &R,
+    alloc: Global,
+    diary: Diary,
+) -> Option<(Diary, Option<bool>, Option<bool>)>
+    requires { (length P.past ≡ diary.gone + length diary.kept.items) × (drop diary.gone P.past ≡ diary.kept.items) }
+{
+    let Ok((cell, mut seats)) = TurnCell::new::<P>(alloc, diary, 2) else {
+        return None;
+    };
+    let one = seats.pop().unwrap();
+    let two = seats.pop().unwrap();
+    let ((one, a), (two, b)) = join(
+        rt,
+        || -> (Writer, Option<bool>)
+            requires { (one.cell ≡ cell.id) × (one.view.holds ≡ false) }
+            ensures { (result.0.cell ≡ cell.id) × (result.0.view.holds ≡ false) }
+        { write_as(&cell, one, 7) },
+        || -> (Writer, Option<bool>)
+            requires { (two.cell ≡ cell.id) × (two.view.holds ≡ false) }
+            ensures { (result.0.cell ≡ cell.id) × (result.0.view.holds ≡ false) }
+        { write_as(&cell, two, 9) },
+    );
+    seats.push_reserved(one);
+    seats.push_reserved(two);
+    match cell.close(seats) {
+        Ok(diary) => Some((diary, a, b)),
+        Err(_) => None,
+    }
+}
+
+fn write_as(cell: &TurnCell<Diary>, mut seat: Writer, note: u8) -> (Writer, Option<bool>)
+    requires { (seat.cell ≡ cell.now.id) × (seat.view.holds ≡ false) }
+    ensures { (result.0.cell ≡ seat.cell) × (result.0.view.holds ≡ false) }
+{
+    let said = try_write(cell, &mut seat, note);
+    (seat, said)
+}
+
+fn new_diary(alloc: Global) -> Result<Diary, AllocError>
+    ensures { IfOk result (λ d. (d.gone ≡ 0) × (d.kept.items ≡ [])) }
+{
+    Ok(Diary {
+        gone: 0,
+        kept: Vec::with_capacity(alloc, 4)?,
+    })
+}
+
+/// The turn is one seat's at a time, a note is counted and drained, and fewer seats than there are do not close a cell.
+#[test]
+fn one_thread_with_two_seats(rt: HostRuntime) -> Result<(), Fail> {
+    let diary = new_diary(rt.alloc())?;
+    let (answers, left) = visited::<NoNote>(rt.alloc(), diary).expect(&rt, "memory and turns");
+    assert_eq!(rt; answers, [0, 1, 1, 1, 1, 1]);
+    assert_eq!(rt; left.gone, 1);
+    assert_eq!(rt; left.kept.len(), 0);
+    Ok(())
+}
+
+/// At least the first of two tries finds the turn free, and what was written is kept.
+#[test]
+fn two_threads_write(rt: HostRuntime) -> Result<(), Fail> {
+    let diary = new_diary(rt.alloc())?;
+    let (left, a, b) = written::<NoNote, HostRuntime>(&rt, rt.alloc(), diary).expect(&rt, "memory");
+    let wrote = usize::from(a == Some(true)) + usize::from(b == Some(true));
+    assert!(rt; wrote >= 1 && left.kept.len() == wrote);
+    Ok(())
+}
