@@ -1,0 +1,150 @@
+//! The age bounds of the items.
+
+ghost use Rattle.std.specs.Prelude.{◌≡◌, ◌<◌, length, map, IfOk, IfSome, IfNone};
+ghost use Rattle.std.specs.List.{All, filter};
+ghost use Rattle.item_model.specs.Kinds.{is_dated as dated, is_derived as derived, validity_of as validity};
+ghost use Rattle.txn_set.specs.Set.{IsCompiled, txn_of, names_item};
+ghost use Rattle.fresh_laws.specs.Ages.{writer_of};
+ghost use Rattle.set_admission.specs.Bounds.{AreResponsesOf, AreAgesOf};
+ghost use Rattle.set_admission.specs.Rows.{age_row, age_rows};
+
+use age_bounds::{AgeRow, ages};
+use item_model::ItemKind;
+use rt_base::{ItemId, List, OutOfMemory, Tick, TxId};
+use std::alloc::Global;
+use txn_set::CompiledSet;
+
+/// The validity of a sensor or derived item, in ticks.
+pub fn validity_of(set: &CompiledSet, item: ItemId) -> Option<Tick>
+    ensures { result ≡ validity set.now.items item.0 }
+{
+    match set.items().get(item.0 as usize) {
+        None => None,
+        Some(decl) => match decl.kind {
+            ItemKind::Sensor { validity } => Some(validity),
+            ItemKind::Derived { validity } => Some(validity),
+            ItemKind::State => None,
+        },
+    }
+}
+
+/// Whether it is a sensor or derived item.
+pub fn is_dated(set: &CompiledSet, item: ItemId) -> bool
+    ensures { result ≡ dated set.now.items item.0 }
+{
+    validity_of(set, item).is_some()
+}
+
+fn is_derived(set: &CompiledSet, item: ItemId) -> bool
+    ensures { result ≡ derived set.now.items item.0 }
+{
+    match set.items().get(item.0 as usize) {
+        None => false,
+        Some(decl) => match decl.kind {
+            ItemKind::Sensor { validity: _ } => false,
+            ItemKind::Derived { validity: _ } => true,
+            ItemKind::State => false,
+        },
+    }
+}
+
+/// Whether the list has this item.
+pub fn has_item(items: &[ItemId], item: ItemId) -> bool
+    ensures { result ≡ names_item items.now item.0 }
+{
+    for i in items {
+        if *i == item {
+            return true;
+        }
+    }
+    false
+}
+
+// The place of the first transaction that may write an item; the number of transactions where none may.
+fn writer_at(set: &CompiledSet, item: ItemId) -> usize
+    ensures { result ≡ writer_of set.now item.0 }
+{
+    let txns = set.txns();
+    for (place, txn) in txns.iter().enumerate() {
+        if has_item(txn.writes.as_slice(), item) {
+            return place;
+        }
+    }
+    txns.len()
+}
+
+fn dated_reads_of(
+    alloc: Global,
+    set: &CompiledSet,
+    reads: &[ItemId],
+) -> Result<Vec<usize>, OutOfMemory>
+    ensures { IfOk result (λ items. items.items ≡ map (λ i. i.0) (filter (λ i. dated set.now.items i.0) reads.now)) }
+{
+    let mut items = Vec::new(alloc);
+    for item in reads {
+        if is_dated(set, *item) {
+            items.push(item.0 as usize)?;
+        }
+    }
+    Ok(items)
+}
+
+fn age_row_of(
+    alloc: Global,
+    set: &CompiledSet,
+    responses: &[Tick],
+    item: ItemId,
+) -> Result<AgeRow, OutOfMemory>
+    requires compiled { IsCompiled set.now }
+    requires responses { AreResponsesOf set.now responses.now }
+    ensures { IfOk result (λ row. row ≡ age_row set.now item.0) }
+{
+    let derived = is_derived(set, item);
+    let writer = writer_at(set, item);
+    if writer < set.txns().len() {
+        let txn = set.txn(TxId(writer as u32));
+        let parents = dated_reads_of(alloc, set, txn.reads.as_slice())?;
+        Ok(AgeRow {
+            derived,
+            base: txn.period + responses[writer],
+            parents: List::of(parents),
+        })
+    } else {
+        Ok(AgeRow {
+            derived,
+            base: 0,
+            parents: List::of(Vec::new(alloc)),
+        })
+    }
+}
+
+fn age_rows_of(
+    alloc: Global,
+    set: &CompiledSet,
+    responses: &[Tick],
+) -> Result<Vec<AgeRow>, OutOfMemory>
+    requires compiled { IsCompiled set.now }
+    requires responses { AreResponsesOf set.now responses.now }
+    ensures { IfOk result (λ rows. rows.items ≡ age_rows set.now) }
+{
+    let mut rows = Vec::with_capacity(alloc, set.items().len())?;
+    for item in 0..set.items().len() {
+        let row = age_row_of(alloc, set, responses, ItemId(item as u32))?;
+        rows.push(row)?;
+    }
+    Ok(rows)
+}
+
+/// The age bounds of the items, in ticks, from the responses of the transactions.
+pub fn ages_of(
+    alloc: Global,
+    set: &CompiledSet,
+    responses: &[Tick],
+) -> Result<Vec<Tick>, OutOfMemory>
+    requires compiled { IsCompiled set.now }
+    requires responses { AreResponsesOf set.now responses.now }
+    ensures { IfOk result (λ answers. AreAgesOf set.now answers.items) }
+{
+    let rows = age_rows_of(alloc, set, responses)?;
+    ages(alloc, &rows)
+}
