@@ -23,8 +23,9 @@ use std::marker::Model;
 use step_journal::{Entry, Journal};
 use txn_set::CompiledSet;
 
-/// A board over plain lists. No call after `new` takes memory. A plan costs a look at each planned release, a step scans
-/// the pending jobs, their work, and for each lock the declarations; a drain moves each kept entry.
+/// A board over plain lists. No call after `new` takes memory. A plan, and each question on one transaction or item, looks
+/// at one place of a table. A step scans the pending jobs and the work of each, and for each lock the declarations; a
+/// granted step and idling also scan the planned releases. A drain moves the kept entries.
 #[derive(Drop)]
 pub struct PlainCore {
     pub(crate) set: CompiledSet,
