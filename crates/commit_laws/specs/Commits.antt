@@ -95,8 +95,9 @@ AreSourced set entries jobs e =
     All (λ q. IsTrue (is_dated set.items q.read.item.0)
     → (tx : ℕ) → IsTheWriter set q.read.item.0 tx → IsSourced set entries jobs tx q) (timed_reads_of entries e.job)
 
--- What a committed job read from outside of a sensor or derived item is what the item's writer had installed last, both
--- at the read and at the end of the job: no job of the writer committed between that install and this end.
+-- The stamp of what a committed job read from outside of a sensor or derived item is the one that the item's writer had
+-- installed last, both at the read and at the end of the job: no job of the writer committed between that install and this
+-- end.
 abbrev pub ReadsAreLast : Type 0
 ReadsAreLast =
     (set : Set) (entries : List Entry) (before after : List EndedJob) (e : EndedJob)

@@ -1,5 +1,5 @@
-//! Laws of every commit of every legal history of every compiled set: it is fresh and together, and what its job had read is
-//! what was installed last. They are about the definitions alone.
+//! Laws of every commit of every legal history of every compiled set: it is fresh and together, and what its job had read has
+//! the stamps that were installed last. They are about the definitions alone.
 #![tactic(auto)]
 
 ghost use Rattle.commit_laws.specs.Commits.{ConsistentCommits, FreshCommits, ReadsAreLast, ReadsAreTimed};
@@ -11,8 +11,8 @@ pub fn fresh_together()
     ensures consistent { ConsistentCommits }
 {}
 
-/// What a committed job read of a sensor or derived item is what the item's writer had installed last, both at the read and
-/// when the job ended.
+/// The stamp that a committed job read of a sensor or derived item is the one that the item's writer had installed last, both
+/// at the read and when the job ended.
 pub fn reads_are_last()
     ensures last { ReadsAreLast }
     ensures timed { ReadsAreTimed }

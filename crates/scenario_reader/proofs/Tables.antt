@@ -23,7 +23,7 @@ use Rattle.scenario_forms.specs.Fields.{Places, new_name, unless_placed, integer
 use Rattle.scenario_forms.specs.Items.{Table, with_item, item_at, item_step, no_items_yet, is_item_member, kind_form, item_kind}
 use Rattle.scenario_forms.specs.Txns.{Txn, Txns, is_txn_member, with_txn, txn_name, txn_at, txn_step, no_txns_yet}
 use Rattle.scenario_forms.specs.Root.{Formed, is_second, head_at, sets_at, forms_at, items_at, txns_at}
-use Rattle.scenario_reader.specs.FirstForm.{AreNames}
+use Rattle.rt_base.specs.Names.{AreNames}
 
 -- what holds of an answer, if there is one
 abbrev pub Holds : {A : Type 0} → (A → Type 0) → Result A FormError → Type 0

@@ -3,7 +3,7 @@
 use Rattle.std.specs.Prelude.{◌≡◌, ℕ, ◌+◌, ◌*◌, ◌^◌, ◌<◌, ◌≤◌, ◌==◌, nat_lt, nat_le, ◌&&◌, Bool, true, false, if◌then◌else◌, List, [], ◌∷◌, ◌++◌, length, map, codes, slice_index_or, Option, Some, None, option_and_then, is_some, IsSome, Result, Ok, Err, IsTrue}
 use Rattle.std.specs.List.{All, list_all, list_any, filter, range_with_len}
 use Rattle.rt_base.specs.declared.ids.ItemId.{ItemId}
-use Rattle.rt_base.specs.Names.{is_name}
+use Rattle.rt_base.specs.Names.{AreNames}
 use Rattle.item_model.specs.declared.decl.ItemDecl.{ItemDecl}
 use Rattle.item_model.specs.declared.decl.ItemKind.{ItemKind}
 use Rattle.item_model.specs.declared.decl.ItemKind.TheVariants.{Sensor, Derived, State}
@@ -253,12 +253,6 @@ Reads (Err NotYet) value = IsSome value × (option_and_then scenario_of value �
 Reads (Err OutOfMemory) value = Unit {0}
 
 -- What a scenario in the first form meets.
-
--- each is a name, and no two are equal
-pub record AreNames (names : List (List ℕ)) : Type 0 where
-  pub plain : (i : ℕ) → i < length names → is_name (slice_index_or names i []) ≡ true
-  pub once : (i j : ℕ) → i < length names → j < length names
-      → slice_index_or names i [] ≡ slice_index_or names j [] → i ≡ j
 
 -- operations that the transaction may ask for, and then one commit
 pub record IsFirstScript (items : ℕ) (txn : TxnDecl) (ops : List Operation) : Type 0 where
