@@ -143,7 +143,9 @@ fn base(rt: HostRuntime) -> Result<(), AllocError> {
     }
     assert!(rt; set.write_ceiling(ItemId(0)) == 3 && set.absolute_ceiling(ItemId(0)) == 3);
     assert!(rt; set.write_ceiling(ItemId(1)) == 2 && set.absolute_ceiling(ItemId(1)) == 2);
-    let copy = set.copy(alloc)?;
+    let Ok(copy) = set.copy(rt.alloc()) else {
+        panic!(rt; "memory");
+    };
     assert!(rt; copy.write_ceiling(ItemId(0)) == 3 && copy.absolute_ceiling(ItemId(1)) == 2);
     assert!(rt; copy.items().len() == 2 && copy.txns().len() == 3 && copy.together().is_empty());
     assert!(rt; set.blocks(TxId(1), 3) && set.blocks(TxId(2), 2));
