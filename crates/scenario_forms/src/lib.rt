@@ -19,8 +19,9 @@ pub use error::{FormError, ItemMember, Place, TxnMember};
 pub use item::ItemTable;
 pub use ops::ReadOp;
 pub use root::{Forms, read_forms, read_value};
+pub use scenario::Releases;
 pub use sets::ReadSet;
-pub use txn::{ReadTxn, Releases, Times, TxnTable};
+pub use txn::{ReadTxn, Times, TxnTable};
 
 #[cfg(test)]
 mod tests;

@@ -14,7 +14,8 @@ use crate::fields::{array_or, need, number, number_or, small};
 use crate::item::name_at;
 use crate::names::note;
 use crate::ops::ReadOp;
-use rt_base::{ItemId, List, Name, Prio, Tick};
+use rt_base::{ItemId, List, Name, Prio};
+use scenario::Releases;
 use serde_json::{Map, Value};
 use std::alloc::Global;
 use std::collections::BTreeMap;
@@ -24,17 +25,6 @@ const LAST_PRIO: u32 = 1 << 31;
 const LONGEST: u64 = 1 << 40;
 
 const MOST_JOBS: u32 = 1 << 31;
-
-/// The releases of a transaction's jobs.
-#[derive(Drop)]
-pub enum Releases {
-    /// At these ticks.
-    At(List<Tick>),
-    /// So many, the k-th, from 0 on, at the offset plus k periods.
-    Jobs(u32),
-    /// So many, each planned when the one before it has ended.
-    Eager(u32),
-}
 
 /// The numbers of a transaction: its priority, its times in ticks, and its steps.
 #[derive(Clone, Copy)]

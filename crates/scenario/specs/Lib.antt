@@ -1,0 +1,4 @@
+pub mod Shown
+pub mod Releases
+pub mod Scripts
+pub mod Scenarios
