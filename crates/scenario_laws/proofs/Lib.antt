@@ -1,0 +1,4 @@
+pub mod Scripts
+pub mod Operations
+pub mod Obeys
+pub mod Accepted
