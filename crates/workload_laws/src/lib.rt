@@ -2,7 +2,7 @@
 //! enough. They are about the definitions alone.
 #![tactic(auto)]
 
-ghost use Rattle.scenario_laws.specs.Runs.{ScriptsObey, ReleasesAreAccepted, RoomIsEnough};
+ghost use Rattle.workload_laws.specs.Runs.{ScriptsObey, ReleasesAreAccepted, RoomIsEnough};
 
 /// In each legal history in which the operations are the scripts', the running job's next operation is declared, comes
 /// after the quiet steps, and leaves no item unwritten: no script of a scenario is refused but for a lock.

@@ -33,9 +33,9 @@ use Rattle.sim_run.specs.Workloads.{body_of, IsObedient}
 use Rattle.scenario.specs.Shown.{Shown, set_of}
 use Rattle.scenario.specs.Scripts.{steps_of, is_write_of, writes_all, may_stand, bad_op, bad_script_from}
 use Rattle.scenario.specs.Scenarios.{IsScenario}
-use Rattle.scenario_laws.specs.Runs.{workload_of}
-use Rattle.scenario_laws.proofs.Scripts.{StandsAt, stands_at, WritesAt, writes_at}
-use Rattle.scenario_laws.proofs.Operations.{as_many, IsGiven, ops_given, wrote}
+use Rattle.workload_laws.specs.Runs.{workload_of}
+use Rattle.workload_laws.proofs.Scripts.{StandsAt, stands_at, WritesAt, writes_at}
+use Rattle.workload_laws.proofs.Operations.{as_many, IsGiven, ops_given, wrote}
 
 -- where no script is bad, none of a transaction is
 none_left : (a : Option ℕ) (tx : ℕ) (rest : Option (ℕ × ℕ)) → option_or (option_map (λ op. (tx, op)) a) rest ≡ None → (a ≡ None) × (rest ≡ None)

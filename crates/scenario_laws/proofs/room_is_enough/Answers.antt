@@ -1,5 +1,0 @@
-use Rattle.scenario_laws.proofs.Accepted.{room_enough}
-use Rattle.scenario_laws.proofs.room_is_enough.Goals as goal
-
-pub returns : goal.returns
-returns c = room_enough

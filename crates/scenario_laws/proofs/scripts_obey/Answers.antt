@@ -1,5 +1,0 @@
-use Rattle.scenario_laws.proofs.Obeys.{obeys}
-use Rattle.scenario_laws.proofs.scripts_obey.Goals as goal
-
-pub returns : goal.returns
-returns c = obeys
