@@ -1,0 +1,5 @@
+pub mod Canonical
+pub mod Generated
+pub mod Integers
+pub mod Members
+pub mod Runs
