@@ -1,5 +1,3 @@
-mod Lines
-mod Obeys
-mod Meets
-mod Left
-mod Compiles
+pub mod Lines
+pub mod Guarantees
+pub mod Compiles

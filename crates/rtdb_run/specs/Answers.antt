@@ -1,49 +1,86 @@
 -- What the top call did.
-use Rattle.std.specs.Prelude.{◌≡◌, ℕ, ◌≤◌, List, [], length, take, Option, Some, None, IsSome, option_and_then}
+use Rattle.std.specs.Prelude.{◌≡◌, ℕ, ◌≤◌, Bool, true, false, List, [], length, take, Option, Some, None, Result, Ok, Err}
 use Rattle.std.specs.Io.KnownBytes.{Consumes, IsAtEnd, Keeps, Appends}
-use Rattle.scenario_forms.specs.Reading.{data_of}
-use Rattle.scenario_reader.specs.FirstForm.{scenario_of}
+use Rattle.txn_compiler.specs.Refusal.{compile_refusal}
+use Rattle.set_admission.specs.Admission.{refusal}
+use Rattle.scenario.specs.Shown.{Shown, set_of}
+use Rattle.scenario_reader.specs.declared.error.ScenarioError.{ScenarioError}
+use Rattle.scenario_reader.specs.Reading.{data_of, scenario_in}
 use Rattle.rtdb_run.specs.declared.command.Command.{Command}
-use Rattle.rtdb_run.specs.declared.command.Command.TheVariants.{Run}
+use Rattle.rtdb_run.specs.declared.command.Command.TheVariants.{Ask, Gen}
+use Rattle.rtdb_run.specs.declared.command.Question.{Question}
+use Rattle.rtdb_run.specs.declared.command.Question.TheVariants.{Ceilings, Admit, Run}
 use Rattle.rtdb_run.specs.declared.status.Status.{Status}
 use Rattle.rtdb_run.specs.declared.status.Status.TheVariants as statuses
-use Rattle.rtdb_run.specs.Replies.{limit, command_of, Replies}
+use Rattle.rtdb_run.specs.Runs.{has_eager}
+use Rattle.rtdb_run.specs.Replies.{limit, Replies}
 
--- The input that a command takes: all there is, or more than the limit. Without a command nothing is taken.
+-- all there is was taken, or more than the limit
+abbrev pub TakesAll : Option (List ℕ) → Option (List ℕ) → List ℕ → Type 0
+TakesAll old new input = Consumes old new input × (length input ≤ limit → IsAtEnd new)
+
+abbrev pub TakesNone : Option (List ℕ) → Option (List ℕ) → List ℕ → Type 0
+TakesNone old new input = Keeps old new × (input ≡ [])
+
+-- The input that a command takes. Without a command, and to generate, nothing is taken.
 abbrev pub Takes : Option Command → Option (List ℕ) → Option (List ℕ) → List ℕ → Type 0
-Takes None old new input = Keeps old new × (input ≡ [])
-Takes (Some Run) old new input = Consumes old new input × (length input ≤ limit → IsAtEnd new)
+Takes None old new input = TakesNone old new input
+Takes (Some (Ask question)) old new input = TakesAll old new input
+Takes (Some (Gen n)) old new input = TakesNone old new input
 
--- the words and the input that was taken have this status and this text
-pub record Judged (words : List (List ℕ)) (old new : Option (List ℕ)) (status : Status) (text : List ℕ) : Type 0 where
+-- the command and the input that was taken have this status and this text
+pub record Judged (command : Option Command) (old new : Option (List ℕ)) (status : Status) (text : List ℕ) : Type 0 where
   pub input : List ℕ
-  pub took : Takes (command_of words) old new input
-  pub reply : Replies (command_of words) input status text
+  pub took : Takes command old new input
+  pub reply : Replies command input status text
 
 -- that status was answered, and the whole text was written
-pub record Told (words : List (List ℕ)) (old new taken taken' : Option (List ℕ)) (status : Status) : Type 0 where
+pub record Told (command : Option Command) (old new taken taken' : Option (List ℕ)) (status : Status) : Type 0 where
   pub text : List ℕ
-  pub judged : Judged words old new status text
+  pub judged : Judged command old new status text
   pub written : Appends taken taken' text
 
 -- a prefix of the text was written, whatever status it has
-pub record CutShort (words : List (List ℕ)) (old new taken taken' : Option (List ℕ)) : Type 0 where
+pub record CutShort (command : Option Command) (old new taken taken' : Option (List ℕ)) : Type 0 where
   pub status : Status
   pub text : List ℕ
-  pub judged : Judged words old new status text
+  pub judged : Judged command old new status text
   pub count : ℕ
   pub written : Appends taken taken' (take count text)
 
-abbrev pub Answers : List (List ℕ) → Option (List ℕ) → Option (List ℕ) → Option (List ℕ) → Option (List ℕ) → Status → Type 0
-Answers words old new taken taken' statuses.Ok = Told words old new taken taken' statuses.Ok
-Answers words old new taken taken' statuses.Refused = Told words old new taken taken' statuses.Refused
-Answers words old new taken taken' statuses.Usage = Told words old new taken taken' statuses.Usage
-Answers words old new taken taken' statuses.TooLong = Told words old new taken taken' statuses.TooLong
-Answers words old new taken taken' statuses.WriteFault = CutShort words old new taken taken'
-Answers words old new taken taken' statuses.ReadFault = Keeps taken taken'
-Answers words old new taken taken' statuses.OutOfMemory = Keeps taken taken'
+abbrev pub Answers : Option Command → Option (List ℕ) → Option (List ℕ) → Option (List ℕ) → Option (List ℕ) → Status → Type 0
+Answers command old new taken taken' statuses.Ok = Told command old new taken taken' statuses.Ok
+Answers command old new taken taken' statuses.Refused = Told command old new taken taken' statuses.Refused
+Answers command old new taken taken' statuses.Usage = Told command old new taken taken' statuses.Usage
+Answers command old new taken taken' statuses.TooLong = Told command old new taken taken' statuses.TooLong
+Answers command old new taken taken' statuses.WriteFault = CutShort command old new taken taken'
+Answers command old new taken taken' statuses.ReadFault = Keeps taken taken'
+Answers command old new taken taken' statuses.OutOfMemory = Keeps taken taken'
 
--- a scenario in the first form within the limit, from a source that tells its bytes
-abbrev pub IsGoodRun : List (List ℕ) → Option (List ℕ) → Type 0
-IsGoodRun words None = ⊥
-IsGoodRun words (Some input) = (command_of words ≡ Some Run) × (length input ≤ limit) × IsSome (option_and_then scenario_of (data_of input))
+-- the scenario is read
+pub record IsRead (input : List ℕ) : Type 0 where
+  pub scenario : Shown
+  pub read : scenario_in (data_of input) ≡ Ok scenario
+  pub compiles : compile_refusal (set_of scenario) ≡ None
+
+-- besides, its set is admitted
+pub record IsReadAdmitted (input : List ℕ) : Type 0 where
+  pub is_read : IsRead input
+  pub admitted : refusal (set_of is_read.scenario) ≡ None
+
+abbrev pub CanRun : Bool → List ℕ → Type 0
+CanRun true input = (r : IsRead input) × (has_eager r.scenario ≡ false)
+CanRun false input = (r : IsReadAdmitted input) × (has_eager r.is_read.scenario ≡ false)
+
+-- a scenario of which the question has an answer: it is read and compiles, and is admitted where the command admits it
+abbrev pub HasAnswer : Question → List ℕ → Type 0
+HasAnswer Ceilings input = IsRead input
+HasAnswer Admit input = IsReadAdmitted input
+HasAnswer (Run trial) input = CanRun trial input
+
+-- a source that tells such an input within the limit; to generate nothing is read
+abbrev pub IsGood : Option Command → Option (List ℕ) → Type 0
+IsGood None told = ⊥
+IsGood (Some (Gen n)) told = Unit {0}
+IsGood (Some (Ask question)) None = ⊥
+IsGood (Some (Ask question)) (Some input) = (length input ≤ limit) × HasAnswer question input

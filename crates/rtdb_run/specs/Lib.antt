@@ -1,3 +1,4 @@
+pub mod Commands
 pub mod Texts
 pub mod Runs
 pub mod Replies

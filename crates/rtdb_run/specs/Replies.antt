@@ -1,41 +1,109 @@
 -- The status and the text that words and an input have, whatever fails.
-use Rattle.std.specs.Prelude.{◌≡◌, ℕ, List, [], ◌∷◌, length, codes, nat_lt, if◌then◌else◌, Option, Some, None, Bool, true, false}
-use Rattle.std.specs.Str.{bytes_eq}
+use Rattle.std.specs.Prelude.{◌≡◌, ℕ, List, [], ◌++◌, length, codes, nat_lt, Option, Some, None, Result, Ok, Err, Bool, true, false}
+use Rattle.rt_base.specs.declared.name.Names.{Names}
 use Rattle.serde_json.specs.Data.{Data}
-use Rattle.scenario_forms.specs.Reading.{data_of}
-use Rattle.scenario_reader.specs.Shown.{Shown}
-use Rattle.scenario_reader.specs.FirstForm.{scenario_of}
+use Rattle.serde_json.specs.Written.{compact_text}
+use Rattle.txn_compiler.specs.Refusal.{compile_refusal}
+use Rattle.txn_compiler.specs.declared.error.CompileError.{CompileError}
+use Rattle.set_admission.specs.Admission.{refusal}
+use Rattle.set_admission.specs.declared.error.AdmitError.{AdmitError}
+use Rattle.scenario_forms.specs.declared.error.FormError.{FormError}
+use Rattle.scenario_forms.specs.Root.{Formed, forms_at}
+use Rattle.scenario.specs.Shown.{Shown, set_of}
+use Rattle.scenario_reader.specs.declared.error.ScenarioError.{ScenarioError}
+use Rattle.scenario_reader.specs.Reading.{data_of, scenario_in}
+use Rattle.scenario_writer.specs.Canonical.{canonical}
+use Rattle.scenario_writer.specs.Generated.{generated_of}
+use Rattle.report_lines.specs.Texts.{ceilings_of}
+use Rattle.run_report.specs.Limits.{admitted_of}
+use Rattle.refusal_lines.specs.Causes.{scenario_cause, compile_cause, admit_cause}
 use Rattle.rtdb_run.specs.declared.command.Command.{Command}
-use Rattle.rtdb_run.specs.declared.command.Command.TheVariants.{Run}
+use Rattle.rtdb_run.specs.declared.command.Command.TheVariants.{Ask, Gen}
+use Rattle.rtdb_run.specs.declared.command.Question.{Question}
+use Rattle.rtdb_run.specs.declared.command.Question.TheVariants.{Ceilings, Admit, Run}
 use Rattle.rtdb_run.specs.declared.status.Status.{Status}
 use Rattle.rtdb_run.specs.declared.status.Status.TheVariants as statuses
-use Rattle.rtdb_run.specs.Texts.{not_json_text, not_yet_text, too_long_text, usage_text}
-use Rattle.rtdb_run.specs.Runs.{IsRunText}
+use Rattle.rtdb_run.specs.Texts.{refused_line, usage_text}
+use Rattle.rtdb_run.specs.Runs.{has_eager, IsRunText}
 
 -- the most bytes of a scenario
 abbrev pub limit : ℕ
 limit = 4194304
 
-abbrev pub command_of : List (List ℕ) → Option Command
-command_of [] = None
-command_of (word ∷ []) = if bytes_eq word (codes "run") then Some Run else None
-command_of (word ∷ other ∷ words) = None
+-- what a status and a text have to be
+abbrev pub Reply : Type 1
+Reply = Status → List ℕ → Type 0
 
--- a scenario in the first form is run, and a value in another form is refused
-abbrev pub ScenarioReply : Option Shown → Status → List ℕ → Type 0
-ScenarioReply (Some s) status text = (status ≡ statuses.Ok) × IsRunText s text
-ScenarioReply None status text = (status ≡ statuses.Refused) × (text ≡ not_yet_text)
+abbrev pub Written : List ℕ → Reply
+Written wanted status text = (status ≡ statuses.Ok) × (text ≡ wanted)
 
--- bytes that are no JSON value are refused
-abbrev pub DataReply : Option Data → Status → List ℕ → Type 0
-DataReply (Some d) status text = ScenarioReply (scenario_of d) status text
-DataReply None status text = (status ≡ statuses.Refused) × (text ≡ not_json_text)
+abbrev pub Refused : List ℕ → Reply
+Refused cause status text = (status ≡ statuses.Refused) × (text ≡ refused_line cause)
+
+-- the declarations compile, or the line of the first rule that they break
+abbrev pub Compiling : Reply → Names → Option CompileError → Reply
+Compiling goes names None status text = goes status text
+Compiling goes names (Some e) status text = Refused (compile_cause names e) status text
+
+-- the set is admitted, or the line of the first cause why it is not
+abbrev pub Admitting : Reply → Names → Option AdmitError → Reply
+Admitting goes names None status text = goes status text
+Admitting goes names (Some e) status text = Refused (admit_cause names e) status text
+
+-- a run with an eager transaction is refused for now
+abbrev pub Running : Bool → Shown → Bool → Reply
+Running trial s true status text = Refused (codes "NotYet") status text
+Running trial s false status text = (status ≡ statuses.Ok) × IsRunText trial s text
+
+abbrev pub CeilingsReply : Shown → Reply
+CeilingsReply s = Compiling (Written (ceilings_of s.names (set_of s))) s.names (compile_refusal (set_of s))
+
+abbrev pub AdmitReply : Shown → Reply
+AdmitReply s =
+    Compiling (Admitting (Written (admitted_of s.names (set_of s))) s.names (refusal (set_of s))) s.names
+    (compile_refusal (set_of s))
+
+abbrev pub RunReply : Bool → Shown → Reply
+RunReply true s = Compiling (Running true s (has_eager s)) s.names (compile_refusal (set_of s))
+RunReply false s =
+    Compiling (Admitting (Running false s (has_eager s)) s.names (refusal (set_of s))) s.names (compile_refusal (set_of s))
+
+-- the names of the transactions that were read
+abbrev pub names_of_forms : Result Formed FormError → Names
+names_of_forms (Ok f) = record { items = f.items.names; txns = f.txns.names }
+names_of_forms (Err e) = record { items = []; txns = [] }
+
+abbrev pub names_in : Option Data → Names
+names_in None = record { items = []; txns = [] }
+names_in (Some d) = names_of_forms (forms_at d)
+
+-- the scenario is read, or the line of the first refusal
+abbrev pub Reading : (Shown → Reply) → Names → Result Shown ScenarioError → Reply
+Reading goes names (Ok s) status text = goes s status text
+Reading goes names (Err e) status text = Refused (scenario_cause names e) status text
+
+abbrev pub DataReply : (Shown → Reply) → Option Data → Reply
+DataReply goes data = Reading goes (names_in data) (scenario_in data)
 
 -- an input above the limit is refused unread
-abbrev pub InputReply : Bool → List ℕ → Status → List ℕ → Type 0
-InputReply true input status text = (status ≡ statuses.TooLong) × (text ≡ too_long_text)
-InputReply false input status text = DataReply (data_of input) status text
+abbrev pub InputReply : (Shown → Reply) → Bool → List ℕ → Reply
+InputReply goes true input status text = (status ≡ statuses.TooLong) × (text ≡ refused_line (codes "TooLong"))
+InputReply goes false input status text = DataReply goes (data_of input) status text
 
-abbrev pub Replies : Option Command → List ℕ → Status → List ℕ → Type 0
+-- the answer to a question on a scenario
+abbrev pub ScenarioReply : Question → Shown → Reply
+ScenarioReply Ceilings s = CeilingsReply s
+ScenarioReply Admit s = AdmitReply s
+ScenarioReply (Run trial) s = RunReply trial s
+
+-- the generated scenario, and a line end
+abbrev pub generated_text : ℕ → List ℕ
+generated_text n = compact_text (canonical (generated_of n)) ++ codes "\n"
+
+abbrev pub CommandReply : Command → List ℕ → Reply
+CommandReply (Ask question) input = InputReply (ScenarioReply question) (nat_lt limit (length input)) input
+CommandReply (Gen n) input = Written (generated_text n)
+
+abbrev pub Replies : Option Command → List ℕ → Reply
 Replies None input status text = (status ≡ statuses.Usage) × (text ≡ usage_text)
-Replies (Some Run) input status text = InputReply (nat_lt limit (length input)) input status text
+Replies (Some command) input status text = CommandReply command input status text

@@ -16,14 +16,9 @@ final_lines (name ∷ names) [] = []
 abbrev pub finals_text : List (List ℕ) → List Stored → List ℕ
 finals_text names items = final_lines names items ++ codes "end\n"
 
-abbrev pub not_json_text : List ℕ
-not_json_text = codes "refused NotJson\n"
-
-abbrev pub not_yet_text : List ℕ
-not_yet_text = codes "refused NotYet\n"
-
-abbrev pub too_long_text : List ℕ
-too_long_text = codes "refused TooLong\n"
+-- the line of a refusal
+abbrev pub refused_line : List ℕ → List ℕ
+refused_line cause = codes "refused " ++ cause ++ codes "\n"
 
 abbrev pub usage_text : List ℕ
-usage_text = codes "usage: rtdb run\n"
+usage_text = codes "usage: rtdb ceilings | admit | run [--trial] | gen N\n"

@@ -2,11 +2,14 @@
 #![tactic(auto)]
 
 mod command;
+mod reply;
 mod run;
+mod sets;
 mod status;
 #[cfg(test)]
 mod tests;
 mod text;
+mod ticks;
 mod top;
 
 pub use command::Word;
@@ -16,7 +19,7 @@ use std::alloc::Global;
 use std::env;
 use std::env::Env;
 use std::process::ExitCode;
-pub use top::rtdb;
+pub use top::{rtdb, rtdb_plain};
 
 // The words after the program's name. Where one is no text they are the empty word alone.
 fn words<R: Env + Alloc<A = Global>>(rt: &R) -> Option<Vec<Word>> {

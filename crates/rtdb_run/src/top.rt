@@ -1,28 +1,31 @@
 //! The top call.
-ghost use Rattle.std.specs.Prelude.{◌≡◌, ◌⊎◌, ◌≤◌, length, IfOk, IsErrOf};
-ghost use Rattle.scenario_forms.specs.Reading.{data_of};
+ghost use Rattle.std.specs.Prelude.{◌≡◌, ◌⊎◌, ◌≤◌, length, [], Some, IfOk, IsErrOf};
 ghost use Rattle.io_edge.specs.Causes.{Rose};
+ghost use Rattle.scenario.specs.Shown.{shown};
+ghost use Rattle.scenario.specs.Scenarios.{IsScenario};
+ghost use Rattle.scenario_reader.specs.Reading.{data_of};
 ghost use Rattle.rtdb_run.specs.declared.top.Stop.TheVariants.{Memory};
-ghost use Rattle.rtdb_run.specs.Replies.{DataReply};
-ghost use Rattle.rtdb_run.specs.Answers.{Judged, Answers, IsGoodRun};
+ghost use Rattle.rtdb_run.specs.Commands.{command_of, plain_command_of, IsInRange};
+ghost use Rattle.rtdb_run.specs.Replies.{names_in, ScenarioReply, DataReply, generated_text};
+ghost use Rattle.rtdb_run.specs.Answers.{Judged, Answers, IsGood};
 
-use crate::command::{Command, Word, read_command};
-use crate::run::run_text;
+use crate::command::{Command, Question, Word, read_command, read_plain_command};
+use crate::reply::{Reply, refused, refused_scenario, written};
+use crate::run::run_reply;
+use crate::sets::{bounds, ceilings};
 use crate::status::Status;
 use io_edge::{ReadError, Sink, Source, read_all, write_all};
-use rt_base::OutOfMemory;
+use rt_base::{List, Names, OutOfMemory};
+use scenario::Scenario;
+use scenario_forms::{FormError, read_forms, read_value};
 use scenario_reader::{ScenarioError, read_scenario};
+use scenario_writer::{generated, write_scenario};
 use std::alloc::{AllocError, Global};
 
 // The most bytes of a scenario.
 const LIMIT: usize = 4_194_304;
 
-/// The text that a status writes.
-#[derive(Drop)]
-struct Reply {
-    status: Status,
-    text: Vec<u8>,
-}
+const USAGE: &[u8] = b"usage: rtdb ceilings | admit | run [--trial] | gen N\n";
 
 /// Why there is no text.
 #[derive(Clone, Copy)]
@@ -47,58 +50,123 @@ impl From<OutOfMemory> for Stop {
     }
 }
 
-// The reply to the bytes of a scenario.
-fn judge(alloc: Global, input: &[u8]) -> Result<Reply, Stop>
-    requires { length input.now ≤ LIMIT }
-    ensures ok { IfOk result (λ r. DataReply (data_of input.now) r.status r.text.items) }
-    ensures fault { IsErrOf result Stop.Fault → ⊥ }
+// The names that a text's forms declare, for the line of a refusal.
+fn names(alloc: Global, input: &[u8]) -> Result<Names, OutOfMemory>
+    ensures { IfOk result (λ names. names ≡ names_in (data_of input.now)) }
 {
-    match read_scenario(alloc, input) {
-        Ok(scenario) => Ok(Reply {
-            status: Status::Ok,
-            text: run_text(alloc, scenario)?,
+    let value = match read_value(alloc, input) {
+        Ok(value) => value,
+        Err(FormError::OutOfMemory) => return Err(OutOfMemory),
+        Err(_) => return Ok(no_names(alloc)),
+    };
+    match read_forms(alloc, &value) {
+        Ok(forms) => Ok(Names {
+            items: List::of(forms.items.names),
+            txns: List::of(forms.txns.names),
         }),
-        Err(ScenarioError::NotJson) => Ok(Reply {
-            status: Status::Refused,
-            text: Vec::from_slice(alloc, b"refused NotJson\n")?,
-        }),
-        Err(ScenarioError::NotYet) => Ok(Reply {
-            status: Status::Refused,
-            text: Vec::from_slice(alloc, b"refused NotYet\n")?,
-        }),
-        Err(ScenarioError::OutOfMemory) => Err(Stop::Memory),
+        Err(FormError::OutOfMemory) => Err(OutOfMemory),
+        Err(_) => Ok(no_names(alloc)),
     }
 }
 
-// The reply to the words and the input.
-fn answer<S: Source>(alloc: Global, words: &[Word], source: &mut S) -> Result<Reply, Stop>
-    ensures ok { IfOk result (λ r. Judged words.now (S.left source.old) (S.left source.new) r.status r.text.items) }
+fn no_names(alloc: Global) -> Names
+    ensures { (result.items ≡ []) × (result.txns ≡ []) }
+{
+    Names {
+        items: List::of(Vec::new(alloc)),
+        txns: List::of(Vec::new(alloc)),
+    }
+}
+
+// The answer to a question on a scenario.
+fn scenario_reply(
+    alloc: Global,
+    question: Question,
+    scenario: Scenario,
+) -> Result<Reply, OutOfMemory>
+    requires { IsScenario (shown scenario) }
+    ensures { IfOk result (λ r. ScenarioReply question (shown scenario) r.status r.text.items) }
+{
+    match question {
+        Question::Ceilings => ceilings(alloc, scenario),
+        Question::Admit => bounds(alloc, scenario),
+        Question::Run { trial } => run_reply(alloc, trial, scenario),
+    }
+}
+
+// The answer to a question on the bytes of a scenario.
+fn judge(alloc: Global, question: Question, input: &[u8]) -> Result<Reply, OutOfMemory>
+    requires { length input.now ≤ LIMIT }
+    ensures { IfOk result (λ r. DataReply (ScenarioReply question) (data_of input.now) r.status r.text.items) }
+{
+    match read_scenario(alloc, input) {
+        Ok(scenario) => scenario_reply(alloc, question, scenario),
+        Err(ScenarioError::OutOfMemory) => Err(OutOfMemory),
+        Err(error) => {
+            let names = names(alloc, input)?;
+            refused_scenario(alloc, &names, error)
+        }
+    }
+}
+
+// The answer to a question on the scenario that is read.
+fn ask<S: Source>(alloc: Global, question: Question, source: &mut S) -> Result<Reply, Stop>
+    ensures ok { IfOk result (λ r. Judged (Some (Command.Ask question)) (S.left source.old) (S.left source.new) r.status r.text.items) }
     ensures fault { IsErrOf result Stop.Fault → Rose (S.faults source.old) (S.faults source.new) }
     ensures later { S.faults source.old ≤ S.faults source.new }
 {
-    let Some(Command::Run) = read_command(words) else {
-        return Ok(Reply {
-            status: Status::Usage,
-            text: Vec::from_slice(alloc, b"usage: rtdb run\n")?,
-        });
-    };
     match read_all(alloc, source, LIMIT) {
-        Ok(input) => judge(alloc, &input),
-        Err(ReadError::TooLong) => Ok(Reply {
-            status: Status::TooLong,
-            text: Vec::from_slice(alloc, b"refused TooLong\n")?,
-        }),
+        Ok(input) => Ok(judge(alloc, question, &input)?),
+        Err(ReadError::TooLong) => Ok(refused(alloc, Status::TooLong, b"TooLong")?),
         Err(ReadError::ReadFault) => Err(Stop::Fault),
         Err(ReadError::OutOfMemory) => Err(Stop::Memory),
     }
 }
 
-fn run<S: Source, K: Sink>(alloc: Global, words: &[Word], source: &mut S, sink: &mut K) -> Status
-    ensures answer { Answers words.now (S.left source.old) (S.left source.new) (K.taken sink.old) (K.taken sink.new) result }
+// The text of a generated scenario.
+fn generate(alloc: Global, n: u32) -> Result<Reply, OutOfMemory>
+    requires { (1 ≤ n) × (n ≤ 64) }
+    ensures { IfOk result (λ r. (r.status ≡ Status.Ok) × (r.text.items ≡ generated_text n)) }
+{
+    let scenario = generated(alloc, n)?;
+    let mut text = write_scenario(alloc, &scenario)?;
+    text.extend_from_slice(b"\n")?;
+    Ok(written(text))
+}
+
+// The reply to a command.
+fn answer<S: Source>(
+    alloc: Global,
+    command: Option<Command>,
+    source: &mut S,
+) -> Result<Reply, Stop>
+    requires { IsInRange command }
+    ensures ok { IfOk result (λ r. Judged command (S.left source.old) (S.left source.new) r.status r.text.items) }
+    ensures fault { IsErrOf result Stop.Fault → Rose (S.faults source.old) (S.faults source.new) }
+    ensures later { S.faults source.old ≤ S.faults source.new }
+{
+    match command {
+        None => Ok(Reply {
+            status: Status::Usage,
+            text: Vec::from_slice(alloc, USAGE)?,
+        }),
+        Some(Command::Ask(question)) => ask(alloc, question, source),
+        Some(Command::Gen { n }) => Ok(generate(alloc, n)?),
+    }
+}
+
+fn run<S: Source, K: Sink>(
+    alloc: Global,
+    command: Option<Command>,
+    source: &mut S,
+    sink: &mut K,
+) -> Status
+    requires { IsInRange command }
+    ensures answer { Answers command (S.left source.old) (S.left source.new) (K.taken sink.old) (K.taken sink.new) result }
     ensures read { result ≡ Status.ReadFault → Rose (S.faults source.old) (S.faults source.new) }
     ensures write { result ≡ Status.WriteFault → Rose (K.faults sink.old) (K.faults sink.new) }
 {
-    match answer(alloc, words, source) {
+    match answer(alloc, command, source) {
         Ok(reply) => match write_all(sink, &reply.text) {
             Ok(()) => reply.status,
             Err(_) => Status::WriteFault,
@@ -108,8 +176,30 @@ fn run<S: Source, K: Sink>(alloc: Global, words: &[Word], source: &mut S, sink: 
     }
 }
 
-/// Does what the words say, from the source to the sink, and always returns. The words are looked at first, then the source is
-/// read, then its bytes are judged, then the scenario is run, then the text is written.
+/// Does what the words say, from the source to the sink, but for `run`, which is Usage here. It always returns. The
+/// words are looked at first, then the source is read, then its bytes are judged, then the text is written, as one
+/// piece.
+pub fn rtdb_plain<S: Source, K: Sink>(
+    alloc: Global,
+    words: &[Word],
+    source: &mut S,
+    sink: &mut K,
+) -> Status
+    // Which status, and what is written.
+    ensures answer { Answers (plain_command_of words.now) (S.left source.old) (S.left source.new) (K.taken sink.old) (K.taken sink.new) result }
+    // No fault is told unless there was one.
+    ensures read { result ≡ Status.ReadFault → Rose (S.faults source.old) (S.faults source.new) }
+    ensures write { result ≡ Status.WriteFault → Rose (K.faults sink.old) (K.faults sink.new) }
+    // What can be answered is, unless memory runs out.
+    ensures complete { IsGood (plain_command_of words.now) (S.left source.old)
+        → ¬ Rose (S.faults source.old) (S.faults source.new) → ¬ Rose (K.faults sink.old) (K.faults sink.new)
+        → (result ≡ Status.Ok) ⊎ (result ≡ Status.OutOfMemory) }
+{
+    run(alloc, read_plain_command(words), source, sink)
+}
+
+/// Does what the words say, from the source to the sink, and always returns. The words are looked at first, then the
+/// source is read, then its bytes are judged, then the scenario is run, then the text is written, as one piece.
 pub fn rtdb<S: Source, K: Sink>(
     alloc: Global,
     words: &[Word],
@@ -117,14 +207,22 @@ pub fn rtdb<S: Source, K: Sink>(
     sink: &mut K,
 ) -> Status
     // Which status, and what is written.
-    ensures answer { Answers words.now (S.left source.old) (S.left source.new) (K.taken sink.old) (K.taken sink.new) result }
+    ensures answer { Answers (command_of words.now) (S.left source.old) (S.left source.new) (K.taken sink.old) (K.taken sink.new) result }
     // No fault is told unless there was one.
     ensures read { result ≡ Status.ReadFault → Rose (S.faults source.old) (S.faults source.new) }
     ensures write { result ≡ Status.WriteFault → Rose (K.faults sink.old) (K.faults sink.new) }
-    // A good run succeeds, unless memory runs out.
-    ensures complete { IsGoodRun words.now (S.left source.old)
+    // What can be answered is, unless memory runs out.
+    ensures complete { IsGood (command_of words.now) (S.left source.old)
         → ¬ Rose (S.faults source.old) (S.faults source.new) → ¬ Rose (K.faults sink.old) (K.faults sink.new)
         → (result ≡ Status.Ok) ⊎ (result ≡ Status.OutOfMemory) }
 {
-    run(alloc, words, source, sink)
+    match read_command(words) {
+        Some(Command::Ask(Question::Run { trial })) => run(
+            alloc,
+            Some(Command::Ask(Question::Run { trial })),
+            source,
+            sink,
+        ),
+        _ => rtdb_plain(alloc, words, source, sink),
+    }
 }

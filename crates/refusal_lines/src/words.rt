@@ -1,0 +1,57 @@
+//! Words and numbers, each after one blank.
+ghost use Rattle.std.specs.Prelude.{◌≡◌, ◌++◌, decimal, OnOk};
+ghost use Rattle.refusal_lines.specs.Causes.{word, number, item, txn};
+
+use itoa::Buffer;
+use rt_base::{ItemId, Names, OutOfMemory, TxId};
+
+pub(crate) fn put(out: &mut Vec<u8>, bytes: &[u8]) -> Result<(), OutOfMemory>
+    ensures { OnOk result (out.new.items ≡ out.old.items ++ bytes.now) }
+{
+    out.extend_from_slice(bytes)?;
+    Ok(())
+}
+
+pub(crate) fn put_decimal(out: &mut Vec<u8>, n: u64) -> Result<(), OutOfMemory>
+    ensures { OnOk result (out.new.items ≡ out.old.items ++ decimal n) }
+{
+    put(out, Buffer::new().format(n).as_bytes())
+}
+
+pub(crate) fn put_word(out: &mut Vec<u8>, bytes: &[u8]) -> Result<(), OutOfMemory>
+    ensures { OnOk result (out.new.items ≡ out.old.items ++ word bytes.now) }
+{
+    put(out, b" ")?;
+    put(out, bytes)
+}
+
+pub(crate) fn put_number(out: &mut Vec<u8>, n: u64) -> Result<(), OutOfMemory>
+    ensures { OnOk result (out.new.items ≡ out.old.items ++ number n) }
+{
+    put(out, b" ")?;
+    put_decimal(out, n)
+}
+
+pub(crate) fn put_item(out: &mut Vec<u8>, names: &Names, i: ItemId) -> Result<(), OutOfMemory>
+    ensures { OnOk result (out.new.items ≡ out.old.items ++ item names.now i) }
+{
+    put(out, b" ")?;
+    let names = names.items.as_slice();
+    let at = i.0 as usize;
+    if at < names.len() {
+        put(out, names[at].as_slice())?;
+    }
+    Ok(())
+}
+
+pub(crate) fn put_txn(out: &mut Vec<u8>, names: &Names, tx: TxId) -> Result<(), OutOfMemory>
+    ensures { OnOk result (out.new.items ≡ out.old.items ++ txn names.now tx) }
+{
+    put(out, b" ")?;
+    let names = names.txns.as_slice();
+    let at = tx.0 as usize;
+    if at < names.len() {
+        put(out, names[at].as_slice())?;
+    }
+    Ok(())
+}

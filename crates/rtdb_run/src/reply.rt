@@ -1,0 +1,82 @@
+//! The text that a status writes, and refusals.
+ghost use Rattle.std.specs.Prelude.{◌≡◌, IfOk};
+ghost use Rattle.scenario_reader.specs.Refusals.{Fails};
+ghost use Rattle.txn_compiler.specs.Refusal.{Refuses as Uncompiled};
+ghost use Rattle.set_admission.specs.Admission.{Refuses as Unadmitted};
+ghost use Rattle.rtdb_run.specs.Replies.{Refused, Compiling, Admitting, Reading};
+ghost use Rattle.refusal_lines.specs.Causes.{scenario_cause, compile_cause, admit_cause};
+ghost use Rattle.rtdb_run.specs.Texts.{refused_line};
+
+use crate::status::Status;
+use refusal_lines::{put_admit_cause, put_compile_cause, put_scenario_cause};
+use rt_base::{Names, OutOfMemory};
+use scenario_reader::ScenarioError;
+use set_admission::AdmitError;
+use std::alloc::Global;
+use txn_compiler::CompileError;
+
+/// The text that a status writes.
+#[derive(Drop)]
+pub(crate) struct Reply {
+    pub(crate) status: Status,
+    pub(crate) text: Vec<u8>,
+}
+
+/// A reply of a command's text.
+pub(crate) fn written(text: Vec<u8>) -> Reply
+    ensures { (result.status ≡ Status.Ok) × (result.text.items ≡ text.items) }
+{
+    Reply {
+        status: Status::Ok,
+        text,
+    }
+}
+
+/// The refusal with a plain cause.
+pub(crate) fn refused(alloc: Global, status: Status, cause: &[u8]) -> Result<Reply, OutOfMemory>
+    ensures { IfOk result (λ r. (r.status ≡ status) × (r.text.items ≡ refused_line cause.now)) }
+{
+    let mut text = Vec::from_slice(alloc, b"refused ")?;
+    text.extend_from_slice(cause)?;
+    text.extend_from_slice(b"\n")?;
+    Ok(Reply { status, text })
+}
+
+/// Why a scenario is not read.
+pub(crate) fn refused_scenario(
+    alloc: Global,
+    names: &Names,
+    error: ScenarioError,
+) -> Result<Reply, OutOfMemory>
+    ensures { IfOk result (λ r. Refused (scenario_cause names.now error) r.status r.text.items) }
+{
+    let mut cause = Vec::new(alloc);
+    put_scenario_cause(&mut cause, names, error)?;
+    refused(alloc, Status::Refused, &cause)
+}
+
+/// Why declarations are no set.
+pub(crate) fn refused_set(
+    alloc: Global,
+    names: &Names,
+    error: CompileError,
+) -> Result<Reply, OutOfMemory>
+    ensures { IfOk result (λ r. Refused (compile_cause names.now error) r.status r.text.items) }
+{
+    let mut cause = Vec::new(alloc);
+    put_compile_cause(&mut cause, names, error)?;
+    refused(alloc, Status::Refused, &cause)
+}
+
+/// Why a set is not admitted.
+pub(crate) fn refused_admission(
+    alloc: Global,
+    names: &Names,
+    error: AdmitError,
+) -> Result<Reply, OutOfMemory>
+    ensures { IfOk result (λ r. Refused (admit_cause names.now error) r.status r.text.items) }
+{
+    let mut cause = Vec::new(alloc);
+    put_admit_cause(&mut cause, names, error)?;
+    refused(alloc, Status::Refused, &cause)
+}
