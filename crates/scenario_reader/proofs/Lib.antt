@@ -1,5 +1,6 @@
-pub mod Marking
-pub mod Scripts
-pub mod Forming
+pub mod Positions
+pub mod Order
 pub mod Tables
-pub mod FirstForms
+pub mod Making
+pub mod Ranges
+pub mod Meets

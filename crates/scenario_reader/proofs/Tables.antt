@@ -30,7 +30,7 @@ abbrev pub Holds : {A : Type 0} → (A → Type 0) → Result A FormError → Ty
 Holds P (Ok a) = P a
 Holds P (Err e) = Unit {0}
 
-through : {A B : Type 0} (P : B → Type 0) (r : Result A FormError) (f : A → Result B FormError)
+pub through : {A B : Type 0} (P : B → Type 0) (r : Result A FormError) (f : A → Result B FormError)
     → ((a : A) → r ≡ Ok a → Holds P (f a)) → Holds P (r >>= f)
 through P (Ok a) f h = h a refl
 through P (Err e) f h = tt
@@ -144,7 +144,7 @@ fresh_name places place d = held (member_at place (new_name places) (codes "name
     held (Err e) h = tt
 
 -- arrays
-folded : {A : Type 0} (P : A → Type 0) (step : A → Data → Result A FormError)
+pub folded : {A : Type 0} (P : A → Type 0) (step : A → Data → Result A FormError)
     → ((a : A) (d : Data) → P a → Holds P (step a d))
     → (ds : Items) (a : A) → P a → Holds P (fold_at step a ds)
 unfolding fold_at
@@ -160,24 +160,24 @@ IsItemTable t = IsTable t.places t.names (length t.decls)
 abbrev HasFresh : Places → List ℕ × ItemDecl → Type 0
 HasFresh places x = IsFresh places x.0
 
-abbrev after_kind : ℕ → Data → List ℕ → ItemKind → Result (List ℕ × ItemDecl) FormError
+abbrev pub after_kind : ℕ → Data → List ℕ → ItemKind → Result (List ℕ × ItemDecl) FormError
 after_kind i d name kind =
     member_or (pos 0) (places.ItemMember i members.Value) integer (codes "value") d >>= λ initial. Ok
     (name, record { kind = kind; initial = initial })
 
-abbrev after_name : ℕ → Data → List ℕ → Result (List ℕ × ItemDecl) FormError
+abbrev pub after_name : ℕ → Data → List ℕ → Result (List ℕ × ItemDecl) FormError
 after_name i d name =
     member_at (places.ItemMember i members.Kind) kind_form (codes "kind") d
     >>= λ word. item_kind (places.ItemMember i members.Validity) word d >>= after_kind i d name
 
-abbrev after_form : Places → ℕ → Data → Unit {0} → Result (List ℕ × ItemDecl) FormError
+abbrev pub after_form : Places → ℕ → Data → Unit {0} → Result (List ℕ × ItemDecl) FormError
 after_form taken i d formed = member_at (places.ItemMember i members.Name) (new_name taken) (codes "name") d >>=
     after_name i d
 
-abbrev item_form : Data → Option (Unit {0})
+abbrev pub item_form : Data → Option (Unit {0})
 item_form d = if no_others is_item_member d then Some formed_unit else None
 
-item_at_is : (taken : Places) (i : ℕ) (d : Data) → item_at taken i d ≡
+pub item_at_is : (taken : Places) (i : ℕ) (d : Data) → item_at taken i d ≡
     (needed (places.Item i) (item_form d) >>= after_form taken i d)
 unfolding item_at
 item_at_is taken i d = refl
@@ -217,7 +217,7 @@ item_steps t d h =
     (λ x is. with_item_is t x h (holds_ok (HasFresh t.places) (item_at t.places (length t.names) d) x
     (item_fresh t.places (length t.names) d) is))
 
-items_hold : (d : Data) → Holds IsItemTable (items_at d)
+pub items_hold : (d : Data) → Holds IsItemTable (items_at d)
 unfolding items_at
 items_hold d = through IsItemTable _ _ (λ values is. folded IsItemTable item_step item_steps values no_items_yet
     (none_yet _))
@@ -226,7 +226,7 @@ items_hold d = through IsItemTable _ _ (λ values is. folded IsItemTable item_st
 abbrev pub IsTxnTable : Txns → Type 0
 IsTxnTable t = IsTable t.places t.names (length t.txns)
 
-abbrev txn_form : Bool → Data → Option (Unit {0})
+abbrev pub txn_form : Bool → Data → Option (Unit {0})
 txn_form second d = if no_others (is_txn_member second) d then Some formed_unit else None
 
 txn_fresh : (second : Bool) (taken : Places) (i : ℕ) (d : Data) → Holds (IsFresh taken) (txn_name second taken i d)
@@ -261,17 +261,17 @@ txns_hold second items d =
 abbrev pub HasTables : Formed → Type 0
 HasTables f = IsItemTable f.items × IsTxnTable f.txns
 
-abbrev after_txns : Data → ℕ → Table → Txns → Result Formed FormError
+abbrev pub after_txns : Data → ℕ → Table → Txns → Result Formed FormError
 after_txns d version items txns =
     sets_at items.places d >>= λ sets. Ok (record { version = version; items = items; txns = txns; sets = sets })
 
-abbrev after_items : Data → ℕ → Table → Result Formed FormError
+abbrev pub after_items : Data → ℕ → Table → Result Formed FormError
 after_items d version items = txns_at (is_second d) items.places d >>= after_txns d version items
 
-abbrev after_version : Data → ℕ → Result Formed FormError
+abbrev pub after_version : Data → ℕ → Result Formed FormError
 after_version d version = items_at d >>= after_items d version
 
-forms_at_is : (d : Data) → forms_at d ≡ (head_at d >>= after_version d)
+pub forms_at_is : (d : Data) → forms_at d ≡ (head_at d >>= after_version d)
 unfolding forms_at
 forms_at_is d = refl
 

@@ -1,4 +1,5 @@
-pub mod Shown
-pub mod FirstForm
-pub mod Marks
-pub mod Parts
+pub mod Refusals
+pub mod Unknown
+pub mod Made
+pub mod Judged
+pub mod Reading

@@ -1,18 +1,17 @@
-//! Scenarios in JSON: from the bytes of a text to declarations, scripts and releases. So far one form is read: one
-//! transaction over state items, released at fixed ticks.
+//! Scenarios in JSON: from the bytes of a text to declarations, scripts and releases, or to the first refusal.
 #![tactic(auto)]
 
 mod error;
-mod first;
 mod item_order;
-mod rules;
-mod scenario;
-mod script;
+mod judge;
+mod made;
+mod read;
+mod unknown;
 
 pub use error::ScenarioError;
-pub use first::read_scenario;
-pub use scenario::Scenario;
-pub use scenario_forms::Releases;
+pub use read::read_scenario;
+pub use scenario::{Releases, Scenario};
+pub use scenario_forms::{ItemMember, Place, TxnMember};
 
 #[cfg(test)]
 mod tests;

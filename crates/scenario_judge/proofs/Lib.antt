@@ -1,0 +1,5 @@
+pub mod Marking
+pub mod Standing
+pub mod Turning
+pub mod Positions
+pub mod Counting

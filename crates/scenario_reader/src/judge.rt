@@ -1,0 +1,86 @@
+//! The judgement of a scenario, in order.
+ghost use Rattle.std.specs.Prelude.{◌≡◌, ◌≤◌, ◌<◌, ◌^◌, IfOk, None, length};
+ghost use Rattle.std.specs.List.{All};
+ghost use Rattle.scenario.specs.Shown.{shown};
+ghost use Rattle.scenario.specs.Scenarios.{HasTextTimes, IsProgramOver};
+ghost use Rattle.scenario_reader.specs.Refusals.{Gives};
+ghost use Rattle.scenario_reader.specs.Judged.{judged, judged_scripts, judged_jobs, tx_id as id_of};
+
+use crate::error::ScenarioError;
+use rt_base::{OutOfMemory, TxId};
+use scenario::Scenario;
+use scenario_judge::{bad_release, bad_script, eager_end, long_script, room, total_jobs};
+use std::alloc::Global;
+
+const MOST_JOBS: u64 = 65_536;
+
+const MOST_ROOM: u64 = 1 << 20;
+
+const LAST_TICK: u64 = 1 << 40;
+
+// The transaction at a place. Want of memory stands for a place from 2^32 on, which no text below 2^32 bytes has.
+fn tx_id(place: usize) -> Result<TxId, OutOfMemory>
+    ensures { IfOk result (λ tx. tx ≡ id_of place) }
+{
+    if place < 1 << 32 {
+        Ok(TxId(place as u32))
+    } else {
+        Err(OutOfMemory)
+    }
+}
+
+// The scripts.
+#[tactic(auto, unfolding(crate::specs::Judged::judged_scripts))]
+fn judge_scripts(alloc: Global, scenario: &Scenario) -> Result<(), ScenarioError>
+    requires each { length scenario.now.scripts ≡ length scenario.now.txns }
+    requires good { All (IsProgramOver (length scenario.now.items)) (shown scenario.now).programs }
+    ensures { Gives result (judged_scripts (shown scenario.now)) }
+{
+    if let Some((tx, op)) = bad_script(alloc, scenario)? {
+        return Err(ScenarioError::BadScript { tx: tx_id(tx)?, op });
+    }
+    if let Some(tx) = long_script(scenario) {
+        return Err(ScenarioError::TooManySteps { tx: tx_id(tx)? });
+    }
+    Ok(())
+}
+
+// The jobs and releases.
+#[tactic(auto, unfolding(crate::specs::Judged::judged_jobs))]
+fn judge_jobs(scenario: &Scenario) -> Result<usize, ScenarioError>
+    requires each { length scenario.now.releases ≡ length scenario.now.txns }
+    requires times { All HasTextTimes scenario.now.txns }
+    ensures { Gives result (judged_jobs (shown scenario.now)) }
+{
+    let count = total_jobs(scenario.releases.as_slice())?;
+    if MOST_JOBS < count {
+        return Err(ScenarioError::TooManyJobs { count });
+    }
+    if let Some((tx, index, cause)) = bad_release(scenario) {
+        let tx = tx_id(tx)?;
+        return Err(ScenarioError::BadRelease { tx, index, cause });
+    }
+    let needed = room(scenario);
+    if MOST_ROOM < needed {
+        return Err(ScenarioError::RoomTooLarge { needed });
+    }
+    let end = eager_end(scenario);
+    if LAST_TICK < end {
+        return Err(ScenarioError::EagerTooFar { needed: end });
+    }
+    Ok(needed as usize)
+}
+
+/// The room of a scenario, or why it is refused. A step for each item, each declared item of a transaction, each
+/// operation and each job.
+#[tactic(auto, unfolding(crate::specs::Judged::judged))]
+pub(crate) fn judge(alloc: Global, scenario: &Scenario) -> Result<usize, ScenarioError>
+    requires scripted { length scenario.now.scripts ≡ length scenario.now.txns }
+    requires released { length scenario.now.releases ≡ length scenario.now.txns }
+    requires good { All (IsProgramOver (length scenario.now.items)) (shown scenario.now).programs }
+    requires times { All HasTextTimes scenario.now.txns }
+    ensures { Gives result (judged (shown scenario.now)) }
+{
+    judge_scripts(alloc, scenario)?;
+    judge_jobs(scenario)
+}

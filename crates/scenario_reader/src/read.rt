@@ -1,0 +1,59 @@
+//! Reading a scenario.
+ghost use Rattle.std.specs.Prelude.{◌≡◌, ◌<◌, ◌^◌, [], length, IfOk};
+ghost use Rattle.std.specs.List.{All};
+ghost use Rattle.serde_json.specs.View.{view};
+ghost use Rattle.step_script.specs.Scripts.{IsTold};
+ghost use Rattle.scenario.specs.Shown.{shown};
+ghost use Rattle.scenario.specs.Scenarios.{IsScenario};
+ghost use Rattle.scenario_forms.specs.Root.{forms_view};
+ghost use Rattle.scenario_reader.specs.Refusals.{GivesBy};
+ghost use Rattle.scenario_reader.specs.Made.{IsBegun, IsGoodTxn};
+ghost use Rattle.scenario_reader.specs.Reading.{scenario_from, scenario_of, scenario_in, data_of};
+
+use crate::error::ScenarioError;
+use crate::judge::judge;
+use crate::made::made;
+use crate::unknown::unknown_name;
+use scenario::Scenario;
+use scenario_forms::{Forms, read_forms, read_value};
+use serde_json::Value;
+use std::alloc::Global;
+
+// The scenario of forms.
+#[tactic(auto, unfolding(crate::specs::Reading::scenario_from))]
+fn of_forms(alloc: Global, forms: Forms) -> Result<Scenario, ScenarioError>
+    requires { All (IsGoodTxn (length (forms_view forms).items.decls)) (forms_view forms).txns.txns }
+    ensures read { GivesBy shown result (scenario_from (forms_view forms)) }
+    ensures begun { IfOk result IsBegun }
+{
+    if let Some(place) = unknown_name(&forms) {
+        return Err(ScenarioError::UnknownName { place });
+    }
+    let mut scenario = made(alloc, forms)?;
+    let room = judge(alloc, &scenario)?;
+    scenario.room = room;
+    Ok(scenario)
+}
+
+// The scenario of a value.
+#[tactic(auto, unfolding(crate::specs::Reading::scenario_of))]
+fn of_value(alloc: Global, value: &Value) -> Result<Scenario, ScenarioError>
+    ensures read { GivesBy shown result (scenario_of (view value.now)) }
+    ensures begun { IfOk result IsBegun }
+{
+    let forms = read_forms(alloc, value)?;
+    of_forms(alloc, forms)
+}
+
+/// The scenario of a JSON text in UTF-8, or the first refusal. NotJson comes exactly where the bytes have no reading as a
+/// JSON value. It is linear in the text, but for the maps of names and the sorts of reads, writes and relative sets; a
+/// compute is never expanded. For each transaction it takes a place for each item.
+pub fn read_scenario(alloc: Global, bytes: &[u8]) -> Result<Scenario, ScenarioError>
+    requires { length bytes.now < 2 ^ 32 }
+    ensures read { GivesBy shown result (scenario_in (data_of bytes.now)) }
+    ensures good { IfOk result (λ s. IsScenario (shown s)) }
+    ensures begun { IfOk result (λ s. All (λ script. IsTold script 0 []) s.scripts) }
+{
+    let value = read_value(alloc, bytes)?;
+    of_value(alloc, &value)
+}
