@@ -251,8 +251,8 @@ module _ (s : Shown) (h : IsScenario s) where
   unfolding scenario_of
   read_back g = ap (λ (r : Result Formed FormError). formed r >>= scenario_from) (canonical_forms s h g) ∙ from_forms
 
-pub text_read_back : (s : Shown) (bytes : List ℕ) → IsScenario s → HasIntegers s → IsUtf8 bytes → read bytes ≡ Some (canonical s)
-    → scenario_in (data_of bytes) ≡ Ok (merged s)
+pub text_read_back : (s : Shown) (bytes : List ℕ) → IsScenario s → HasIntegers s → IsUtf8 bytes
+    → read bytes ≡ Some (canonical s) → scenario_in (data_of bytes) ≡ Ok (merged s)
 text_read_back s bytes h g text is =
     ap (λ (b : Bool). scenario_in (cond b (read bytes) None)) (is_utf8-from_IsUtf8 bytes text)
     ∙ ap scenario_in is ∙ read_back s h g
