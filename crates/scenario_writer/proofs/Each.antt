@@ -36,11 +36,21 @@ is_numbered letter n h lt =
     and_from _ _ (and_from _ _ h (lt-ltb (length (decimal n)) 32 (omega arith))) (name_digits n (omega arith))
 
 -- the generated scenario by its parts
-pub made : (n : ℕ) (ns ms : List (List ℕ)) (ds : List ItemDecl) (ts : List TxnDecl) (gs : List TogetherDecl) (ps : List Program)
+pub made : (n : ℕ) (ns ms : List (List ℕ)) (ds : List ItemDecl) (ts : List TxnDecl) (gs : List TogetherDecl)
+    (ps : List Program)
     (rs : List Releases) (room : ℕ) → ns ≡ each dated_name n ++ codes "m" ∷ [] → ms ≡ each txn_name n
     → ds ≡ each (dated_item n) n ++ state_item ∷ [] → ts ≡ each (txn_decl n) n → gs ≡ [] → ps ≡ each (program n) n
     → rs ≡ each releases_each n → room ≡ n * (256 + 256 * (4 + 2)) + 2
-    → record { names = record { items = ns; txns = ms }; items = ds; txns = ts; together = gs; programs = ps; releases = rs; room = room }
+    → record {
+      names = record { items = ns; txns = ms };
+      items = ds;
+      txns = ts;
+      together = gs;
+      programs = ps;
+      releases
+          = rs;
+      room = room;
+    }
     ≡ generated_of n
 unfolding generated_of
 made n ns ms ds ts gs ps rs room a b c d e f g h = rw (a, b, c, d, e, f, g, h) refl

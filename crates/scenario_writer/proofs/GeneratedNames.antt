@@ -19,7 +19,8 @@ pub length_with : {A : Type 0} (f : ℕ → A) (n : ℕ) (x : A) → length (eac
 length_with f n x = length_push (each f n) x ∙ ap (λ (k : ℕ). k + 1) (length_each f n)
 
 pub before_last : {A : Type 0} (f : ℕ → A) (n i : ℕ) (x d : A) → i < n → get_or (each f n ++ x ∷ []) i d ≡ f i
-before_last f n i x d lt = get_or_append_left (each f n) (x ∷ []) d i (let e : length (each f n) ≡ n = length_each f n in omega arith)
+before_last f n i x d lt = get_or_append_left (each f n) (x ∷ []) d i (let e : length
+    (each f n) ≡ n = length_each f n in omega arith)
     ∙ at_each f n i d lt
 
 pub at_last : {A : Type 0} (f : ℕ → A) (n : ℕ) (x d : A) → get_or (each f n ++ x ∷ []) n d ≡ x

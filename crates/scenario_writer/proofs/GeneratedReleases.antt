@@ -17,12 +17,14 @@ use Rattle.scenario_writer.specs.Generated.{each, txn_decl, releases_each, jobs_
 abbrev ticks_from : ℕ → ℕ → ℕ → ℕ → List ℕ
 ticks_from offset period a m = map (λ k. offset + k * period) (range_with_len a m)
 
-not_refused : (soon far : Bool) (x y : ℕ × PlanRefused) (o : Option (ℕ × PlanRefused)) → soon ≡ false → far ≡ false → o ≡ None
+not_refused : (soon far : Bool) (x y : ℕ × PlanRefused) (o : Option (ℕ × PlanRefused)) → soon ≡ false → far ≡ false
+    → o ≡ None
     → cond soon (Some x) (cond far (Some y) o) ≡ None
 not_refused soon far x y o e f g = ap (λ (b : Bool). cond b (Some x) (cond far (Some y) o)) e
     ∙ ap (λ (b : Bool). cond b (Some y) o) f ∙ g
 
-all_planned : (offset period a m index earliest : ℕ) → earliest ≤ offset + a * period → offset + (a + m) * period ≤ 2 ^ 40
+all_planned : (offset period a m index earliest : ℕ) → earliest ≤ offset + a * period
+    → offset + (a + m) * period ≤ 2 ^ 40
     → refused_tick index earliest period (ticks_from offset period a m) ≡ None
 all_planned offset period a zero index earliest low high = refl
 all_planned offset period a (suc m) index earliest low high =
@@ -30,26 +32,31 @@ all_planned offset period a (suc m) index earliest low high =
     let same : (a + 1 + m) * period ≡ (a + suc m) * period =
     (let e : a + 1 + m ≡ a + suc m = omega arith in ap (λ (k : ℕ). k * period) e) in
     let within : a * period ≤ (a + suc m) * period = mul-le-mul_right {m = a} {n = a + suc m} period (omega arith) in
-    not_refused (nat_lt (offset + a * period) earliest) (nat_lt (2 ^ 40) (offset + a * period)) (index, TooSoon earliest)
-    (index, TooFar (2 ^ 40)) _ (le-ltb (offset + a * period) earliest low) (le-ltb (2 ^ 40) (offset + a * period) (omega arith))
+    not_refused (nat_lt (offset + a * period) earliest) (nat_lt (2 ^ 40) (offset + a * period))
+    (index, TooSoon earliest)
+    (index, TooFar (2 ^ 40)) _ (le-ltb (offset + a * period) earliest low) (le-ltb (2 ^ 40) (offset + a * period)
+    (omega arith))
     (all_planned offset period (a + 1) m (index + 1) (offset + a * period + period) (omega arith) (omega arith))
 
 -- the last job of each transaction is early
 bound : (n i : ℕ) → n ≤ 64 → 3 * (n - 1 - i) + (0 + jobs_each) * period_of n ≤ 2 ^ 40
-bound n i few = let most : 256 * period_of n ≤ 256 * 520 = mul-le-mul_left {m = period_of n} {n = 520} 256 (omega arith) in omega arith
+bound n i few = let most : 256 * period_of n ≤ 256 * 520 = mul-le-mul_left {m = period_of n} {n = 520} 256
+    (omega arith) in omega arith
 
 jobs_planned : (t : TxnDecl) (m : ℕ) → t.offset + (0 + m) * t.period ≤ 2 ^ 40
     → refused_tick 0 0 t.period (ticks_of t (Jobs m)) ≡ None
 jobs_planned t m low = all_planned t.offset t.period 0 m 0 0 (omega arith) low
 
 -- the jobs of one transaction
-one_planned : (n i : ℕ) → n ≤ 64 → refused_tick 0 0 (txn_decl n i).period (ticks_of (txn_decl n i) (Jobs jobs_each)) ≡ None
+one_planned : (n i : ℕ) → n ≤ 64 → refused_tick 0 0 (txn_decl n i).period (ticks_of (txn_decl n i)
+    (Jobs jobs_each)) ≡ None
 one_planned n i few = jobs_planned (txn_decl n i) jobs_each (bound n i few)
 
 -- all of them
 no_bad : (tx : ℕ) (o : Option (ℕ × PlanRefused)) (rest : Option (ℕ × ℕ × PlanRefused)) → o ≡ None → rest ≡ None
     → option_or (option_map (λ bad. (tx, bad.0, bad.1)) o) rest ≡ None
-no_bad tx o rest e f = ap (λ (q : Option (ℕ × PlanRefused)). option_or (option_map (λ bad. (tx, bad.0, bad.1)) q) rest) e ∙ f
+no_bad tx o rest e f = ap (λ (q : Option (ℕ × PlanRefused)). option_or (option_map (λ bad.
+    (tx, bad.0, bad.1)) q) rest) e ∙ f
 
 planned_from : (n a m tx : ℕ) → n ≤ 64
     → refused_from tx (map (txn_decl n) (range_with_len a m)) (map releases_each (range_with_len a m)) ≡ None
@@ -61,14 +68,16 @@ planned n few = planned_from n 0 n 0 few
 
 jobs_from : (a m : ℕ) → total_jobs (map releases_each (range_with_len a m)) ≡ m * 256
 jobs_from a zero = refl
-jobs_from a (suc m) = let h : total_jobs (map releases_each (range_with_len (a + 1) m)) ≡ m * 256 = jobs_from (a + 1) m in omega arith
+jobs_from a (suc m) = let h : total_jobs (map releases_each (range_with_len (a + 1) m)) ≡ m * 256 = jobs_from
+    (a + 1) m in omega arith
 
 pub jobs_in_all : (n : ℕ) → total_jobs (each releases_each n) ≡ n * 256
 jobs_in_all n = jobs_from 0 n
 
 eager_from : (a m : ℕ) → eager_jobs (map releases_each (range_with_len a m)) ≡ 0
 eager_from a zero = refl
-eager_from a (suc m) = let h : eager_jobs (map releases_each (range_with_len (a + 1) m)) ≡ 0 = eager_from (a + 1) m in omega arith
+eager_from a (suc m) = let h : eager_jobs (map releases_each (range_with_len (a + 1) m)) ≡ 0 = eager_from
+    (a + 1) m in omega arith
 
 pub no_eager : (n : ℕ) → eager_jobs (each releases_each n) ≡ 0
 no_eager n = eager_from 0 n
@@ -84,13 +93,15 @@ pub room : (n : ℕ) → entries_in (each (txn_decl n) n) (each releases_each n)
 room n = room_from n 0 n
 
 -- the last tick
-low_ticks : (offset period a m most : ℕ) → offset + (a + m) * period ≤ most → greatest (ticks_from offset period a m) ≤ most
+low_ticks : (offset period a m most : ℕ) → offset + (a + m) * period ≤ most
+    → greatest (ticks_from offset period a m) ≤ most
 low_ticks offset period a zero most low = omega arith
 low_ticks offset period a (suc m) most low =
     let same : (a + 1 + m) * period ≡ (a + suc m) * period =
     (let e : a + 1 + m ≡ a + suc m = omega arith in ap (λ (k : ℕ). k * period) e) in
     let within : a * period ≤ (a + suc m) * period = mul-le-mul_right {m = a} {n = a + suc m} period (omega arith) in
-    let rest : greatest (ticks_from offset period (a + 1) m) ≤ most = low_ticks offset period (a + 1) m most (omega arith) in
+    let rest : greatest (ticks_from offset period (a + 1) m) ≤ most = low_ticks offset period (a + 1) m most
+    (omega arith) in
     omega arith
 
 max_low : (a b most : ℕ) → a ≤ most → b ≤ most → max a b ≤ most
@@ -100,9 +111,12 @@ jobs_low : (t : TxnDecl) (m most : ℕ) → t.offset + (0 + m) * t.period ≤ mo
 jobs_low t m most low = low_ticks t.offset t.period 0 m most low
 
 low_from : (n a m : ℕ) → n ≤ 64
-    → greatest (map greatest (fixed_ticks (map (txn_decl n) (range_with_len a m)) (map releases_each (range_with_len a m)))) ≤ 2 ^ 40
+    → greatest (map greatest (fixed_ticks (map (txn_decl n) (range_with_len a m)) (map releases_each
+    (range_with_len a m)))) ≤ 2 ^ 40
 low_from n a zero few = omega arith
-low_from n a (suc m) few = max_low _ _ (2 ^ 40) (jobs_low (txn_decl n a) jobs_each (2 ^ 40) (bound n a few)) (low_from n (a + 1) m few)
+low_from n a (suc m) few = max_low _ _ (2 ^ 40) (jobs_low (txn_decl n a) jobs_each (2 ^ 40) (bound n a few))
+    (low_from n (a + 1) m few)
 
-pub low_last : (n : ℕ) → n ≤ 64 → greatest (map greatest (fixed_ticks (each (txn_decl n) n) (each releases_each n))) ≤ 2 ^ 40
+pub low_last : (n : ℕ) → n ≤ 64 → greatest (map greatest (fixed_ticks (each (txn_decl n) n)
+    (each releases_each n))) ≤ 2 ^ 40
 low_last n few = low_from n 0 n few

@@ -92,12 +92,14 @@ only_one : (i : ℕ) → (((i == i) || false) && true) ≡ true
 only_one i = ap (λ (b : Bool). (b || false) && true) (same_item i)
 
 done_one : (i : ℕ) (dated : Bool) → ((dated || ((i == i) || false)) && true) ≡ true
-done_one i dated = ap (λ (b : Bool). (dated || (b || false)) && true) (same_item i) ∙ ap (λ (b : Bool). b && true) (or_true dated)
+done_one i dated = ap (λ (b : Bool). (dated || (b || false)) && true) (same_item i) ∙ ap (λ (b : Bool). b && true)
+    (or_true dated)
 
 done_two : (i n : ℕ) (d e : Bool)
     → ((d || ((i == i) || ((n == i) || false))) && ((e || ((i == n) || ((n == n) || false))) && true)) ≡ true
 done_two i n d e =
-    ap (λ (b : Bool). (d || (b || ((n == i) || false))) && ((e || ((i == n) || ((n == n) || false))) && true)) (same_item i)
+    ap (λ (b : Bool). (d || (b || ((n == i) || false))) && ((e || ((i == n) || ((n == n) || false))) && true))
+    (same_item i)
     ∙ ap (λ (b : Bool). b && ((e || ((i == n) || ((n == n) || false))) && true)) (or_true d)
     ∙ ap (λ (b : Bool). (e || ((i == n) || (b || false))) && true) (same_item n)
     ∙ ap (λ (b : Bool). (e || b) && true) (or_true (i == n))
@@ -118,9 +120,12 @@ sum_of n i = write (item_id n) (node Add (leaf_last (item_id (i - 1))) (leaf_con
 
 good_odd : (n i : ℕ) (decls : List ItemDecl) → bad_op decls (decl_if false n i) (odd_ops n i) ≡ None
 good_odd n i decls =
-    stands decls (decl_if false n i) [] (read (item_id (i - 1))) (copy_of i ∷ sum_of n i ∷ commit ∷ []) (only_one (i - 1))
-    (stands decls (decl_if false n i) (read (item_id (i - 1)) ∷ []) (copy_of i) (sum_of n i ∷ commit ∷ []) (first_of_two i n)
-    (stands decls (decl_if false n i) (read (item_id (i - 1)) ∷ copy_of i ∷ []) (sum_of n i) (commit ∷ []) (second_of_two i n)
+    stands decls (decl_if false n i) [] (read (item_id (i - 1))) (copy_of i ∷ sum_of n i ∷ commit ∷ []) (only_one
+    (i - 1))
+    (stands decls (decl_if false n i) (read (item_id (i - 1)) ∷ []) (copy_of i) (sum_of n i ∷ commit ∷ [])
+    (first_of_two i n)
+    (stands decls (decl_if false n i) (read (item_id (i - 1)) ∷ copy_of i ∷ []) (sum_of n i) (commit ∷ [])
+    (second_of_two i n)
     (stands decls (decl_if false n i) (read (item_id (i - 1)) ∷ copy_of i ∷ sum_of n i ∷ []) commit []
     (done_two i n (not (is_dated decls i)) (not (is_dated decls n))) refl)))
 
@@ -138,9 +143,11 @@ no_bad tx o rest e f = ap (λ (q : Option ℕ). option_or (option_map (λ op. (t
 good_from : (n a m tx : ℕ) (decls : List ItemDecl) → a + m ≤ n
     → bad_script_from decls tx (map (txn_decl n) (range_with_len a m)) (map (program n) (range_with_len a m)) ≡ None
 good_from n a zero tx decls le = refl
-good_from n a (suc m) tx decls le = no_bad tx _ _ (one_good n a decls (omega arith)) (good_from n (a + 1) m (tx + 1) decls (omega arith))
+good_from n a (suc m) tx decls le = no_bad tx _ _ (one_good n a decls (omega arith)) (good_from n (a + 1) m
+    (tx + 1) decls (omega arith))
 
-pub good_scripts : (n : ℕ) (decls : List ItemDecl) → bad_script_from decls 0 (each (txn_decl n) n) (each (program n) n) ≡ None
+pub good_scripts : (n : ℕ) (decls : List ItemDecl) → bad_script_from decls 0 (each (txn_decl n) n) (each
+    (program n) n) ≡ None
 good_scripts n decls = good_from n 0 n 0 decls (omega arith)
 
 -- each script has four steps
@@ -151,7 +158,8 @@ steps_if false n i = refl
 pub steps : (n i : ℕ) → steps_of (program n i).ops ≡ 4
 steps n i = steps_if (is_even i) n i
 
-passes_all : (q : Program → Bool) (ps : List Program) → ((k : ℕ) (d : Program) → k < length ps → q (get_or ps k d) ≡ true)
+passes_all : (q : Program → Bool) (ps : List Program) → ((k : ℕ) (d : Program) → k < length ps
+    → q (get_or ps k d) ≡ true)
     → prefix_len q ps ≡ length ps
 passes_all q [] h = refl
 passes_all q (p ∷ ps) h = ap (λ (b : Bool). cond b (1 + prefix_len q ps) 0) (h 0 p (omega arith))
@@ -161,14 +169,16 @@ pub none_long : (ps : List Program) → ((k : ℕ) (d : Program) → k < length 
     → position is_long ps ≡ None
 none_long ps h = ap (λ (b : Bool). cond b (Some (position_or_len is_long ps)) None)
     (le-ltb (position_or_len is_long ps) (length ps) (let e : position_or_len is_long ps ≡ length ps =
-    passes_all (λ p. not (is_long p)) ps (λ k d l. ap not (le-ltb 10000 (steps_of (get_or ps k d).ops) (h k d l))) in omega arith))
+    passes_all (λ p. not (is_long p)) ps (λ k d l. ap not (le-ltb 10000 (steps_of (get_or ps k d).ops)
+    (h k d l))) in omega arith))
 
 -- the operations are good, and of a text's form
 good_ops_if : (b : Bool) (n i : ℕ) → i < n → list_all (is_good (n + 1)) (ops_if b n i) ≡ true
 good_ops_if true n i lt = and_from _ _ (and_from _ _ (and_from _ _ (lt-ltb i (n + 1) (omega arith)) refl) refl) refl
 good_ops_if false n i lt =
     and_from _ _ (lt-ltb (i - 1) (n + 1) (omega arith))
-    (and_from _ _ (and_from _ _ (and_from _ _ (lt-ltb i (n + 1) (omega arith)) (lt-ltb (i - 1) (n + 1) (omega arith))) refl)
+    (and_from _ _ (and_from _ _ (and_from _ _ (lt-ltb i (n + 1) (omega arith)) (lt-ltb (i - 1) (n + 1)
+    (omega arith))) refl)
     (and_from _ _ (and_from _ _ (and_from _ _ (lt-ltb n (n + 1) (omega arith))
     (and_from _ _ (lt-ltb (i - 1) (n + 1) (omega arith)) refl)) refl) refl))
 
@@ -184,4 +194,9 @@ text_ops_if false n i (suc (suc (suc zero))) d l = tt
 text_ops_if false n i (suc (suc (suc (suc k)))) d l = absurd (omega arith)
 
 pub is_program : (n i : ℕ) → i < n → IsProgramOver (n + 1) (program n i)
-is_program n i lt = record { over = refl; good = good_ops_if (is_even i) n i lt; computes = text_ops_if (is_even i) n i }
+is_program n i lt = record {
+  over = refl;
+  good = good_ops_if (is_even i) n i lt;
+  computes = text_ops_if
+      (is_even i) n i;
+}

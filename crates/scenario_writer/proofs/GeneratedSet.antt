@@ -32,7 +32,8 @@ below_or_last : {A : Type 0} (f : ℕ → A) (n i : ℕ) (x : A) → i < length 
 below_or_last f n i x lt = let e : length (each f n ++ x ∷ []) ≡ n + 1 = length_with f n x in
     elim (cases_lt i n) [ inl less ↦ inl less | inr more ↦ inr (omega arith) ]
 
-with_at : {A : Type 0} (P : A → Type 0) (f : ℕ → A) (n : ℕ) (x : A) → ((i : ℕ) → i < n → P (f i)) → P x → (k : ℕ) (d : A)
+with_at : {A : Type 0} (P : A → Type 0) (f : ℕ → A) (n : ℕ) (x : A) → ((i : ℕ) → i < n → P (f i)) → P x
+    → (k : ℕ) (d : A)
     → (k < n) ⊎ (k ≡ n) → P (get_or (each f n ++ x ∷ []) k d)
 with_at P f n x h p k d (inl lt) = subst P (sym (before_last f n k x d lt)) (h k lt)
 with_at P f n x h p k d (inr e) = subst P (sym (ap (λ (i : ℕ). get_or (each f n ++ x ∷ []) i d) e ∙ at_last f n x d)) p
@@ -69,7 +70,8 @@ eager_low : (g e p : ℕ) → e ≡ 0 → g ≤ 2 ^ 40 → g + e * p ≤ 2 ^ 40
 eager_low g e p none low = subst (λ (k : ℕ). g + k * p ≤ 2 ^ 40) (sym none) (omega arith)
 
 -- what a transaction may write and read
-writes_own_if : (b : Bool) (n i : ℕ) → list_any (λ k. k.0 == i) (cond b (item_id i ∷ []) (item_id i ∷ item_id n ∷ [])) ≡ true
+writes_own_if : (b : Bool) (n i : ℕ) → list_any (λ k. k.0 == i) (cond b (item_id i ∷ [])
+    (item_id i ∷ item_id n ∷ [])) ≡ true
 writes_own_if true n i = or_left _ _ (eq-eqb i i refl)
 writes_own_if false n i = or_left _ _ (eq-eqb i i refl)
 
@@ -90,7 +92,8 @@ writes_only_if false n i item lt h = writes_two n i item lt (or_cases (i == item
 before_odd : (i item : ℕ) → (i % 2 ≡ 0 → ⊥) → i - 1 ≡ item → item % 2 ≡ 0
 before_odd i item odd e = omega arith
 
-reads_only_if : (b : Bool) (i item : ℕ) → is_even i ≡ b → list_any (λ k. k.0 == item) (cond b [] (item_id (i - 1) ∷ [])) ≡ true
+reads_only_if : (b : Bool) (i item : ℕ) → is_even i ≡ b → list_any (λ k. k.0 == item) (cond b [] (item_id
+    (i - 1) ∷ [])) ≡ true
     → (item ≡ i - 1) × (is_even item ≡ true)
 reads_only_if true i item e h = absurd (false≢true h)
 reads_only_if false i item e h = elim (or_cases ((i - 1) == item) false h) [
@@ -134,7 +137,8 @@ module _ (n : ℕ) (one : 1 ≤ n) (few : n ≤ 64) where
   programs = subst (λ (m : ℕ). All (IsProgramOver m) (each (program n) n)) (sym many)
       (all_each (IsProgramOver (n + 1)) (program n) n (λ i lt. is_program n i lt))
 
-  short : (k : ℕ) (d : Program) → k < length (each (program n) n) → steps_of (get_or (each (program n) n) k d).ops ≤ 10000
+  short : (k : ℕ) (d : Program) → k < length (each (program n) n)
+      → steps_of (get_or (each (program n) n) k d).ops ≤ 10000
   short k d lt = all_each (λ p. steps_of p.ops ≤ 10000) (program n) n
       (λ i l. let e : steps_of (program n i).ops ≡ 4 = steps n i in omega arith) k d lt
 
@@ -158,7 +162,8 @@ module _ (n : ℕ) (one : 1 ≤ n) (few : n ≤ 64) where
     short_scripts = none_long (each (program n) n) short;
     few_jobs = (let e : total_jobs (each releases_each n) ≡ n * 256 = jobs_in_all n in omega arith);
     planned = planned n few;
-    room = (let e : entries_in (each (txn_decl n) n) (each releases_each n) ≡ n * (256 + 256 * (4 + 2)) = room n in omega arith);
+    room = (let e : entries_in (each (txn_decl n) n) (each releases_each n) ≡ n * (256 + 256 *
+        (4 + 2)) = room n in omega arith);
     small_room = omega arith;
     eager = eager_low _ _ _ (no_eager n) (low_last n few);
   }
@@ -168,7 +173,8 @@ module _ (n : ℕ) (one : 1 ≤ n) (few : n ≤ 64) where
   prios : AllPairs (λ a b. a.prio ≢ b.prio) txns
   prios i j d less lt =
       let within : j < n = (let e : length txns ≡ n = length_each (txn_decl n) n in omega arith) in
-      let p : (get_or txns i d).prio ≡ n - i = ap (λ (t : TxnDecl). t.prio) (at_each (txn_decl n) n i d (omega arith)) in
+      let p : (get_or txns i d).prio ≡ n - i = ap (λ (t : TxnDecl). t.prio) (at_each (txn_decl n) n i d
+      (omega arith)) in
       let q : (get_or txns j d).prio ≡ n - j = ap (λ (t : TxnDecl). t.prio) (at_each (txn_decl n) n j d within) in
       λ e. absurd (omega arith)
 
@@ -187,17 +193,25 @@ module _ (n : ℕ) (one : 1 ≤ n) (few : n ≤ 64) where
       ∙ ap Some (at_last (dated_item n) n state_item state_item)
 
   none_got : (i : ℕ) → n < i → slice_get items i ≡ None
-  none_got i lt = elim ((slice_get_cases items i).1)
-      [ inl h ↦ absurd (let e : length items ≡ n + 1 = many in let l : i < length items = h.1 in omega arith) | inr h ↦ h.1 ]
+  none_got i lt = elim ((slice_get_cases items i).1) [
+    | inl h ↦ absurd (let e : length items ≡ n + 1 = many in let l : i < length items = h.1 in omega arith)
+    | inr h
+        ↦ h.1
+  ]
 
-  undated : (o : Option ItemDecl) (i : ℕ) → slice_get items i ≡ o → is_some (option_and_then (λ d. validity_of_kind d.kind) o) ≡ false
+  undated : (o : Option ItemDecl) (i : ℕ) → slice_get items i ≡ o
+      → is_some (option_and_then (λ d. validity_of_kind d.kind) o) ≡ false
       → is_dated items i ≡ false
   undated o i e f = ap (λ (q : Option ItemDecl). is_some (option_and_then (λ d. validity_of_kind d.kind) q)) e ∙ f
 
   dated_below : (i : ℕ) → is_dated items i ≡ true → i < n
   dated_below i h = elim (cases_order i n) [
     | inl same ↦ absurd (false≢true (sym (undated (Some state_item) i (ap (slice_get items) same ∙ last_got) refl) ∙ h))
-    | inr other ↦ elim other [ inl less ↦ less | inr more ↦ absurd (false≢true (sym (undated None i (none_got i more) refl) ∙ h)) ]
+    | inr other ↦ elim other [
+      | inl less ↦ less
+      | inr more ↦ absurd (false≢true (sym (undated None i
+          (none_got i more) refl) ∙ h))
+    ]
   ]
 
   may_write_own : (i : ℕ) → i < n → IsTrue (may_write (txn_of set i) i)
@@ -205,7 +219,8 @@ module _ (n : ℕ) (one : 1 ≤ n) (few : n ≤ 64) where
 
   writer_is : (item other : ℕ) → item < n → IsTrue (may_write (txn_of set other) item) → other ≡ item
   writer_is item other lt h = elim (cases_lt other n) [
-    | inl less ↦ writes_only_if (is_even other) n other item lt (sym (ap (λ (t : TxnDecl). may_write t item) (txn_at other less)) ∙ h)
+    | inl less ↦ writes_only_if (is_even other) n other item lt (sym (ap (λ (t : TxnDecl). may_write t item)
+        (txn_at other less)) ∙ h)
     | inr more ↦ absurd (false≢true (sym (ap (λ (t : TxnDecl). may_write t item) (txn_past other more)) ∙ h))
   ]
 

@@ -19,7 +19,8 @@ pub done : (vs : List Data) (left total : List Data) → left ≡ [] → vs ++ l
 done vs left total ends so_far = sym (append-nil vs) ∙ ap (λ (r : List Data). vs ++ r) (sym ends) ∙ so_far
 
 -- the same for the elements of a list
-pub more_mapped : {A : Type 0} (f : A → Data) (xs : List A) (i : ℕ) (x : A) (vs : List Value) (v : Value) (total : List Data)
+pub more_mapped : {A : Type 0} (f : A → Data) (xs : List A) (i : ℕ) (x : A) (vs : List Value) (v : Value)
+    (total : List Data)
     → i < length xs → x ≡ get_or xs i x → view v ≡ f x → map view vs ++ map f (drop i xs) ≡ total
     → map view (vs ++ v ∷ []) ++ map f (drop (i + 1) xs) ≡ total
 more_mapped {A = A} f xs i x vs v total lt at is so_far =
@@ -45,24 +46,29 @@ pub all_hold : {A : Type 0} (P : A → Type 0) (xs : List A) (i : ℕ) → lengt
 all_hold {A = A} P xs i le h = subst (λ (ys : List A). All P ys) (take_all i xs le) h
 
 -- the elements that are left
-pub next : {A : Type 0} (xs : List A) (i : ℕ) (x : A) → i < length xs → x ≡ get_or xs i x → drop i xs ≡ x ∷ drop (i + 1) xs
+pub next : {A : Type 0} (xs : List A) (i : ℕ) (x : A) → i < length xs → x ≡ get_or xs i x
+    → drop i xs ≡ x ∷ drop (i + 1) xs
 next {A = A} xs i x lt is = drop_more xs i x lt ∙ ap (λ (y : A). y ∷ drop (i + 1) xs) (sym is)
 
 pub more_hold_at : {A : Type 0} (P : A → Type 0) (xs : List A) (i : ℕ) (e : A) → i < length xs → All P (take i xs)
     → P (get_or xs i e) → All P (take (i + 1) xs)
-more_hold_at P xs i e lt so_far p = more_hold P xs i (get_or xs i e) lt (get_or_default xs i e (get_or xs i e) lt) so_far p
+more_hold_at P xs i e lt so_far p = more_hold P xs i (get_or xs i e) lt (get_or_default xs i e
+    (get_or xs i e) lt) so_far p
 
-pub more_mapped_at : {A : Type 0} (f : A → Data) (xs : List A) (i : ℕ) (e : A) (vs : List Value) (v : Value) (total : List Data)
+pub more_mapped_at : {A : Type 0} (f : A → Data) (xs : List A) (i : ℕ) (e : A) (vs : List Value) (v : Value)
+    (total : List Data)
     → i < length xs → view v ≡ f (get_or xs i e) → map view vs ++ map f (drop i xs) ≡ total
     → map view (vs ++ v ∷ []) ++ map f (drop (i + 1) xs) ≡ total
 more_mapped_at f xs i e vs v total lt is so_far =
     more_mapped f xs i (get_or xs i e) vs v total lt (get_or_default xs i e (get_or xs i e) lt) is so_far
 
 -- the items that are left
-pub next_item : (ns : List (List ℕ)) (ds : List ItemDecl) (i : ℕ) (n : List ℕ) (e : ItemDecl) → i < length ns → i < length ds
+pub next_item : (ns : List (List ℕ)) (ds : List ItemDecl) (i : ℕ) (n : List ℕ) (e : ItemDecl) → i < length ns
+    → i < length ds
     → n ≡ get_or ns i n
     → items_data (drop i ns) (drop i ds) ≡ item_data n (get_or ds i e) ∷ items_data (drop (i + 1) ns) (drop (i + 1) ds)
 next_item ns ds i n e a b f = rw (next ns i n a f, drop_more ds i e b) refl
 
-pub no_items_left : (ns : List (List ℕ)) (ds : List ItemDecl) (i : ℕ) → length ns ≤ i → items_data (drop i ns) (drop i ds) ≡ []
+pub no_items_left : (ns : List (List ℕ)) (ds : List ItemDecl) (i : ℕ) → length ns ≤ i
+    → items_data (drop i ns) (drop i ds) ≡ []
 no_items_left ns ds i le = ap (λ (ms : List (List ℕ)). items_data ms (drop i ds)) (drop_all i ns le)

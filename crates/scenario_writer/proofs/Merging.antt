@@ -36,9 +36,11 @@ module _ (P : Operation → Type 0) (sum : (m n : ℕ) → P (compute m) → P (
   merge_all [] h = h
   merge_all (op ∷ ops) h = join_all op (merged_ops ops) (head P op ops h) (merge_all ops (tail P op ops h))
 
-good_sum : (items m n : ℕ) → is_good items (compute m) ≡ true → is_good items (compute n) ≡ true → is_good items (compute (m + n)) ≡ true
+good_sum : (items m n : ℕ) → is_good items (compute m) ≡ true → is_good items (compute n) ≡ true
+    → is_good items (compute (m + n)) ≡ true
 good_sum items m n a b = le-leb 1 (m + n) (let p : 1 ≤ m = leb-true 1 m a in omega arith)
 
 pub good_merged : (items : ℕ) (ops : List Operation) → list_all (is_good items) ops ≡ true
     → All (λ op. is_good items op ≡ true) (merged_ops ops)
-good_merged items ops h = merge_all (λ op. is_good items op ≡ true) (good_sum items) ops (AllPass-from_list_all (is_good items) ops h)
+good_merged items ops h = merge_all (λ op. is_good items op ≡ true) (good_sum items) ops (AllPass-from_list_all
+    (is_good items) ops h)

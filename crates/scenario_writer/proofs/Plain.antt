@@ -44,7 +44,8 @@ plain_integer most (negsuc n) = record { no_float = refl; low = omega arith }
 no_more : (most : ℕ) → ArePlain most no_members
 no_more most = record { no_float = refl; low = omega arith }
 
-with_member : (most : ℕ) (name : List ℕ) (d : Data) (ms : Members) → IsPlain most d → ArePlain most ms → ArePlain most (member name d ms)
+with_member : (most : ℕ) (name : List ℕ) (d : Data) (ms : Members) → IsPlain most d → ArePlain most ms
+    → ArePlain most (member name d ms)
 with_member most name d ms h g = record {
   no_float = or_from (has_float d) (members_have_float ms) h.no_float g.no_float;
   low = (let a : data_of.depth d ≤ most = h.low in let b : members_depth ms ≤ most = g.low in omega arith);
@@ -60,13 +61,22 @@ with_optional most name None ms h g = g
 with_optional most name (Some d) ms h g = with_member most name d ms h g
 
 plain_object : (most : ℕ) (ms : Members) → ArePlain most ms → IsPlain (suc most) (object ms)
-plain_object most ms h = record { no_float = h.no_float; low = (let a : members_depth ms ≤ most = h.low in omega arith) }
+plain_object most ms h = record {
+  no_float = h.no_float;
+  low =
+      (let a : members_depth ms ≤ most = h.low in omega arith);
+}
 
 plain_one : (most : ℕ) (name : List ℕ) (d : Data) → IsPlain most d → IsPlain (suc most) (one name d)
-plain_one most name d h = plain_object most (member name d no_members) (with_member most name d no_members h (no_more most))
+plain_one most name d h = plain_object most (member name d no_members) (with_member most name d no_members h
+    (no_more most))
 
 higher : (most more : ℕ) (d : Data) → most ≤ more → IsPlain most d → IsPlain more d
-higher most more d le h = record { no_float = h.no_float; low = (let a : data_of.depth d ≤ most = h.low in omega arith) }
+higher most more d le h = record {
+  no_float = h.no_float;
+  low =
+      (let a : data_of.depth d ≤ most = h.low in omega arith);
+}
 
 items_plain : (most : ℕ) (ds : List Data) → All (IsPlain most) ds
     → (items_have_float (items_of ds) ≡ false) × (items_depth (items_of ds) ≤ most)
@@ -84,10 +94,12 @@ plain_array most ds h =
     record { no_float = q.0; low = (let b : items_depth (items_of ds) ≤ most = q.1 in omega arith) }
 
 -- the same of a list of data that are made one by one
-each_mapped : {A : Type 0} (most : ℕ) (f : A → Data) (xs : List A) → All (λ x. IsPlain most (f x)) xs → All (IsPlain most) (map f xs)
+each_mapped : {A : Type 0} (most : ℕ) (f : A → Data) (xs : List A) → All (λ x. IsPlain most (f x)) xs
+    → All (IsPlain most) (map f xs)
 each_mapped most f [] g k d lt = absurd (omega arith)
 each_mapped most f (x ∷ xs) g zero d lt = g 0 x (omega arith)
-each_mapped most f (x ∷ xs) g (suc k) d lt = each_mapped most f xs (λ j e l. g (suc j) e (omega arith)) k d (omega arith)
+each_mapped most f (x ∷ xs) g (suc k) d lt = each_mapped most f xs (λ j e l. g (suc j) e (omega arith)) k d
+    (omega arith)
 
 plain_mapped : {A : Type 0} (most : ℕ) (f : A → Data) (xs : List A) → All (λ x. IsPlain most (f x)) xs
     → IsPlain (suc most) (array_of (map f xs))
@@ -114,11 +126,14 @@ plain_expr names (node op a b) =
     (higher (2 * depth a) (2 * max (depth a) (depth b)) (expr_data names a) (omega arith) (plain_expr names a))
     (higher (2 * depth b) (2 * max (depth a) (depth b)) (expr_data names b) (omega arith) (plain_expr names b)))))
 
-plain_op : (names : List (List ℕ)) (items : ℕ) (op : Operation) → is_good items op ≡ true → IsPlain 65 (op_data names op)
+plain_op : (names : List (List ℕ)) (items : ℕ) (op : Operation) → is_good items op ≡ true
+    → IsPlain 65 (op_data names op)
 plain_op names items (read i) h = plain_one 64 _ _ (plain_word 64 _)
 plain_op names items (write i value) h =
-    let low : depth value ≤ 32 = leb-true (depth value) 32 (and_parts (nat_lt i.0 items && reads_below items value) (nat_le (depth value) 32) h).1 in
-    plain_object 64 _ (with_member 64 _ _ _ (higher (2 * depth value) 64 (expr_data names value) (omega arith) (plain_expr names value))
+    let low : depth value ≤ 32 = leb-true (depth value) 32 (and_parts (nat_lt i.0 items && reads_below items value)
+    (nat_le (depth value) 32) h).1 in
+    plain_object 64 _ (with_member 64 _ _ _ (higher (2 * depth value) 64 (expr_data names value) (omega arith)
+    (plain_expr names value))
     (with_member 64 _ _ _ (plain_word 64 _) (no_more 64)))
 plain_op names items (compute n) h = plain_one 64 _ _ (plain_whole 64 n)
 plain_op names items commit h = plain_word 65 _
@@ -166,7 +181,8 @@ plain_quiet false quiet = tt
 plain_names : (names : List (List ℕ)) (ids : List ItemId) → IsPlain 66 (item_words names ids)
 plain_names names ids = higher 1 66 _ (omega arith) (plain_items 0 names ids)
 
-plain_txn : (second : Bool) (names : List (List ℕ)) (items : ℕ) (w : Written) → list_all (is_good items) w.program.ops ≡ true
+plain_txn : (second : Bool) (names : List (List ℕ)) (items : ℕ) (w : Written)
+    → list_all (is_good items) w.program.ops ≡ true
     → IsPlain 67 (txn_data second names w)
 plain_txn second names items w good = plain_object 66 _
     (with_member 66 _ _ _ (plain_whole 66 _)
@@ -184,7 +200,8 @@ plain_txn second names items w good = plain_object 66 _
     (with_member 66 _ _ _ (plain_whole 66 _)
     (with_member 66 _ _ _ (plain_names names w.decl.writes) (no_more 66)))))))))))))))
 
-each_txn : (second : Bool) (names : List (List ℕ)) (items : ℕ) (ns : List (List ℕ)) (ts : List TxnDecl) (ps : List Program)
+each_txn : (second : Bool) (names : List (List ℕ)) (items : ℕ) (ns : List (List ℕ)) (ts : List TxnDecl)
+    (ps : List Program)
     (rs : List Releases) → All (λ p. list_all (is_good items) p.ops ≡ true) ps
     → All (λ w. IsPlain 67 (txn_data second names w)) (written ns ts ps rs)
 each_txn second names items [] ts ps rs h k d lt = absurd (omega arith)
@@ -200,7 +217,8 @@ plain_set : (names : List (List ℕ)) (g : TogetherDecl) → IsPlain 67 (set_dat
 plain_set names g = plain_object 66 _ (with_member 66 _ _ _ (plain_names names g.items)
     (with_member 66 _ _ _ (plain_whole 66 _) (no_more 66)))
 
-plain_sets : (second : Bool) (names : List (List ℕ)) (sets : List TogetherDecl) → IfPlain 68 (sets_data second names sets)
+plain_sets : (second : Bool) (names : List (List ℕ)) (sets : List TogetherDecl)
+    → IfPlain 68 (sets_data second names sets)
 plain_sets true names sets = plain_mapped 67 (set_data names) sets (λ k d lt. plain_set names _)
 plain_sets false names sets = tt
 

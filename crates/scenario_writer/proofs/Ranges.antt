@@ -14,11 +14,13 @@ use Rattle.scenario_writer.specs.Canonical.{written}
 use Rattle.scenario_writer.specs.Members.{AreWritable}
 use Rattle.scenario_writer.proofs.Loops.{next}
 
-passes : (q : Program → Bool) (b : Bool) (n : ℕ) (ps : List Program) → suc (length ps) ≤ cond b (1 + n) 0 → (b ≡ true) × (length ps ≤ n)
+passes : (q : Program → Bool) (b : Bool) (n : ℕ) (ps : List Program) → suc (length ps) ≤ cond b (1 + n) 0
+    → (b ≡ true) × (length ps ≤ n)
 passes q true n ps h = (refl, omega arith)
 passes q false n ps h = absurd (omega arith)
 
-prefix_all : (q : Program → Bool) (ps : List Program) → length ps ≤ prefix_len q ps → (k : ℕ) (d : Program) → k < length ps
+prefix_all : (q : Program → Bool) (ps : List Program) → length ps ≤ prefix_len q ps → (k : ℕ) (d : Program)
+    → k < length ps
     → q (get_or ps k d) ≡ true
 prefix_all q [] h k d lt = absurd (omega arith)
 prefix_all q (p ∷ ps) h zero d lt = (passes q (q p) (prefix_len q ps) ps h).0
@@ -53,10 +55,12 @@ module _ (s : Shown) (h : IsScenario s) where
             (h.writes k d lt).in_range j e l in omega arith);
         good = λ k d lt. subst (λ (n : ℕ). list_all (is_good n) (get_or s.programs k d).ops ≡ true) (sym same)
             (h.programs k d lt).good;
-        short = λ k d lt. ltb-false 10000 (steps_of (get_or s.programs k d).ops) (none_long s.programs k d h.short_scripts lt);
+        short = λ k d lt. ltb-false 10000 (steps_of (get_or s.programs k d).ops)
+            (none_long s.programs k d h.short_scripts lt);
       }
 
-  pub writable_as : (names ns : List (List ℕ)) (ts : List TxnDecl) (ps : List Program) (rs : List Releases) → names ≡ s.names.items
+  pub writable_as : (names ns : List (List ℕ)) (ts : List TxnDecl) (ps : List Program) (rs : List Releases)
+      → names ≡ s.names.items
       → ns ≡ s.names.txns → ts ≡ s.txns → ps ≡ s.programs → rs ≡ s.releases → AreWritable names ns ts ps rs
   writable_as names ns ts ps rs a b c d e =
       subst (λ (x : List (List ℕ)). AreWritable x ns ts ps rs) (sym a)
@@ -78,7 +82,8 @@ next_written ns ts ss rs i n t p r a b c d e f g h =
 program_at : (P : Program → Type 0) (ss : List Script) (i : ℕ) (s : Script) → i < length ss → s ≡ get_or ss i s
     → All P (map program_of ss) → P (program_of s)
 program_at P ss i s lt is h =
-    let within : i < length (map program_of ss) = (let e : length (map program_of ss) ≡ length ss = length-map ss program_of in omega arith) in
+    let within : i < length (map program_of ss) = (let e : length
+    (map program_of ss) ≡ length ss = length-map ss program_of in omega arith) in
     subst P (get_or-map program_of ss i s (program_of s) lt ∙ ap program_of (sym is)) (h i (program_of s) within)
 
 module _ (names ns : List (List ℕ)) (ts : List TxnDecl) (ss : List Script) (rs : List Releases)
@@ -93,19 +98,22 @@ module _ (names ns : List (List ℕ)) (ts : List TxnDecl) (ss : List Script) (rs
   within i lt = let e : length (map program_of ss) ≡ length ts = h.scripted in
       let f : length (map program_of ss) ≡ length ss = length-map ss program_of in omega arith
 
-  pub good_at : (i : ℕ) (s : Script) → i < length ts → s ≡ get_or ss i s → list_all (is_good (length names)) (program_of s).ops ≡ true
+  pub good_at : (i : ℕ) (s : Script) → i < length ts → s ≡ get_or ss i s
+      → list_all (is_good (length names)) (program_of s).ops ≡ true
   good_at i s lt is = program_at (λ p. list_all (is_good (length names)) p.ops ≡ true) ss i s (within i lt) is h.good
 
   pub short_at : (i : ℕ) (s : Script) → i < length ts → s ≡ get_or ss i s → steps_of (program_of s).ops ≤ 10000
   short_at i s lt is = program_at (λ p. steps_of p.ops ≤ 10000) ss i s (within i lt) is h.short
 
 -- a fact of each script is one of its program
-pub all_programs : (P : Program → Type 0) (ss : List Script) → All (λ s. P (program_of s)) ss → All P (map program_of ss)
+pub all_programs : (P : Program → Type 0) (ss : List Script) → All (λ s. P (program_of s)) ss
+    → All P (map program_of ss)
 all_programs P [] h k d lt = absurd (omega arith)
 all_programs P (s ∷ ss) h zero d lt = h 0 s (omega arith)
 all_programs P (s ∷ ss) h (suc k) d lt = all_programs P ss (λ j e l. h (suc j) e (omega arith)) k d (omega arith)
 
-pub none_written : (ns : List (List ℕ)) (ts : List TxnDecl) (ss : List Script) (rs : List Releases) (i : ℕ) → length ns ≤ i
+pub none_written : (ns : List (List ℕ)) (ts : List TxnDecl) (ss : List Script) (rs : List Releases) (i : ℕ)
+    → length ns ≤ i
     → written (drop i ns) (drop i ts) (map program_of (drop i ss)) (drop i rs) ≡ []
 none_written ns ts ss rs i le =
     ap (λ (ms : List (List ℕ)). written ms (drop i ts) (map program_of (drop i ss)) (drop i rs)) (drop_all i ns le)

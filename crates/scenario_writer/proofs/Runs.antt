@@ -15,7 +15,8 @@ use Rattle.scenario_writer.specs.Canonical.{op_data, joined, merged_ops}
 use Rattle.scenario_writer.specs.Runs.{computes_of, with_run, run_before, run_data}
 
 -- three runs in a row are joined in either order
-joined_twice : (m n : ℕ) (ops : List Operation) → joined (compute m) (joined (compute n) ops) ≡ joined (compute (m + n)) ops
+joined_twice : (m n : ℕ) (ops : List Operation) → joined (compute m) (joined (compute n) ops) ≡ joined (compute
+    (m + n)) ops
 joined_twice m n [] = refl
 joined_twice m n (read i ∷ ops) = refl
 joined_twice m n (write i value ∷ ops) = refl
@@ -27,7 +28,8 @@ with_some : (n : ℕ) (ops : List Operation) → 0 < n → with_run n ops ≡ co
 with_some zero ops h = absurd (omega arith)
 with_some (suc n) ops h = refl
 
-runs_on : (m n : ℕ) (ops : List Operation) → 0 < n → merged_ops (with_run m (compute n ∷ ops)) ≡ merged_ops (with_run (m + n) ops)
+runs_on : (m n : ℕ) (ops : List Operation) → 0 < n → merged_ops (with_run m (compute n ∷ ops)) ≡ merged_ops (with_run
+    (m + n) ops)
 runs_on zero n ops h = ap merged_ops (sym (ap (λ (k : ℕ). with_run k ops) (zero-add n) ∙ with_some n ops h))
 runs_on (suc m) n ops h = joined_twice (suc m) n (merged_ops ops)
     ∙ ap merged_ops (sym (with_some (suc m + n) ops (omega arith)))
@@ -40,7 +42,8 @@ computes_is commit n h = cc
 computes_is quit n h = cc
 
 -- the operations of a step, before those that follow
-pub run_goes_on : (names : List (List ℕ)) (run n : ℕ) (op : Operation) (ops : List Operation) → Some n ≡ computes_of op → 0 < n
+pub run_goes_on : (names : List (List ℕ)) (run n : ℕ) (op : Operation) (ops : List Operation)
+    → Some n ≡ computes_of op → 0 < n
     → run_before names (run + n) ops ≡ run_before names run (op ∷ ops)
 run_goes_on names run n op ops is more = rw (computes_is op n is)
     (ap (map (op_data names)) (sym (runs_on run n ops more)))
@@ -58,7 +61,8 @@ written names (suc run) (compute n) ops is = cc
 written names (suc run) commit ops is = refl
 written names (suc run) quit ops is = refl
 
-pub run_ends : (names : List (List ℕ)) (run : ℕ) (op : Operation) (ops : List Operation) (vs vs' : List Value) (v : Value)
+pub run_ends : (names : List (List ℕ)) (run : ℕ) (op : Operation) (ops : List Operation) (vs vs' : List Value)
+    (v : Value)
     → None ≡ computes_of op → map view vs' ≡ map view vs ++ run_data run → view v ≡ op_data names op
     → map view (vs' ++ v ∷ []) ++ run_before names 0 ops ≡ map view vs ++ run_before names run (op ∷ ops)
 run_ends names run op ops vs vs' v is ended wrote =
@@ -89,12 +93,14 @@ next_op ops i op lt is = at_drop_more (map operation) ops i op lt
     ∙ ap (λ (o : ScriptOp). operation o ∷ map operation (drop (i + 1) ops)) (sym is)
 
 -- the next operation is good and fits
-pub next_good : (names : List (List ℕ)) (ops : List ScriptOp) (vs : List Value) (run i : ℕ) (op : ScriptOp) → i < length ops
+pub next_good : (names : List (List ℕ)) (ops : List ScriptOp) (vs : List Value) (run i : ℕ) (op : ScriptOp)
+    → i < length ops
     → op ≡ get_or ops i op → IsLeft names ops vs run i → is_good (length names) (operation op) ≡ true
 next_good names ops vs run i op lt is h = (and_parts _ _ (ap (list_all (is_good (length names)))
     (sym (next_op ops i op lt is)) ∙ h.good)).0
 
-pub next_fits : (names : List (List ℕ)) (ops : List ScriptOp) (vs : List Value) (run i : ℕ) (op : ScriptOp) → i < length ops
+pub next_fits : (names : List (List ℕ)) (ops : List ScriptOp) (vs : List Value) (run i : ℕ) (op : ScriptOp)
+    → i < length ops
     → op ≡ get_or ops i op → IsLeft names ops vs run i → run + width (operation op) ≤ 10000
 next_fits names ops vs run i op lt is h =
     let e : steps_of (map operation (drop i ops)) ≡ width (operation op) + steps_of (map operation (drop (i + 1) ops)) =
@@ -116,7 +122,8 @@ one_more_fits ops i op lt is so_far fits =
     subst (λ (os : List Operation). All OpHasConstants os) (sym e)
     (All-append OpHasConstants (map operation (take i ops)) (operation op ∷ []) so_far (only_one (operation op) fits))
 
-pub next_left : (names : List (List ℕ)) (ops : List ScriptOp) (vs vs' : List Value) (run r i : ℕ) (op : ScriptOp) → i < length ops
+pub next_left : (names : List (List ℕ)) (ops : List ScriptOp) (vs vs' : List Value) (run r i : ℕ) (op : ScriptOp)
+    → i < length ops
     → op ≡ get_or ops i op → IsLeft names ops vs run i
     → ((rest : List Operation) → map view vs' ++ run_before names r rest
     ≡ map view vs ++ run_before names run (operation op ∷ rest)) → r ≤ run + width (operation op)
@@ -134,18 +141,27 @@ next_left names ops vs vs' run r i op lt is h goes_on less fits =
       fits = one_more_fits ops i op lt is h.fits fits;
     }
 
-pub first_left : (names : List (List ℕ)) (ops : List ScriptOp) → list_all (is_good (length names)) (map operation ops) ≡ true
+pub first_left : (names : List (List ℕ)) (ops : List ScriptOp)
+    → list_all (is_good (length names)) (map operation ops) ≡ true
     → steps_of (map operation ops) ≤ 10000 → IsLeft names ops [] 0 0
-first_left names ops good short = record { same = refl; good = good; short = omega arith; fits = λ k d lt. absurd (omega arith) }
+first_left names ops good short = record {
+  same = refl;
+  good = good;
+  short = omega arith;
+  fits = λ k d lt. absurd
+      (omega arith);
+}
 
 pub none_left : (names : List (List ℕ)) (ops : List ScriptOp) (vs vs' : List Value) (run i : ℕ) → length ops ≤ i
     → IsLeft names ops vs run i → map view vs' ≡ map view vs ++ run_data run
     → map view vs' ≡ run_before names 0 (map operation ops)
 none_left names ops vs vs' run i le h ended =
     ended ∙ ap (λ (ds : List Data). map view vs ++ ds) (sym (last_run names run))
-    ∙ ap (λ (rest : List Operation). map view vs ++ run_before names run rest) (sym (at_drop_all (map operation) ops i le))
+    ∙ ap (λ (rest : List Operation). map view vs ++ run_before names run rest) (sym (at_drop_all
+    (map operation) ops i le))
     ∙ h.same
 
 pub all_fit : (names : List (List ℕ)) (ops : List ScriptOp) (vs : List Value) (run i : ℕ) → length ops ≤ i
     → IsLeft names ops vs run i → All OpHasConstants (map operation ops)
-all_fit names ops vs run i le h = subst (λ (os : List ScriptOp). All OpHasConstants (map operation os)) (take_all i ops le) h.fits
+all_fit names ops vs run i le h = subst (λ (os : List ScriptOp). All OpHasConstants (map operation os))
+    (take_all i ops le) h.fits

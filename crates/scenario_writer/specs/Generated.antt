@@ -1,4 +1,5 @@
--- The generated scenarios: n transactions of equal period, of which each second one reads what the one before it writes.
+-- The generated scenarios: n transactions of equal period, of which each second one reads what the one before it
+-- writes.
 use Rattle.std.specs.Prelude.{ℕ, ◌+◌, ◌-◌, ◌*◌, ◌%◌, ◌==◌, pos, Bool, if◌then◌else◌, List, [], ◌∷◌, ◌++◌, map, codes, decimal}
 use Rattle.std.specs.List.{range_with_len}
 use Rattle.rt_base.specs.declared.ids.ItemId.{ItemId}

@@ -50,9 +50,11 @@ root_data items txns (Some sets) = object
     (member (codes "transactions") txns
     (member (codes "version") (whole 2) no_members))))
 
--- transactions with as many names, scripts and releases, over so many item names: their items have names, and their scripts are
+-- transactions with as many names, scripts and releases, over so many item names: their items have names, and their
+-- scripts are
 -- good and of 10,000 operations at most
-pub record AreWritable (names : List (List ℕ)) (ns : List (List ℕ)) (ts : List TxnDecl) (ps : List Program) (rs : List Releases)
+pub record AreWritable (names : List (List ℕ)) (ns : List (List ℕ)) (ts : List TxnDecl) (ps : List Program)
+    (rs : List Releases)
     : Type 0 where
   pub named : length ns ≡ length ts
   pub scripted : length ps ≡ length ts

@@ -4,4 +4,5 @@ use Rattle.scenario_writer.specs.Canonical.{item_word}
 use Rattle.scenario_writer.proofs.items.item_words.Given as goal
 
 abbrev pub invariant-loop-item : goal.invariant-loop-item
-invariant-loop-item l = map view l.values.items ++ map (item_word l.names) (drop l.item-index l.items) ≡ map (item_word l.names) l.items
+invariant-loop-item l = map view l.values.items ++ map (item_word l.names) (drop l.item-index l.items) ≡ map
+    (item_word l.names) l.items

@@ -11,7 +11,8 @@ loop-i-preserved c =
     rw (c.in_ok-push.ensures.items) (record {
       same = one_more _ _ _ _ _ _ c.in_ok-item.ensures.data (next_item _ _ c.loop-i.i c.index-names-i.result _ a
           c.loop-i-test.true c.index-names-i.is) c.loop-i.invariant.same;
-      fits = more_hold_at (λ d. IsI64 d.initial) _ c.loop-i.i _ c.loop-i-test.true c.loop-i.invariant.fits c.in_ok-item.ensures.fits;
+      fits = more_hold_at (λ d. IsI64 d.initial) _ c.loop-i.i _ c.loop-i-test.true c.loop-i.invariant.fits
+          c.in_ok-item.ensures.fits;
     })
 
 pub returns-clause-data : goal.returns-clause-data
@@ -20,4 +21,5 @@ returns-clause-data c = view-Array c.loop-i.values ∙ ap array_of (done _ _ _
     c.loop-i.invariant.same)
 
 pub returns-clause-fits : goal.returns-clause-fits
-returns-clause-fits c = all_hold (λ d. IsI64 d.initial) c.args.decls.now c.loop-i.i c.loop-i-test.false c.loop-i.invariant.fits
+returns-clause-fits c = all_hold (λ d. IsI64 d.initial) c.args.decls.now c.loop-i.i c.loop-i-test.false
+    c.loop-i.invariant.fits

@@ -4,4 +4,5 @@ use Rattle.scenario_writer.specs.Canonical.{set_data}
 use Rattle.scenario_writer.proofs.items.sets.Given as goal
 
 abbrev pub invariant-loop-one : goal.invariant-loop-one
-invariant-loop-one l = map view l.values.items ++ map (set_data l.names) (drop l.one-index l.sets) ≡ map (set_data l.names) l.sets
+invariant-loop-one l = map view l.values.items ++ map (set_data l.names) (drop l.one-index l.sets) ≡ map
+    (set_data l.names) l.sets

@@ -11,14 +11,17 @@ loop-sample-preserved c =
     let fits : FitsSigned w64 (get_or c.args.samples.now c.loop-sample.sample-index (pos 0)) = search rules in
     rw (c.in_ok-push.ensures.items) (record {
       same = more_mapped_at integer c.args.samples.now c.loop-sample.sample-index (pos 0) c.loop-sample.values.items _ _
-          c.loop-sample-test.true (c.integer_value.ensures.data ∙ ap integer (to_z-of_z w64 _ fits)) c.loop-sample.invariant.same;
+          c.loop-sample-test.true (c.integer_value.ensures.data ∙ ap integer
+          (to_z-of_z w64 _ fits)) c.loop-sample.invariant.same;
       fits = more_hold_at IsI64 c.args.samples.now c.loop-sample.sample-index (pos 0) c.loop-sample-test.true
           c.loop-sample.invariant.fits fits;
     })
 
 pub returns-clause-data : goal.returns-clause-data
-returns-clause-data c = view-Array c.loop-sample.values ∙ ap array_of (all_mapped integer c.args.samples.now c.loop-sample.sample-index
+returns-clause-data c = view-Array c.loop-sample.values ∙ ap array_of
+    (all_mapped integer c.args.samples.now c.loop-sample.sample-index
     c.loop-sample.values.items _ c.loop-sample-test.false c.loop-sample.invariant.same)
 
 pub returns-clause-fits : goal.returns-clause-fits
-returns-clause-fits c = all_hold IsI64 c.args.samples.now c.loop-sample.sample-index c.loop-sample-test.false c.loop-sample.invariant.fits
+returns-clause-fits c = all_hold IsI64 c.args.samples.now c.loop-sample.sample-index c.loop-sample-test.false
+    c.loop-sample.invariant.fits

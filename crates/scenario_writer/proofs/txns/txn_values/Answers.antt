@@ -9,16 +9,20 @@ use Rattle.scenario_writer.proofs.Ranges.{reads_at, writes_at, good_at, short_at
 use Rattle.scenario_writer.proofs.txns.txn_values.Goals as goal
 
 pub txn-requires-clause-reads : goal.txn-requires-clause-reads
-txn-requires-clause-reads c = reads_at _ _ _ _ _ c.requires c.loop-i.i c.index-decls-i.result c.loop-i-test.true c.index-decls-i.is
+txn-requires-clause-reads c = reads_at _ _ _ _ _ c.requires c.loop-i.i c.index-decls-i.result c.loop-i-test.true
+    c.index-decls-i.is
 
 pub txn-requires-clause-writes : goal.txn-requires-clause-writes
-txn-requires-clause-writes c = writes_at _ _ _ _ _ c.requires c.loop-i.i c.index-decls-i.result c.loop-i-test.true c.index-decls-i.is
+txn-requires-clause-writes c = writes_at _ _ _ _ _ c.requires c.loop-i.i c.index-decls-i.result c.loop-i-test.true
+    c.index-decls-i.is
 
 pub txn-requires-clause-good : goal.txn-requires-clause-good
-txn-requires-clause-good c = good_at _ _ _ _ _ c.requires c.loop-i.i c.index-scripts-i.result c.loop-i-test.true c.index-scripts-i.is
+txn-requires-clause-good c = good_at _ _ _ _ _ c.requires c.loop-i.i c.index-scripts-i.result c.loop-i-test.true
+    c.index-scripts-i.is
 
 pub txn-requires-clause-short : goal.txn-requires-clause-short
-txn-requires-clause-short c = short_at _ _ _ _ _ c.requires c.loop-i.i c.index-scripts-i.result c.loop-i-test.true c.index-scripts-i.is
+txn-requires-clause-short c = short_at _ _ _ _ _ c.requires c.loop-i.i c.index-scripts-i.result c.loop-i-test.true
+    c.index-scripts-i.is
 
 pub loop-i-preserved : goal.loop-i-preserved
 loop-i-preserved c =
@@ -28,16 +32,20 @@ loop-i-preserved c =
     rw (c.in_ok-push.ensures.items) (record {
       same = one_more _ _ _ _ _ _ c.in_ok-value.ensures.data (ap (map (txn_data c.args.second c.args.names.now))
           (next_written _ _ _ _ c.loop-i.i c.index-txn_names-i.result c.index-decls-i.result c.index-scripts-i.result
-          c.index-releases-i.result a c.loop-i-test.true b d c.index-txn_names-i.is c.index-decls-i.is c.index-scripts-i.is
+          c.index-releases-i.result a c.loop-i-test.true b d c.index-txn_names-i.is c.index-decls-i.is
+          c.index-scripts-i.is
           c.index-releases-i.is)) c.loop-i.invariant.same;
-      fits = more_hold (λ s. ProgramHasIntegers (program_of s)) _ c.loop-i.i c.index-scripts-i.result b c.index-scripts-i.is
+      fits = more_hold (λ s. ProgramHasIntegers (program_of s)) _ c.loop-i.i c.index-scripts-i.result b
+          c.index-scripts-i.is
           c.loop-i.invariant.fits c.in_ok-value.ensures.fits;
     })
 
 pub returns-clause-data : goal.returns-clause-data
-returns-clause-data c = view-Array c.loop-i.values ∙ ap array_of (done _ _ _ (ap (map (txn_data c.args.second c.args.names.now))
+returns-clause-data c = view-Array c.loop-i.values ∙ ap array_of (done _ _ _ (ap (map
+    (txn_data c.args.second c.args.names.now))
     (none_written _ _ _ _ c.loop-i.i (omega (arith, c.requires.named, c.loop-i-test.false)))) c.loop-i.invariant.same)
 
 pub returns-clause-fits : goal.returns-clause-fits
 returns-clause-fits c = all_hold (λ s. ProgramHasIntegers (program_of s)) c.args.scripts.now c.loop-i.i
-    (omega (arith, length-map c.args.scripts.now program_of, c.requires.scripted, c.loop-i-test.false)) c.loop-i.invariant.fits
+    (omega (arith, length-map c.args.scripts.now program_of, c.requires.scripted, c.loop-i-test.false))
+    c.loop-i.invariant.fits

@@ -8,9 +8,11 @@ use Rattle.scenario_writer.proofs.Ranges.{writable_as}
 use Rattle.scenario_writer.proofs.txns.txns.Goals as goal
 
 pub txn_values-requires : goal.txn_values-requires
-txn_values-requires c = writable_as (shown c.args.scenario.now) c.requires _ _ _ _ _ c.as_slice-names.ensures c.as_slice-txn_names.ensures
+txn_values-requires c = writable_as (shown c.args.scenario.now) c.requires _ _ _ _ _ c.as_slice-names.ensures
+    c.as_slice-txn_names.ensures
     c.as_slice-decls.ensures (ap (map program_of) c.as_slice-scripts.ensures) c.as_slice-releases.ensures
 
 pub returns-clause-fits : goal.returns-clause-fits
-returns-clause-fits c = subst (λ (ss : List Script). IfOk c.txn_values.result (λ v. All (λ s. ProgramHasIntegers (program_of s)) ss))
+returns-clause-fits c = subst (λ (ss : List Script). IfOk c.txn_values.result (λ v. All (λ s. ProgramHasIntegers
+    (program_of s)) ss))
     c.as_slice-scripts.ensures c.txn_values.ensures.fits

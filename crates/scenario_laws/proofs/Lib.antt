@@ -1,0 +1,13 @@
+mod Parts
+mod Exprs
+mod Ops
+mod Names
+mod Items
+mod Txns
+mod Sets
+mod Forms
+mod Merged
+mod MergedScenario
+mod Texts
+mod Order
+mod Law
