@@ -1,0 +1,4 @@
+mod RowsBy
+mod RankSets
+mod Agrees
+mod Dues
