@@ -25,7 +25,7 @@ use Rattle.pending_jobs.specs.Tables.{row_lock, work_lock, IsWait, AreRanks, IsL
 use Rattle.pending_jobs.proofs.RankSets.{With, Without, with_this, with_other, without_this, without_other, same_rank}
 
 -- a row after a write at n
-set_at : (rows : List (Option Row)) (n k : ℕ) (x y : Option Row) → n < length rows → row_of (set rows n x) k ≡ y → ((k ≡ n) × (x ≡ y)) ⊎ ((k ≢ n) × (row_of rows k ≡ y))
+pub set_at : (rows : List (Option Row)) (n k : ℕ) (x y : Option Row) → n < length rows → row_of (set rows n x) k ≡ y → ((k ≡ n) × (x ≡ y)) ⊎ ((k ≢ n) × (row_of rows k ≡ y))
 set_at rows n k x y lt h =
     elim (cases_eq k n) [
       | inl e ↦ inl (e, sym (get_or-set_same rows n x None lt) ∙ (ap (row_of (set rows n x)) (sym e) ∙ h))
@@ -39,7 +39,7 @@ still_some rows n k r lt h =
       | inr ne ↦ ap is_some (get_or-set_other rows n k (Some r) None ne) ∙ h
     ]
 
-some_is : {A : Type 0} (a b : A) → Some a ≡ Some b → a ≡ b
+pub some_is : {A : Type 0} (a b : A) → Some a ≡ Some b → a ≡ b
 some_is a b h = cc
 
 -- a release
@@ -154,3 +154,88 @@ module _ (rows : List (Option Row)) (held : Locks) (waiting : Waiting) (deadline
       ranks = released_ranks;
       least = least_released deadlines rows job tick least lt free a.least;
     }
+
+-- One row changes, but for its job and release.
+
+module _ (rows : List (Option Row)) (held : Locks) (waiting : Waiting) (deadlines : List ℕ) (ranks : RankSet) (least : Option ℕ) (a : Agree rows held waiting deadlines ranks least)
+    (tx : ℕ) (row row' : Row) (here : row_of rows tx ≡ Some row) (job : row'.job ≡ row.job) (release : row'.release ≡ row.release) where
+  abbrev rows_now : List (Option Row)
+  rows_now = set rows tx (Some row')
+
+  within : tx < length rows
+  within = in_range rows tx row here
+
+  -- a row after the change, and the one before
+  pub was_row : (k : ℕ) (x : Row) → row_of rows_now k ≡ Some x → (y : Row) × (row_of rows k ≡ Some y) × (x.job ≡ y.job) × (x.release ≡ y.release)
+  was_row k x h =
+      elim (set_at rows tx k (Some row') (Some x) within h) [
+        | inl e ↦ (
+            let same : row' ≡ x = some_is row' x e.1 in
+            (row, ap (row_of rows) e.0 ∙ here, ap (λ (r : Row). r.job) (sym same) ∙ job, ap (λ (r : Row). r.release) (sym same) ∙ release))
+        | inr o ↦ (x, o.1, refl, refl)
+      ]
+
+  -- a row before the change, and the one after
+  now_row : (k : ℕ) (y : Row) → row_of rows k ≡ Some y → (x : Row) × (row_of rows_now k ≡ Some x) × (x.job ≡ y.job) × (x.release ≡ y.release)
+  now_row k y h =
+      elim (cases_eq k tx) [
+        | inl e ↦ (
+            let same : row ≡ y = some_is row y (sym here ∙ (ap (row_of rows) (sym e) ∙ h)) in
+            (row', ap (row_of rows_now) e ∙ get_or-set_same rows tx (Some row') None within, job ∙ ap (λ (r : Row). r.job) same, release ∙ ap (λ (r : Row). r.release) same))
+        | inr ne ↦ (y, get_or-set_other rows tx k (Some row') None ne ∙ h, refl, refl)
+      ]
+
+  same_deadline : (x y : Row) → x.job ≡ y.job → x.release ≡ y.release → deadline_of deadlines x ≡ deadline_of deadlines y
+  same_deadline x y j r = ap (λ (n : ℕ). n + get_or deadlines x.job.tx.0 0) r ∙ ap (λ (q : JobId). y.release + get_or deadlines q.tx.0 0) j
+
+  pub some_same : (k : ℕ) → is_some (row_of rows_now k) ≡ is_some (row_of rows k)
+  some_same k =
+      elim (cases_eq k tx) [
+        | inl e ↦ ap is_some (ap (row_of rows_now) e ∙ get_or-set_same rows tx (Some row') None within) ∙ sym (ap is_some (ap (row_of rows) e ∙ here))
+        | inr ne ↦ ap is_some (get_or-set_other rows tx k (Some row') None ne)
+      ]
+
+  least_kept : (o : Option ℕ) → IsLeast deadlines rows o → IsLeast deadlines rows_now o
+  least_kept None none = absurd (let gone : Some row ≡ None = sym here ∙ none tx in cc (gone))
+  least_kept (Some m) l =
+      let n = now_row l.tx l.row l.here in
+      record {
+        tx = l.tx;
+        row = n.0;
+        here = n.1;
+        is = same_deadline n.0 l.row n.2 n.3 ∙ l.is;
+        least = λ k other h. let w = was_row k other h in let le : m ≤ deadline_of deadlines w.0 = l.least k w.0 w.1 in omega (arith, le, same_deadline other w.0 w.2 w.3);
+      }
+
+  -- with these locks and waits
+  pub agree_changed : (held' : Locks) (waiting' : Waiting) → held'.ceilings ≡ held.ceilings → held'.prios ≡ held.prios → waiting'.prios ≡ waiting.prios → waiting'.order ≡ waiting.order
+      → ((k item : ℕ) → k < length rows → item < length held.ceilings → lock_at held' k item ≡ row_lock (row_of rows_now k) item)
+      → ((item : ℕ) → (has_read row'.work item || has_written row'.work item) ≡ true → item < length held.ceilings)
+      → ((k : ℕ) (u : TxId) → on_of waiting'.on k ≡ Some u → IsWait rows_now waiting'.on k u)
+      → Agree rows_now held' waiting' deadlines ranks least
+  agree_changed held' waiting' ec ep ew eo locks touched waits =
+      let size : length held'.prios ≡ length held.prios = ap length ep in
+      let items : length held'.ceilings ≡ length held.ceilings = ap length ec in
+      let rows_size : length rows_now ≡ length rows = length-set rows tx (Some row') in
+      record {
+        few = omega (arith, size, a.few);
+        size = omega (arith, size, rows_size, a.size);
+        deadlines_size = omega (arith, size, a.deadlines_size);
+        prios = ew ∙ a.prios ∙ sym ep;
+        order = subst (λ (p : List ℕ). IsOrder p waiting'.order) (sym ep) (subst (IsOrder held.prios) (sym eo) a.order);
+        soon = a.soon;
+        early = λ k x h. let w = was_row k x h in let e : w.0.release < 2 ^ 63 = a.early k w.0 w.1 in omega (arith, w.3, e);
+        named = λ k x h. let w = was_row k x h in ap (λ (j : JobId). j.tx.0) w.2 ∙ a.named k w.0 w.1;
+        locks = λ k item lt low. locks k item (omega (arith, rows_size)) (omega (arith, items));
+        touched = λ k item x h t.
+            elim (set_at rows tx k (Some row') (Some x) within h) [
+              | inl e ↦ (let low : item < length held.ceilings = touched item (ap (λ (r : Row). has_read r.work item || has_written r.work item) (some_is row' x e.1) ∙ t) in omega (arith, items, low))
+              | inr o ↦ (let low : item < length held.ceilings = a.touched k item x o.1 t in omega (arith, items, low))
+            ];
+        waits = waits;
+        ranks = record {
+          within = λ r lt. a.ranks.within r (omega (arith, rows_size)) ∙ (ap (λ (order : List TxId). is_some (row_of rows (tx_of order r))) (sym eo) ∙ sym (some_same (tx_of waiting'.order r)));
+          beyond = λ r ge. a.ranks.beyond r (omega (arith, rows_size));
+        };
+        least = least_kept least a.least;
+      }
