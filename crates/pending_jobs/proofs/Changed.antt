@@ -181,7 +181,7 @@ module _ (rows : List (Option Row)) (held : Locks) (waiting : Waiting) (deadline
     end_size : length ended ≡ length rows
     end_size = length-map (set rows tx None) (option_map (freed row.job)) ∙ length-set rows tx None
 
-    end_ranks : AreRanks ended waiting'.order ranks'
+    pub end_ranks : AreRanks ended waiting'.order ranks'
     end_ranks = record {
       within = λ r lt.
           subst (λ (order : List TxId). has_rank ranks' r ≡ is_some (row_of ended (tx_of order r))) (sym changes.order)
@@ -193,6 +193,12 @@ module _ (rows : List (Option Row)) (held : Locks) (waiting : Waiting) (deadline
           ]);
       beyond = λ r ge. without_other ranks ranks' rank r without (λ (q : r ≡ rank). omega (arith, end_size, a.size)) ∙ a.ranks.beyond r (omega (arith, end_size));
     }
+
+    pub end_early : (k : ℕ) (x : Row) → row_of ended k ≡ Some x → x.release < 2 ^ 63
+    end_early k x h = let w = was k x h in let e : w.0.release < 2 ^ 63 = a.early k w.0 w.1 in omega (arith, e, ap (λ (r : Row). r.release) w.2)
+
+    pub end_named : (k : ℕ) (x : Row) → row_of ended k ≡ Some x → x.job.tx.0 ≡ k
+    end_named k x h = let w = was k x h in ap (λ (r : Row). r.job.tx.0) w.2 ∙ a.named k w.0 w.1
 
     -- the least deadline stays, where it is not that of the row that ended
     pub least_stays : (o : Option ℕ) → IsLeast deadlines rows o → o ≢ Some (deadline_of deadlines row) → IsLeast deadlines ended o
@@ -218,8 +224,8 @@ module _ (rows : List (Option Row)) (held : Locks) (waiting : Waiting) (deadline
           prios = changes.prios ∙ a.prios ∙ sym locks.prios;
           order = subst (λ (p : List ℕ). IsOrder p waiting'.order) (sym locks.prios) (subst (IsOrder held.prios) (sym changes.order) a.order);
           soon = a.soon;
-          early = λ k x h. let w = was k x h in let e : w.0.release < 2 ^ 63 = a.early k w.0 w.1 in omega (arith, e, ap (λ (r : Row). r.release) w.2);
-          named = λ k x h. let w = was k x h in ap (λ (r : Row). r.job.tx.0) w.2 ∙ a.named k w.0 w.1;
+          early = end_early;
+          named = end_named;
           locks = λ k item lt low_item. end_locks k item (omega (arith, end_size)) (omega (arith, in_items));
           touched = λ k item x h t.
               (let w = was k x h in

@@ -125,3 +125,18 @@ pub least_all : (heads : List (Option Head)) (deadlines : List ℕ) (order : Lis
     → MatchOption least ((rank : ℕ) → rank < length heads → head_with heads order rank ≡ None) (IsLeastOfHeads heads deadlines order)
 least_all heads deadlines order left None none h = λ rank lt. h rank lt (none rank)
 least_all heads deadlines order left (Some m) none h = record { rank = h.rank; head = h.head; at = h.at; least = λ other x t d. h.least other x t (none other) d }
+
+-- what was read of a rank
+pub taken : (heads : List (Option Head)) (deadlines : List ℕ) (order : List TxId) (rank tx : ℕ) (head : Head) → rank < length heads → tx ≡ tx_of order rank → head_at heads tx ≡ Some head
+    → HasDeadline heads deadlines order rank head (head.release + get_or deadlines tx 0)
+taken heads deadlines order rank tx head low is here = record {
+  within = low;
+  here = ap (head_at heads) (sym is) ∙ here;
+  is = ap (λ (n : ℕ). head.release + get_or deadlines n 0) (sym is);
+}
+
+pub not_there : (heads : List (Option Head)) (order : List TxId) (rank tx : ℕ) → tx ≡ tx_of order rank → ((x : Head) → head_at heads tx ≡ Some x → ⊥) → head_with heads order rank ≡ None
+not_there heads order rank tx is none = ap (head_at heads) (sym is) ∙ at (head_at heads tx) refl where
+  at : (o : Option Head) → head_at heads tx ≡ o → o ≡ None
+  at None e = refl
+  at (Some x) e = absurd (none x e)

@@ -9,3 +9,5 @@ mod Blockers
 mod Refusals
 pub mod Protocols
 mod Opens
+mod Calls
+mod Questions

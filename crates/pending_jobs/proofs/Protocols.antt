@@ -16,12 +16,14 @@ may_wait set rows refused x above named inv is h =
     let facts = refused_facts set rows refused x above named inv run r in
     let at : above.holder.tx.0 ≡ r.blocker.job.tx.0 = ap (λ (j : JobId). j.tx.0) r.is in
     record {
+      waiter = x;
+      pending = run.here;
+      free = run.runs;
       blocker = r.blocker;
       here = ap (row_of rows) at ∙ r.here;
       is = sym r.is;
       runs = facts.runs;
       differ = λ e. r.other (sym (e ∙ at));
-      free = λ row here. (let one : Some row ≡ Some x = sym here ∙ run.here in let same : row ≡ x = cc in ap (λ (q : Row). q.waits_on) same ∙ run.runs);
       no_waiters = λ n y j here on e.
           (let own : IsPending rows y = ap (row_of rows) (named.named n y here) ∙ here in
           let b = inv.wait_has_ceiling y j own on in

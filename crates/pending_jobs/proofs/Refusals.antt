@@ -68,7 +68,7 @@ in_numbers : (n x : ℕ) → x < n → In x (numbers_below n)
 in_numbers zero x h = absurd (omega arith)
 in_numbers (suc n) x h = elim (cases_eq x n) [ inl e ↦ inl e | inr ne ↦ inr (in_numbers n x (omega arith)) ]
 
-numbers_in : (n x : ℕ) → In x (numbers_below n) → x < n
+pub numbers_in : (n x : ℕ) → In x (numbers_below n) → x < n
 numbers_in zero x h = absurd h
 numbers_in (suc n) x (inl e) = omega (arith, e)
 numbers_in (suc n) x (inr h) = omega (arith, numbers_in n x h)

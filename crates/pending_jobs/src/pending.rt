@@ -117,7 +117,8 @@ impl Pending {
         ensures { (set : Set) → AreFactsOf set self.now.facts → result ≡ option_map (λ r. r.job) (running_row set self.now.rows) }
     {
         let tx = running_tx::<Brand>(self.ranks, &self.waits, Blank::new(1))?;
-        self.heads[tx.0 as usize].map(|head| head.job)
+        let head = self.heads[tx.0 as usize]?;
+        Some(head.job)
     }
 
     /// Why an operation of a pending job does not get the lock that it needs, by the lock rule; None exactly where it gets the
