@@ -1,28 +1,22 @@
 -- The tables agree still after a release, a step, a wait and an end.
-use Rattle.std.proofs.Common.{◌≡◌, ◌≢◌, ◌⊎◌, ℕ, ◌+◌, ◌^◌, ◌<◌, ◌≤◌, ◌==◌, Bool, true, false, cond, ◌||◌, List, length, map, Option, None, Some, get_or, set, refl, ap, sym, ◌∙◌, subst, inl, inr, arith}
-use Rattle.std.proofs.lemmas.Bool.{cases_eq, cases_lt, eq-eqb, ne_eqb, or_cases}
-use Rattle.std.proofs.lemmas.List.{length-set, length-map, get_or_past, get_or-set_same, get_or-set_other}
-use Rattle.std.proofs.Math.ListN.{get_or-map}
+use Rattle.std.proofs.Common.{◌≡◌, ◌≢◌, ◌⊎◌, ℕ, ◌+◌, ◌^◌, ◌<◌, ◌≤◌, true, false, ◌||◌, List, length, Option, None, Some, get_or, set, refl, ap, sym, ◌∙◌, subst, inl, inr, arith}
+use Rattle.std.proofs.lemmas.Bool.{cases_eq, cases_lt}
+use Rattle.std.proofs.lemmas.List.{length-set, get_or-set_same, get_or-set_other}
 use Rattle.std.specs.Prelude.{is_some}
-use Rattle.std.specs.Option.{option_map}
 use Rattle.rt_base.specs.declared.ids.JobId.{JobId}
 use Rattle.rt_base.specs.declared.ids.TxId.{TxId}
 use Rattle.rt_base.specs.declared.rank_set.RankSet.{RankSet}
 use Rattle.rt_base.specs.Ranks.{has_rank}
-use Rattle.ceiling_table.specs.declared.LockKind.{LockKind}
 use Rattle.ceiling_table.specs.declared.LockKind.TheVariants as kind
-use Rattle.ceiling_table.specs.Held.{Locks, lock_at, released_at}
-use Rattle.ceiling_table.specs.Seated.{Changes}
-use Rattle.inherit_prio.specs.Waits.{Waiting, IsOrder, on_of, tx_of, unless_on, freed_at}
-use Rattle.inherit_prio.specs.Waits as waits
+use Rattle.ceiling_table.specs.Held.{Locks, lock_at}
+use Rattle.inherit_prio.specs.Waits.{Waiting, IsOrder, on_of, tx_of}
 use Rattle.item_model.specs.Work.{has_read, has_written}
 use Rattle.step_journal.specs.State.{Row, row_of, new_row}
-use Rattle.step_journal.specs.Instant.{freed, with_row}
+use Rattle.step_journal.specs.Instant.{with_row}
 use Rattle.history_laws.proofs.Invariant.{in_range}
-use Rattle.pending_jobs.specs.Rows.{rows_waiting, rows_ended}
 use Rattle.pending_jobs.specs.Deadlines.{deadline_of, IsLeastDeadline}
-use Rattle.pending_jobs.specs.Tables.{row_lock, work_lock, IsWait, AreRanks, IsLeast, Agree, earlier_of}
-use Rattle.pending_jobs.proofs.RankSets.{With, Without, with_this, with_other, without_this, without_other, same_rank}
+use Rattle.pending_jobs.specs.Tables.{row_lock, IsWait, AreRanks, IsLeast, Agree, earlier_of}
+use Rattle.pending_jobs.proofs.RankSets.{With, with_this, with_other, same_rank}
 
 -- a row after a write at n
 pub set_at : (rows : List (Option Row)) (n k : ℕ) (x y : Option Row) → n < length rows → row_of (set rows n x) k ≡ y → ((k ≡ n) × (x ≡ y)) ⊎ ((k ≢ n) × (row_of rows k ≡ y))
@@ -130,7 +124,7 @@ module _ (rows : List (Option Row)) (held : Locks) (waiting : Waiting) (deadline
           within = λ r within.
               elim (cases_eq r rank) [
                 | inl e ↦ ap (has_rank ranks') e ∙ with_this ranks ranks' rank more
-                  ∙ sym (ap is_some (ap (row_of rows_new) (ap (tx_of waiting.order) e ∙ is) ∙ get_or-set_same rows job.tx.0 new None lt))
+                    ∙ sym (ap is_some (ap (row_of rows_new) (ap (tx_of waiting.order) e ∙ is) ∙ get_or-set_same rows job.tx.0 new None lt))
                 | inr ne ↦ (
                     let away : tx_of waiting.order r ≢ job.tx.0 = (λ q. ne (same_rank held.prios waiting.order r rank a.order (omega (arith, size, a.size)) low (q ∙ sym is))) in
                     with_other ranks ranks' rank r more ne ∙ a.ranks.within r (omega (arith, size)) ∙ sym (ap is_some (get_or-set_other rows job.tx.0 (tx_of waiting.order r) new None away)))

@@ -1,8 +1,7 @@
 -- The lock rule's blocker by what is in the list, and that two lists with the same holders have the same one.
-use Rattle.std.proofs.Common.{◌≡◌, ◌≢◌, ◌⊎◌, ℕ, zero, suc, ◌<◌, ◌≤◌, ◌==◌, Bool, true, false, ◌&&◌, ◌||◌, cond, List, [], ◌∷◌, Option, None, Some, refl, ap, sym, ◌∙◌, subst, inl, inr, arith}
-use Rattle.std.proofs.lemmas.Bool.{cases_eq, cases_order, ltb-true, ltb-false, eq-eqb, lt-ltb, eqb-true, or_cases, or_left, or_right, and_parts, and_from, false_from_ne_true}
+use Rattle.std.proofs.Common.{◌≡◌, ◌≢◌, ℕ, ◌<◌, ◌≤◌, Bool, true, false, cond, List, [], ◌∷◌, Option, None, Some, refl, sym, subst, inl, inr, arith}
+use Rattle.std.proofs.lemmas.Bool.{cases_order, ltb-true, ltb-false, eq-eqb, lt-ltb, eqb-true, or_cases, or_left, or_right, and_parts, and_from}
 use Rattle.std.specs.Prelude.{nat_lt}
-use Rattle.std.specs.List.{filter}
 use Rattle.rt_base.specs.LockRule.{stands_above, upper, topmost, unless_below, blocker}
 use Rattle.history_laws.proofs.Members.{In}
 use Rattle.history_laws.proofs.Topmost.{topmost_none}
@@ -29,7 +28,7 @@ not_above p c y a h = record {
 is_above : {A : Type 0} (p c : A → ℕ) (s x : A) → stands_above p c s x ≡ true → IsNotAbove p c x s
 is_above p c s x h =
     elim (or_cases _ _ h) [
-      | inl t ↦ (let lt : c x < c s = ltb-true (c x) (c s) t in record { ceiling = omega arith; prio = λ e. absurd (omega (arith, e)) })
+      | inl t ↦ (let lt : c x < c s = ltb-true (c x) (c s) t in let ne : c x ≢ c s = (λ e. omega (arith, lt, e)) in record { ceiling = omega (arith, lt); prio = λ e. absurd (ne e) })
       | inr b ↦ (let e : c s ≡ c x = eqb-true (c s) (c x) (and_parts _ _ b).0 in let lt : p x < p s = ltb-true (p x) (p s) (and_parts _ _ b).1 in record { ceiling = omega (arith, e); prio = λ q. omega (arith, lt) })
     ]
 

@@ -1,7 +1,7 @@
 -- What each call makes of the tables, over plain variables.
-use Rattle.std.proofs.Common.{◌≡◌, ◌≢◌, ℕ, zero, suc, ◌+◌, ◌^◌, ◌<◌, ◌≤◌, ◌==◌, Bool, true, false, cond, List, [], ◌∷◌, length, map, Option, None, Some, get_or, set, refl, ap, sym, ◌∙◌, subst, inl, inr, arith}
+use Rattle.std.proofs.Common.{◌≡◌, ◌≢◌, ℕ, zero, suc, ◌+◌, ◌^◌, ◌<◌, ◌==◌, true, false, cond, List, [], ◌∷◌, length, map, Option, None, Some, get_or, set, refl, ap, sym, ◌∙◌, subst, inl, arith}
 use Rattle.std.proofs.lemmas.Bool.{eq-eqb}
-use Rattle.std.proofs.lemmas.List.{get_or_read, get_or_past, length-set}
+use Rattle.std.proofs.lemmas.List.{get_or_read, length-set}
 use Rattle.std.specs.Prelude.{is_some, MatchOption, eqb}
 use Rattle.std.specs.Option.{option_map, option_eq}
 use Rattle.rt_base.specs.declared.ids.JobId.{JobId}
@@ -13,14 +13,14 @@ use Rattle.ceiling_table.specs.Held.{Locks, released_at, HasItem}
 use Rattle.ceiling_table.specs.Seated.{Changes}
 use Rattle.inherit_prio.specs.Waits.{Waiting, IsOrder, Changes as WaitChanges, on_of, tx_of, freed_at}
 use Rattle.item_model.specs.declared.stored.Stored.{Stored}
-use Rattle.item_model.specs.Work.{Work, no_work, work_after}
+use Rattle.item_model.specs.Work.{no_work, work_after}
 use Rattle.strict_commit.specs.Jobs.{Job}
 use Rattle.step_journal.specs.State.{Row, row_of, pending}
 use Rattle.step_journal.specs.Instant.{freed, with_row}
 use Rattle.history_laws.proofs.Members.{In, pending_in}
 use Rattle.history_laws.proofs.Invariant.{in_range}
 use Rattle.pending_jobs.specs.declared.head.Head.{Head}
-use Rattle.pending_jobs.specs.Rows.{Facts, Accesses, PendingSeen, head_of, accesses_at, no_access, rows_stepped, rows_waiting, rows_ended}
+use Rattle.pending_jobs.specs.Rows.{Facts, Accesses, PendingSeen, head_of, rows_stepped, rows_waiting, rows_ended}
 use Rattle.pending_jobs.specs.Waiting.{MayWait}
 use Rattle.pending_jobs.specs.Deadlines.{deadline_of, IsLeastDeadline}
 use Rattle.pending_jobs.specs.Tables.{no_job, head_at, waited_job, row_by, rows_by, access_of, job_after, op_locked_at, head_with, AreHeadRanks, IsLeast, AreRanks, IsLeastOfHeads, Agree, IsTable, earlier_of}
@@ -139,7 +139,7 @@ module _ (heads : List (Option Head)) (works : List Job) (held : Locks) (waiting
           heads_size = length-set heads job.tx.0 new_head ∙ t.heads_size;
           works_size = length-set works job.tx.0 w ∙ t.works_size;
           agree = subst (λ (n : ℕ). Agree (rows_by (set heads job.tx.0 new_head) (set works job.tx.0 w) waiting.on) held waiting deadlines ranks' (Some n)) (sym is_next)
-          (subst (λ (r : List (Option Row)). Agree r held waiting deadlines ranks' (Some (earlier_of (tick + get_or deadlines job.tx.0 0) least))) (sym released_is) a);
+              (subst (λ (r : List (Option Row)). Agree r held waiting deadlines ranks' (Some (earlier_of (tick + get_or deadlines job.tx.0 0) least))) (sym released_is) a);
         }
 
   -- of a pending job
@@ -206,7 +206,7 @@ module _ (heads : List (Option Head)) (works : List Job) (held : Locks) (waiting
             heads_size = omega (arith, prios, length-set heads tx stepped_head, t.heads_size);
             works_size = omega (arith, prios, length-set works tx w, t.works_size);
             agree = subst (λ (q : List (Option Row)). Agree q held' waiting deadlines ranks least) (sym stepped_is)
-            (agree_stepped rows held waiting deadlines ranks least t.agree tx row row_is held' items op low changes named);
+                (agree_stepped rows held waiting deadlines ranks least t.agree tx row row_is held' items op low changes named);
           }
 
     -- an end
@@ -243,7 +243,7 @@ module _ (heads : List (Option Head)) (works : List Job) (held : Locks) (waiting
             heads_size = omega (arith, prios, length-set heads tx None, t.heads_size);
             works_size = omega (arith, prios, t.works_size);
             agree = subst (λ (q : List (Option Row)). Agree q held' waiting' deadlines ranks' o) left_is
-            (agree_ended rows held waiting deadlines ranks least t.agree tx row row_is held' waiting' ranks' rank locks changes low_was is_was without o (subst (λ (q : List (Option Row)). IsLeast deadlines q o) (sym left_is) l));
+                (agree_ended rows held waiting deadlines ranks least t.agree tx row row_is held' waiting' ranks' rank locks changes low_was is_was without o (subst (λ (q : List (Option Row)). IsLeast deadlines q o) (sym left_is) l));
           }
 
       -- where the least deadline is another's
@@ -252,7 +252,7 @@ module _ (heads : List (Option Head)) (works : List Job) (held : Locks) (waiting
           let is_d : d ≡ get_or deadlines tx 0 = get_or_read deadlines tx d (omega (arith, in_heads, t.heads_size, t.agree.deadlines_size)) read 0 in
           let due : head.release + d ≡ deadline_of deadlines row = ap (λ (m : ℕ). head.release + m) is_d ∙ ap (λ (m : ℕ). head.release + get_or deadlines m 0) (sym named) in
           end_with least (subst (λ (q : List (Option Row)). IsLeast deadlines q least) left_is
-            (least_stays rows held waiting deadlines ranks least t.agree tx row row_is held' waiting' ranks' rank locks changes low_was is_was without least t.agree.least (λ e. ne (e ∙ ap Some (sym due)))))
+          (least_stays rows held waiting deadlines ranks least t.agree tx row row_is held' waiting' ranks' rank locks changes low_was is_was without least t.agree.least (λ e. ne (e ∙ ap Some (sym due)))))
 
       -- what the loop over the ranks wants, and what it gives
 
@@ -277,7 +277,7 @@ module _ (heads : List (Option Head)) (works : List Job) (held : Locks) (waiting
           → IsTable (set heads tx None) works held' waiting' deadlines ranks' o
       end_table_new o l =
           end_with o (least_of_rows (set heads tx None) works waiting'.on deadlines held.prios waiting'.order (length-set heads tx None ∙ t.heads_size)
-            (subst (IsOrder held.prios) (sym changes.order) t.agree.order) left_named o l)
+          (subst (IsOrder held.prios) (sym changes.order) t.agree.order) left_named o l)
 
   -- a wait
 
@@ -287,9 +287,9 @@ module _ (heads : List (Option Head)) (works : List Job) (held : Locks) (waiting
       let w = t.agree.waits n u e in
       let some : is_some (head_at heads u.0) ≡ true = sym (head_here heads works waiting.on u.0) ∙ w.blocker in
       absurd (at (head_at heads u.0) some h) where
-    at : (p : Option Head) → is_some p ≡ true → option_map (λ (x : Head). x.job) p ≡ None → ⊥
-    at None a b = cc
-    at (Some x) a b = cc
+        at : (p : Option Head) → is_some p ≡ true → option_map (λ (x : Head). x.job) p ≡ None → ⊥
+        at None a b = cc
+        at (Some x) a b = cc
 
   -- a row that waits on nobody, in the table of waits
   waits_none : (n : ℕ) (r : Row) → row_of rows n ≡ Some r → r.waits_on ≡ None → on_of waiting.on n ≡ None
@@ -312,13 +312,13 @@ module _ (heads : List (Option Head)) (works : List Job) (held : Locks) (waiting
           let f = fits heads works waiting.on n r h in
           let some : is_some (head_at heads u.0) ≡ true = sym (head_here heads works waiting.on u.0) ∙ (t.agree.waits n u e).blocker in
           head_or (head_at heads u.0) refl some where
-        head_or : (p : Option Head) → head_at heads u.0 ≡ p → is_some p ≡ true → ⊥
-        head_or None a b = cc
-        head_or (Some x) a b =
-            let f = fits heads works waiting.on n r h in
-            let on_is : r.waits_on ≡ Some x.job = ap (λ (y : Row). y.waits_on) f.1.is ∙ (ap (waited_job heads) e ∙ ap (option_map (λ (y : Head). y.job)) a) in
-            let own : x.job.tx.0 ≡ u.0 = (let k = row_here heads works waiting.on u.0 x a in ap (λ (j : JobId). j.tx.0) (sym k.2) ∙ t.agree.named u.0 k.0 k.1) in
-            may.no_waiters n r x.job h on_is (own ∙ q)
+            head_or : (p : Option Head) → head_at heads u.0 ≡ p → is_some p ≡ true → ⊥
+            head_or None a b = cc
+            head_or (Some x) a b =
+                let f = fits heads works waiting.on n r h in
+                let on_is : r.waits_on ≡ Some x.job = ap (λ (y : Row). y.waits_on) f.1.is ∙ (ap (waited_job heads) e ∙ ap (option_map (λ (y : Head). y.job)) a) in
+                let own : x.job.tx.0 ≡ u.0 = (let k = row_here heads works waiting.on u.0 x a in ap (λ (j : JobId). j.tx.0) (sym k.2) ∙ t.agree.named u.0 k.0 k.1) in
+                may.no_waiters n r x.job h on_is (own ∙ q)
 
     module _ (waiting' : Waiting) (changes : WaitChanges waiting waiting' (λ n. cond (n == tx) (Some on.tx) (on_of waiting.on n))) where
       waited_is : (r : Row) → row_of rows tx ≡ Some r → rows_by heads works waiting'.on ≡ rows_waiting rows r on
@@ -335,5 +335,5 @@ module _ (heads : List (Option Head)) (works : List Job) (held : Locks) (waiting
         heads_size = t.heads_size;
         works_size = t.works_size;
         agree = subst (λ (q : List (Option Row)). Agree q held waiting' deadlines ranks least) (sym (waited_is may.waiter may.pending))
-        (agree_waiting rows held waiting deadlines ranks least t.agree tx may.waiter may.pending waiting' on changes wait_free wait_on_free wait_nobody may.differ (ap is_some may.here) (t.agree.named tx may.waiter may.pending));
+            (agree_waiting rows held waiting deadlines ranks least t.agree tx may.waiter may.pending waiting' on changes wait_free wait_on_free wait_nobody may.differ (ap is_some may.here) (t.agree.named tx may.waiter may.pending));
       }

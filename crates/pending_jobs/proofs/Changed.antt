@@ -1,7 +1,7 @@
 -- The tables agree still after a step, a wait and an end.
-use Rattle.std.proofs.Common.{◌≡◌, ◌≢◌, ◌⊎◌, ℕ, ◌+◌, ◌^◌, ◌<◌, ◌≤◌, ◌==◌, Bool, true, false, cond, ◌||◌, List, length, map, Option, None, Some, get_or, set, refl, ap, sym, ◌∙◌, subst, inl, inr, arith}
-use Rattle.std.proofs.lemmas.Bool.{cases_eq, cases_lt, eq-eqb, ne_eqb, eqb-true, or_cases}
-use Rattle.std.proofs.lemmas.List.{length-set, length-map, get_or_past, get_or-set_same, get_or-set_other}
+use Rattle.std.proofs.Common.{◌≡◌, ◌≢◌, ℕ, ◌^◌, ◌<◌, ◌≤◌, ◌==◌, Bool, true, false, cond, ◌||◌, List, length, map, Option, None, Some, set, refl, ap, sym, ◌∙◌, subst, inl, inr, arith}
+use Rattle.std.proofs.lemmas.Bool.{cases_eq, eq-eqb, ne_eqb}
+use Rattle.std.proofs.lemmas.List.{length-set, length-map, get_or-set_same, get_or-set_other}
 use Rattle.std.proofs.Math.ListN.{get_or-map}
 use Rattle.std.specs.Prelude.{is_some}
 use Rattle.std.specs.Option.{option_map}
@@ -10,7 +10,6 @@ use Rattle.rt_base.specs.declared.ids.TxId.{TxId}
 use Rattle.rt_base.specs.declared.operation.Op.{Op}
 use Rattle.rt_base.specs.declared.rank_set.RankSet.{RankSet}
 use Rattle.rt_base.specs.Ranks.{has_rank}
-use Rattle.ceiling_table.specs.declared.LockKind.{LockKind}
 use Rattle.ceiling_table.specs.declared.LockKind.TheVariants as kind
 use Rattle.ceiling_table.specs.Held.{Locks, lock_at, released_at, HasItem}
 use Rattle.ceiling_table.specs.Seated.{Changes}
@@ -20,12 +19,12 @@ use Rattle.item_model.specs.Work.{has_read, has_written}
 use Rattle.step_journal.specs.State.{Row, row_of}
 use Rattle.step_journal.specs.Instant.{freed}
 use Rattle.history_laws.proofs.Invariant.{in_range}
-use Rattle.pending_jobs.specs.Rows.{row_stepped, rows_stepped, rows_waiting, rows_ended}
-use Rattle.pending_jobs.specs.Deadlines.{deadline_of, IsLeastDeadline}
-use Rattle.pending_jobs.specs.Tables.{row_lock, work_lock, op_locked_at, IsWait, AreRanks, IsLeast, Agree}
+use Rattle.pending_jobs.specs.Rows.{row_stepped, rows_stepped, rows_waiting}
+use Rattle.pending_jobs.specs.Deadlines.{deadline_of}
+use Rattle.pending_jobs.specs.Tables.{row_lock, op_locked_at, IsWait, AreRanks, IsLeast, Agree}
 use Rattle.pending_jobs.proofs.RankSets.{Without, without_this, without_other, same_rank}
 use Rattle.pending_jobs.proofs.WorkLocks.{op_lock, lock_after, locked_here, locked_there, touched_after, item_low}
-use Rattle.pending_jobs.proofs.Agrees.{agree_changed, some_same, set_at, some_is}
+use Rattle.pending_jobs.proofs.Agrees.{agree_changed, some_same, some_is}
 
 module _ (rows : List (Option Row)) (held : Locks) (waiting : Waiting) (deadlines : List ℕ) (ranks : RankSet) (least : Option ℕ) (a : Agree rows held waiting deadlines ranks least)
     (tx : ℕ) (row : Row) (here : row_of rows tx ≡ Some row) where
@@ -76,7 +75,7 @@ module _ (rows : List (Option Row)) (held : Locks) (waiting : Waiting) (deadline
     wait_locks k item lt in_items =
         elim (cases_eq k tx) [
           | inl e ↦ subst (λ (n : ℕ). lock_at held n item ≡ row_lock (row_of waited n) item) (sym e)
-            (a.locks tx item within in_items ∙ (ap (λ (o : Option Row). row_lock o item) here ∙ sym (ap (λ (o : Option Row). row_lock o item) (get_or-set_same rows tx (Some waits_row) None within))))
+              (a.locks tx item within in_items ∙ (ap (λ (o : Option Row). row_lock o item) here ∙ sym (ap (λ (o : Option Row). row_lock o item) (get_or-set_same rows tx (Some waits_row) None within))))
           | inr ne ↦ a.locks k item lt in_items ∙ sym (ap (λ (o : Option Row). row_lock o item) (get_or-set_other rows tx k (Some waits_row) None ne))
         ]
 
@@ -174,7 +173,7 @@ module _ (rows : List (Option Row)) (held : Locks) (waiting : Waiting) (deadline
     end_locks k item lt in_items =
         elim (cases_eq k tx) [
           | inl e ↦ subst (λ (n : ℕ). lock_at held' n item ≡ row_lock (row_of ended n) item) (sym e)
-            (locks.locks tx item in_items ∙ (ap (λ (b : Bool). cond b kind.Free (lock_at held tx item)) (eq-eqb tx tx refl) ∙ sym (ap (λ (o : Option Row). row_lock o item) gone)))
+              (locks.locks tx item in_items ∙ (ap (λ (b : Bool). cond b kind.Free (lock_at held tx item)) (eq-eqb tx tx refl) ∙ sym (ap (λ (o : Option Row). row_lock o item) gone)))
           | inr ne ↦ locks.locks k item in_items ∙ (ap (λ (b : Bool). cond b kind.Free (lock_at held k item)) (ne_eqb k tx ne) ∙ (a.locks k item lt in_items ∙ (sym (lock_freed (row_of rows k) item) ∙ sym (ap (λ (o : Option Row). row_lock o item) (left k ne)))))
         ]
 

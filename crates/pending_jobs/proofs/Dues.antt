@@ -1,9 +1,7 @@
 -- The loops over the pending ranks: a rank is taken, and what holds of those that were passed.
-use Rattle.std.proofs.Common.{◌≡◌, ◌≢◌, ℕ, ◌+◌, ◌<◌, ◌≤◌, Bool, true, false, List, length, Option, None, Some, get_or, refl, ap, sym, ◌∙◌, subst, inl, inr, arith}
-use Rattle.std.proofs.lemmas.Bool.{cases_eq, cases_lt, false_from_ne_true}
-use Rattle.std.proofs.lemmas.List.{get_or_read}
+use Rattle.std.proofs.Common.{◌≡◌, ℕ, ◌+◌, ◌<◌, ◌≤◌, true, false, List, length, Option, None, Some, get_or, refl, ap, sym, ◌∙◌, subst, inl, inr, arith}
+use Rattle.std.proofs.lemmas.Bool.{cases_eq, cases_lt}
 use Rattle.std.specs.Prelude.{is_some, MatchOption}
-use Rattle.rt_base.specs.declared.ids.JobId.{JobId}
 use Rattle.rt_base.specs.declared.ids.TxId.{TxId}
 use Rattle.rt_base.specs.declared.rank_set.RankSet.{RankSet}
 use Rattle.rt_base.specs.Ranks.{has_rank, IsLeastRank}
@@ -113,12 +111,12 @@ least_some heads deadlines order left left' rank tick head (Some m) w at before 
             least = λ other h t out d. from other h t out d;
           })
     ] where
-  from : (other : ℕ) (h : Head) (t : ℕ) → has_rank left' other ≡ false → HasDeadline heads deadlines order other h t → earlier_of tick (Some m) ≤ t
-  from other h t out d =
-      elim (cases_eq other rank) [
-        | inl e ↦ omega (arith, same_head heads deadlines order rank other head h tick t at d e)
-        | inr ne ↦ (let le : m ≤ t = before.least other h t (out_of left left' rank other w out ne) d in omega (arith, le))
-      ]
+      from : (other : ℕ) (h : Head) (t : ℕ) → has_rank left' other ≡ false → HasDeadline heads deadlines order other h t → earlier_of tick (Some m) ≤ t
+      from other h t out d =
+          elim (cases_eq other rank) [
+            | inl e ↦ omega (arith, same_head heads deadlines order rank other head h tick t at d e)
+            | inr ne ↦ (let le : m ≤ t = before.least other h t (out_of left left' rank other w out ne) d in omega (arith, le))
+          ]
 
 -- with no rank left, all were passed
 pub least_all : (heads : List (Option Head)) (deadlines : List ℕ) (order : List TxId) (left : RankSet) (least : Option ℕ) → ((r : ℕ) → has_rank left r ≡ false) → IsLeastPassed heads deadlines order left least

@@ -1,7 +1,6 @@
 -- The highest of the pending rows by the ranks, the due one, and the running one.
-use Rattle.std.proofs.Common.{◌≡◌, ◌≢◌, ◌⊎◌, ℕ, zero, suc, ◌+◌, ◌^◌, ◌<◌, ◌≤◌, ◌==◌, Bool, true, false, cond, List, [], ◌∷◌, length, map, Option, None, Some, get_or, refl, ap, sym, ◌∙◌, subst, inl, inr, arith}
-use Rattle.std.proofs.lemmas.Bool.{cases_eq, cases_lt, cases_order, eq-eqb, ne_eqb, eqb-true, false_from_ne_true}
-use Rattle.std.proofs.lemmas.List.{length-map, get_or_past}
+use Rattle.std.proofs.Common.{◌≡◌, ◌⊎◌, ℕ, zero, suc, ◌+◌, ◌^◌, ◌<◌, ◌≤◌, ◌==◌, Bool, true, false, cond, List, length, Option, None, Some, get_or, refl, ap, sym, ◌∙◌, subst, inl, inr, arith}
+use Rattle.std.proofs.lemmas.Bool.{cases_lt, cases_order, eq-eqb, eqb-true}
 use Rattle.std.proofs.Math.ListN.{get_or-map}
 use Rattle.std.specs.Prelude.{is_some, MatchOption}
 use Rattle.std.specs.List.{filter}
@@ -11,9 +10,8 @@ use Rattle.rt_base.specs.declared.ids.TxId.{TxId}
 use Rattle.rt_base.specs.declared.rank_set.RankSet.{RankSet}
 use Rattle.rt_base.specs.Ranks.{has_rank, IsLeastRank}
 use Rattle.rt_base.specs.Running.{followed as following}
-use Rattle.ceiling_table.specs.Held.{Locks}
-use Rattle.inherit_prio.specs.Waits.{Waiting, IsOrder, prio_of, on_of, tx_of}
-use Rattle.dispatch_core.specs.Dispatch.{IsRunning, next_of, end_of}
+use Rattle.inherit_prio.specs.Waits.{IsOrder, prio_of, on_of, tx_of}
+use Rattle.dispatch_core.specs.Dispatch.{IsRunning}
 use Rattle.strict_commit.specs.Jobs.{Job}
 use Rattle.txn_set.specs.declared.decl.TxnDecl.{TxnDecl}
 use Rattle.txn_set.specs.Set.{Set, no_txn, txn_of}
@@ -21,15 +19,14 @@ use Rattle.step_journal.specs.State.{Row, row_of, pending, prio, same_job}
 use Rattle.step_journal.specs.LockRule.{highest}
 use Rattle.step_journal.specs.Running.{running, followed, job_row, of_job}
 use Rattle.step_journal.specs.Instant.{is_due}
-use Rattle.history_laws.proofs.Members.{In, in_filter, filter_in, in_pending, pending_in, IsHighest, highest_is, highest_none}
+use Rattle.history_laws.proofs.Members.{In, in_filter, filter_in, in_pending, pending_in, highest_is, highest_none}
 use Rattle.history_laws.proofs.Invariant.{in_range}
 use Rattle.pending_jobs.specs.declared.head.Head.{Head}
 use Rattle.pending_jobs.specs.Rows.{Facts, Accesses, AreFactsOf}
 use Rattle.ceiling_table.specs.declared.CeilRow.{CeilRow}
-use Rattle.pending_jobs.specs.Deadlines.{deadline_of, IsLeastDeadline}
-use Rattle.pending_jobs.specs.Tables.{head_at, head_with, head_deadline, no_job, waited_job, row_by, row_at, rows_by, IsWait, AreRanks, IsLeast, Agree, IsTable, AreHeadRanks, HasDeadline, NotDue, IsFirstDue, IsLeastOfHeads}
-use Rattle.pending_jobs.proofs.RowsBy.{rows_length, rows_at, head_here, job_at, Fits, fits}
-use Rattle.pending_jobs.proofs.RankSets.{same_rank}
+use Rattle.pending_jobs.specs.Deadlines.{deadline_of}
+use Rattle.pending_jobs.specs.Tables.{head_at, head_with, no_job, waited_job, row_by, rows_by, IsWait, AreRanks, IsLeast, AreHeadRanks, HasDeadline, NotDue, IsFirstDue, IsLeastOfHeads}
+use Rattle.pending_jobs.proofs.RowsBy.{rows_length, rows_at, head_here, fits}
 
 -- what a set says of a transaction, by the lists of its priorities and deadlines
 
@@ -58,9 +55,13 @@ head_ranks heads works on order ranks a = record {
 -- the row of a head
 pub row_here : (heads : List (Option Head)) (works : List Job) (on : List (Option TxId)) (tx : ℕ) (head : Head) → head_at heads tx ≡ Some head
     → (row : Row) × (row_of (rows_by heads works on) tx ≡ Some row) × (row.job ≡ head.job) × (row.release ≡ head.release) × (row.waits_on ≡ waited_job heads (on_of on tx))
-row_here heads works on tx head h =
-    (record { job = head.job; release = head.release; used = head.used; work = (get_or works tx no_job).work; waits_on = waited_job heads (on_of on tx) },
-      rows_at heads works on tx ∙ ap (λ (o : Option Head). row_by o (get_or works tx no_job).work (waited_job heads (on_of on tx))) h, refl, refl, refl)
+row_here heads works on tx head h = (
+  record { job = head.job; release = head.release; used = head.used; work = (get_or works tx no_job).work; waits_on = waited_job heads (on_of on tx) },
+  rows_at heads works on tx ∙ ap (λ (o : Option Head). row_by o (get_or works tx no_job).work (waited_job heads (on_of on tx))) h,
+  refl,
+  refl,
+  refl,
+)
 
 pub early_heads : (heads : List (Option Head)) (works : List Job) (on : List (Option TxId)) → ((tx : ℕ) (row : Row) → row_of (rows_by heads works on) tx ≡ Some row → row.release < 2 ^ 63) → (tx : ℕ) (head : Head) → head_at heads tx ≡ Some head → head.release < 2 ^ 63
 early_heads heads works on early tx head h = let r = row_here heads works on tx head h in let e : r.0.release < 2 ^ 63 = early tx r.0 r.1 in omega (arith, e, r.3)
@@ -88,12 +89,17 @@ module _ (heads : List (Option Head)) (works : List Job) (on : List (Option TxId
       let f = fits heads works on n row h in
       let job : row.job ≡ f.0.job = ap (λ (q : Row). q.job) f.1.is in
       let release : row.release ≡ f.0.release = ap (λ (q : Row). q.release) f.1.is in
-      let own : row.job.tx.0 ≡ n = named n row h in
-      (r.0, f.0, record {
+      let own : row.job.tx.0 ≡ n = named n row h in (
+        r.0,
+        f.0,
+        record {
           within = r.1;
           here = ap (head_at heads) r.2 ∙ f.1.here;
           is = ap (λ (m : ℕ). f.0.release + get_or deadlines m 0) (r.2 ∙ sym own) ∙ ap (λ (m : ℕ). m + get_or deadlines row.job.tx.0 0) (sym release);
-        }, r.2, sym job)
+        },
+        r.2,
+        sym job,
+      )
 
   -- and the other way round
   pub row_due : (rank tick : ℕ) (head : Head) → HasDeadline heads deadlines order rank head tick → (row : Row) × (row_of rows (tx_of order rank) ≡ Some row) × (deadline_of deadlines row ≡ tick) × (row.job ≡ head.job)
@@ -106,9 +112,9 @@ module _ (heads : List (Option Head)) (works : List Job) (on : List (Option TxId
   pub least_of_rows : (o : Option ℕ) → MatchOption o ((rank : ℕ) → rank < length heads → head_with heads order rank ≡ None) (IsLeastOfHeads heads deadlines order) → IsLeast deadlines rows o
   least_of_rows None none = λ tx.
       none_at tx (row_of rows tx) refl where
-    none_at : (tx : ℕ) (o : Option Row) → row_of rows tx ≡ o → o ≡ None
-    none_at tx None e = refl
-    none_at tx (Some row) e = let d = deadline_here tx row e in absurd (let no = none d.0 d.2.within in let yes = d.2.here in cc (no, yes))
+        none_at : (tx : ℕ) (o : Option Row) → row_of rows tx ≡ o → o ≡ None
+        none_at tx None e = refl
+        none_at tx (Some row) e = let d = deadline_here tx row e in absurd (let no = none d.0 d.2.within in let yes = d.2.here in cc (no, yes))
   least_of_rows (Some m) l =
       let r = row_due l.rank m l.head l.at in
       record {
@@ -154,21 +160,21 @@ module _ (heads : List (Option Head)) (works : List Job) (on : List (Option TxId
         let passes : is_due set tick r.0 ≡ true = is_due_at tick n r.0 r.1 ∙ eq-eqb _ _ r.2 in
         let top : highest set (filter (is_due set tick) (pending rows)) ≡ Some r.0 = highest_by set _ r.0 (in_filter (is_due set tick) r.0 (pending rows) (in_pending rows n r.0 r.1) passes) (λ y k. above y k) in
         sym (ap (option_map (λ (r : Row). r.job)) top ∙ ap Some (r.3 ∙ first.is)) where
-      above : (y : Row) → In y (filter (is_due set tick) (pending rows)) → (y ≡ (row_due first.rank tick first.head first.at).0) ⊎ (prio set y < prio set (row_due first.rank tick first.head first.at).0)
-      above y k =
-          let r = row_due first.rank tick first.head first.at in
-          let i = filter_in (is_due set tick) y (pending rows) k in
-          let p = pending_in rows y i.0 in
-          let d = deadline_here p.0 y p.1 in
-          let due : deadline_of deadlines y ≡ tick = eqb-true _ _ (sym (is_due_at tick p.0 y p.1) ∙ i.1) in
-          elim (cases_order d.0 first.rank) [
-            | inl e ↦ (
-                let same : p.0 ≡ tx_of order first.rank = sym d.3 ∙ ap (tx_of order) e in
-                let rows_same : Some y ≡ Some r.0 = sym p.1 ∙ (ap (row_of rows) same ∙ r.1) in
-                inl cc)
-            | inr (inl lt) ↦ absurd (first.first d.0 lt d.1 (subst (HasDeadline heads deadlines order d.0 d.1) due d.2))
-            | inr (inr gt) ↦ inr (higher first.rank d.0 (tx_of order first.rank) p.0 r.0 y gt d.2.within refl d.3 r.1 p.1)
-          ]
+          above : (y : Row) → In y (filter (is_due set tick) (pending rows)) → (y ≡ (row_due first.rank tick first.head first.at).0) ⊎ (prio set y < prio set (row_due first.rank tick first.head first.at).0)
+          above y k =
+              let r = row_due first.rank tick first.head first.at in
+              let i = filter_in (is_due set tick) y (pending rows) k in
+              let p = pending_in rows y i.0 in
+              let d = deadline_here p.0 y p.1 in
+              let due : deadline_of deadlines y ≡ tick = eqb-true _ _ (sym (is_due_at tick p.0 y p.1) ∙ i.1) in
+              elim (cases_order d.0 first.rank) [
+                | inl e ↦ (
+                    let same : p.0 ≡ tx_of order first.rank = sym d.3 ∙ ap (tx_of order) e in
+                    let rows_same : Some y ≡ Some r.0 = sym p.1 ∙ (ap (row_of rows) same ∙ r.1) in
+                    inl cc)
+                | inr (inl lt) ↦ absurd (first.first d.0 lt d.1 (subst (HasDeadline heads deadlines order d.0 d.1) due d.2))
+                | inr (inr gt) ↦ inr (higher first.rank d.0 (tx_of order first.rank) p.0 r.0 y gt d.2.within refl d.3 r.1 p.1)
+              ]
 
     -- the running one
 
@@ -176,9 +182,9 @@ module _ (heads : List (Option Head)) (works : List Job) (on : List (Option TxId
     job_row_at n b j h e =
         let here : row_of rows j.tx.0 ≡ Some b = ap (row_of rows) (ap (λ (q : JobId). q.tx.0) (sym e) ∙ named n b h) ∙ h in
         ap (option_and_then (of_job j)) here ∙ own (same_job b.job j) (subst (λ (q : JobId). same_job b.job q ≡ true) e (grind (arith, eq-eqb b.job.tx.0 b.job.tx.0 refl, eq-eqb b.job.serial b.job.serial refl))) where
-      own : (c : Bool) → c ≡ true → cond c (Some b) None ≡ Some b
-      own true e = refl
-      own false e = absurd cc
+          own : (c : Bool) → c ≡ true → cond c (Some b) None ≡ Some b
+          own true e = refl
+          own false e = absurd cc
 
     module _ (ends : (tx : ℕ) (u : TxId) → on_of on tx ≡ Some u → IsWait rows on tx u) where
       -- where the row of n waits on the one of u
@@ -205,11 +211,13 @@ module _ (heads : List (Option Head)) (works : List Job) (on : List (Option TxId
           let w = ends n u e in
           let at : following {A = ℕ} {B = ℕ} Some (λ m. option_map (λ (t : TxId). t.0) (on_of on m)) k u.0 (option_map (λ (t : TxId). t.0) (on_of on u.0)) ≡ Some tx = h in
           let last : following {A = ℕ} {B = ℕ} Some (λ m. option_map (λ (t : TxId). t.0) (on_of on m)) k u.0 None ≡ Some tx = subst (λ (o : Option TxId). following {A = ℕ} {B = ℕ} Some (λ m. option_map (λ (t : TxId). t.0) (on_of on m)) k u.0 (option_map (λ (t : TxId). t.0) o) ≡ Some tx) w.ends at in
-          let same : u.0 ≡ tx = cc in
-          (l.0, ap (row_of rows) (sym same) ∙ l.1,
+          let same : u.0 ≡ tx = cc in (
+            l.0,
+            ap (row_of rows) (sym same) ∙ l.1,
             ap (followed rows (suc k) x) l.2
-            ∙ (ap (option_and_then (λ (r : Row). followed rows k r r.waits_on)) (job_row_at u.0 l.0 l.0.job l.1 refl)
-            ∙ ap (followed rows k l.0) l.3))
+                ∙ (ap (option_and_then (λ (r : Row). followed rows k r r.waits_on)) (job_row_at u.0 l.0 l.0.job l.1 refl)
+                ∙ ap (followed rows k l.0) l.3),
+          )
 
       -- with these ranks
 

@@ -1,28 +1,25 @@
 -- The tables of nothing pending.
-use Rattle.std.proofs.Common.{◌≡◌, ◌≢◌, ℕ, ◌^◌, ◌<◌, ◌≤◌, Bool, true, false, List, [], ◌∷◌, length, map, Option, None, Some, get_or, refl, ap, sym, ◌∙◌, subst, inl, inr, arith}
+use Rattle.std.proofs.Common.{◌≡◌, ℕ, ◌^◌, ◌<◌, false, List, [], ◌∷◌, length, map, Option, None, Some, get_or, refl, ap, sym, ◌∙◌, inl, inr, arith}
 use Rattle.std.proofs.lemmas.Bool.{cases_lt, cases_order}
 use Rattle.std.proofs.lemmas.List.{length-map, get_or_past}
 use Rattle.std.proofs.Math.ListN.{get_or-map}
 use Rattle.std.specs.Prelude.{is_some}
-use Rattle.std.specs.List.{All, AllPairs}
 use Rattle.rt_base.specs.declared.ids.TxId.{TxId}
 use Rattle.rt_base.specs.declared.rank_set.RankSet.{RankSet}
 use Rattle.rt_base.specs.Ranks.{has_rank}
 use Rattle.ceiling_table.specs.declared.CeilRow.{CeilRow}
-use Rattle.ceiling_table.specs.declared.LockKind.{LockKind}
 use Rattle.ceiling_table.specs.declared.LockKind.TheVariants as kind
 use Rattle.ceiling_table.specs.Held.{Locks, lock_at, no_ceilings, AreRising}
 use Rattle.inherit_prio.specs.Waits.{Waiting, IsOrder, on_of, tx_of}
 use Rattle.strict_commit.specs.Jobs.{Job}
 use Rattle.txn_set.specs.declared.decl.TxnDecl.{TxnDecl}
-use Rattle.txn_set.specs.Set.{Set, IsCompiled, HasGoodTimes, no_txn, txn_of}
-use Rattle.txn_set.specs.Ceilings.{prios}
+use Rattle.txn_set.specs.Set.{Set, IsCompiled, no_txn, txn_of}
 use Rattle.step_journal.specs.State.{Row, row_of}
 use Rattle.history_laws.proofs.Holding.{write_le_absolute}
 use Rattle.history_laws.proofs.Calendar.{times_at}
 use Rattle.pending_jobs.specs.declared.head.Head.{Head}
-use Rattle.pending_jobs.specs.Rows.{Facts, Accesses, AreFactsOf, AreRows, PendingSeen, ceil_row, accesses_of}
-use Rattle.pending_jobs.specs.Tables.{head_at, row_at, row_by, rows_by, row_lock, no_job, waited_job, opening_job, access_of, Agree, IsTable}
+use Rattle.pending_jobs.specs.Rows.{Accesses, AreRows, ceil_row, accesses_of}
+use Rattle.pending_jobs.specs.Tables.{head_at, row_at, row_by, rows_by, row_lock, no_job, waited_job, opening_job, access_of, IsTable}
 use Rattle.pending_jobs.proofs.RowsBy.{rows_are, rows_at}
 
 -- the priorities of a compiled set are distinct

@@ -1,9 +1,9 @@
 -- Where the protocol's invariant holds, a running job that is refused may wait on the job that it is told.
-use Rattle.std.proofs.Common.{◌≡◌, ◌≢◌, ℕ, ◌<◌, ◌≤◌, Bool, true, false, List, Option, None, Some, refl, ap, sym, ◌∙◌, subst, arith}
+use Rattle.std.proofs.Common.{◌≡◌, ◌<◌, Bool, true, false, List, Option, Some, ap, sym, ◌∙◌, arith}
 use Rattle.rt_base.specs.declared.ids.JobId.{JobId}
 use Rattle.txn_set.specs.Set.{Set}
 use Rattle.step_journal.specs.State.{Row, row_of, prio}
-use Rattle.step_journal.specs.LockRule.{Above, locks, ceiling_of, refusal}
+use Rattle.step_journal.specs.LockRule.{Above, locks, refusal}
 use Rattle.step_journal.specs.Running.{running}
 use Rattle.history_laws.proofs.Invariant.{IsPending, is_any, AreNamed, Protocol, running_is, refusal_is, same_row, holder_from_ceiling}
 use Rattle.history_laws.proofs.Events.{refused_facts}

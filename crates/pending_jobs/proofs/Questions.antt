@@ -1,5 +1,5 @@
 -- What each question answers, over plain variables.
-use Rattle.std.proofs.Common.{◌≡◌, ◌≢◌, ℕ, ◌<◌, ◌≤◌, Bool, true, false, not, List, length, map, Option, None, Some, refl, ap, sym, ◌∙◌, subst, inl, inr, arith}
+use Rattle.std.proofs.Common.{◌≡◌, ◌≢◌, ℕ, ◌<◌, Bool, true, false, List, length, map, Option, None, Some, refl, ap, sym, ◌∙◌, subst, inl, inr, arith}
 use Rattle.std.proofs.lemmas.Bool.{cases_lt}
 use Rattle.std.proofs.lemmas.List.{length-map}
 use Rattle.std.specs.Prelude.{MatchOption}
@@ -12,7 +12,7 @@ use Rattle.rt_base.specs.declared.operation.Op.{Op}
 use Rattle.rt_base.specs.declared.rank_set.RankSet.{RankSet}
 use Rattle.rt_base.specs.Ranks.{has_rank}
 use Rattle.ceiling_table.specs.declared.Above.{Above as AboveRow}
-use Rattle.ceiling_table.specs.Held.{Locks, is_holder, numbers_below, other_holders, HasItem}
+use Rattle.ceiling_table.specs.Held.{Locks, numbers_below, other_holders, HasItem}
 use Rattle.ceiling_table.specs.Held.{prio_of as held_prio, ceiling_of as held_ceiling, above_of as held_above, refusal as held_refusal, needs_lock as held_needs}
 use Rattle.inherit_prio.specs.Waits.{Waiting}
 use Rattle.dispatch_core.specs.Dispatch.{IsRunning}
@@ -29,7 +29,7 @@ use Rattle.history_laws.proofs.Calendar.{times_at}
 use Rattle.pending_jobs.specs.declared.head.Head.{Head}
 use Rattle.pending_jobs.specs.Rows.{AreFactsOf, AreRows}
 use Rattle.pending_jobs.specs.Tables.{head_at, rows_by, access_of, IsFirstDue, NotDue, IsTable}
-use Rattle.pending_jobs.proofs.RowsBy.{rows_length, job_at, fits}
+use Rattle.pending_jobs.proofs.RowsBy.{job_at, fits}
 use Rattle.pending_jobs.proofs.Highs.{due_is, running_is, running_none}
 use Rattle.pending_jobs.proofs.Blockers.{blocker_some}
 use Rattle.pending_jobs.proofs.Refusals.{Refuses, Grants, Names, refuses, needs_same, numbers_in}

@@ -1,12 +1,9 @@
 -- The refusal by the table of locks is that of the rows.
-use Rattle.std.proofs.Common.{◌≡◌, ◌≢◌, ◌⊎◌, ℕ, zero, suc, ◌<◌, ◌≤◌, ◌==◌, max, Bool, true, false, not, ◌&&◌, ◌||◌, cond, List, [], ◌∷◌, length, map, Option, None, Some, get_or, refl, ap, sym, ◌∙◌, subst, inl, inr, arith}
+use Rattle.std.proofs.Common.{◌≡◌, ◌≢◌, ℕ, zero, suc, ◌<◌, ◌≤◌, ◌==◌, Bool, true, false, not, ◌&&◌, ◌||◌, cond, List, [], ◌∷◌, length, map, Option, None, Some, get_or, refl, ap, sym, ◌∙◌, subst, inl, inr, arith}
 use Rattle.std.proofs.Math.Nat.{le-max_left, le-max_right}
-use Rattle.std.proofs.lemmas.Bool.{cases_eq, cases_lt, cases_order, eq-eqb, ne_eqb, eqb-true, or_cases, or_left, or_right, and_parts, and_from, not-true, not_from_false, false_from_ne_true}
-use Rattle.std.specs.Prelude.{is_some}
-use Rattle.std.specs.List.{filter}
-use Rattle.std.specs.Option.{option_map, option_and_then}
+use Rattle.std.proofs.lemmas.Bool.{cases_eq, cases_lt, cases_order, eq-eqb, ne_eqb, or_cases, or_left, or_right, and_parts, and_from, not-true, not_from_false}
+use Rattle.std.specs.Option.{option_map}
 use Rattle.rt_base.specs.LockRule.{blocker}
-use Rattle.rt_base.specs.declared.ids.TxId.{TxId}
 use Rattle.rt_base.specs.declared.operation.Op.{Op}
 use Rattle.rt_base.specs.declared.operation.Op.TheVariants.{Read, Write, Compute, Commit, Quit}
 use Rattle.rt_base.specs.declared.rank_set.RankSet.{RankSet}
@@ -16,12 +13,12 @@ use Rattle.ceiling_table.specs.declared.LockKind.{LockKind}
 use Rattle.ceiling_table.specs.declared.LockKind.TheVariants as kind
 use Rattle.ceiling_table.specs.Held.{Locks, lock_at, no_ceilings, kind_ceiling, is_lock, is_write, greatest_below, any_below, is_holder, numbers_below, other_holders, HasItem}
 use Rattle.ceiling_table.specs.Held.{prio_of as held_prio, ceiling_of as held_ceiling, above_of as held_above, refusal as held_refusal, needs_lock as held_needs}
-use Rattle.inherit_prio.specs.Waits.{Waiting, IsOrder, prio_of, tx_of}
-use Rattle.item_model.specs.Work.{Work, has_read, has_written}
+use Rattle.inherit_prio.specs.Waits.{Waiting, prio_of, tx_of}
+use Rattle.item_model.specs.Work.{has_read, has_written}
 use Rattle.txn_set.specs.Set.{Set, txn_of}
 use Rattle.txn_set.specs.Ceilings.{greatest, write_ceiling, absolute_ceiling}
 use Rattle.step_journal.specs.State.{Row, row_of, pending, prio}
-use Rattle.step_journal.specs.LockRule.{Lock, Above, locks, lock_ceiling, ceiling_of, needs_lock, others, refusal}
+use Rattle.step_journal.specs.LockRule.{locks, lock_ceiling, ceiling_of, needs_lock, others, refusal}
 use Rattle.history_laws.proofs.Members.{In, in_filter, filter_in, in_pending, pending_in}
 use Rattle.history_laws.proofs.Invariant.{in_range}
 use Rattle.history_laws.proofs.Holding.{locks_tell, write_le, read_le}
@@ -116,24 +113,24 @@ module _ (rows : List (Option Row)) (held : Locks) (waiting : Waiting) (deadline
   same_ceiling tx x h =
       let up : greatest_below (length held.ceilings) (at_item tx) ≤ greatest (map (lock_ceiling set) (locks x.work)) =
       below_least (length held.ceilings) (at_item tx) _ (λ i lt.
-          let le : kind_ceiling (ceil_row set i) (work_lock x.work i) ≤ ceiling_of set x = ceiling_of_work (ceil_row set i) (has_written x.work i) (has_read x.work i) (ceiling_of set x) (write_le set x i) (read_le set x i) in
-          omega (arith, le, at_item_is tx i x h lt)) in
+      let le : kind_ceiling (ceil_row set i) (work_lock x.work i) ≤ ceiling_of set x = ceiling_of_work (ceil_row set i) (has_written x.work i) (has_read x.work i) (ceiling_of set x) (write_le set x i) (read_le set x i) in
+      omega (arith, le, at_item_is tx i x h lt)) in
       let down : greatest (map (lock_ceiling set) (locks x.work)) ≤ greatest_below (length held.ceilings) (at_item tx) =
       greatest_least (lock_ceiling set) (locks x.work) _ (λ l i.
-          elim (locks_tell x.work l i) [
-            | inl w ↦ (
-                let lt : l.item < length held.ceilings = a.touched tx l.item x h (or_right (has_read x.work l.item) (has_written x.work l.item) w.1) in
-                let e : lock_ceiling set l ≡ absolute_ceiling set l.item = ap (lock_ceiling set) w.0 in
-                let k : kind_ceiling (ceil_row set l.item) (work_lock x.work l.item) ≡ absolute_ceiling set l.item = ap (λ (b : Bool). kind_ceiling (ceil_row set l.item) (cond b kind.Write (cond (has_read x.work l.item) kind.Read kind.Free))) w.1 in
-                omega (arith, e, k, at_item_is tx l.item x h lt, below_le (length held.ceilings) (at_item tx) l.item lt))
-            | inr r ↦ (
-                let lt : l.item < length held.ceilings = a.touched tx l.item x h (or_left (has_read x.work l.item) (has_written x.work l.item) r.1) in
-                let e : lock_ceiling set l ≡ write_ceiling set l.item = ap (lock_ceiling set) r.0 in
-                let k : kind_ceiling (ceil_row set l.item) (work_lock x.work l.item) ≡ write_ceiling set l.item =
-                ap (λ (b : Bool). kind_ceiling (ceil_row set l.item) (cond b kind.Write (cond (has_read x.work l.item) kind.Read kind.Free))) r.2
-                ∙ ap (λ (b : Bool). kind_ceiling (ceil_row set l.item) (cond b kind.Read kind.Free)) r.1 in
-                omega (arith, e, k, at_item_is tx l.item x h lt, below_le (length held.ceilings) (at_item tx) l.item lt))
-          ]) in
+      elim (locks_tell x.work l i) [
+        | inl w ↦ (
+            let lt : l.item < length held.ceilings = a.touched tx l.item x h (or_right (has_read x.work l.item) (has_written x.work l.item) w.1) in
+            let e : lock_ceiling set l ≡ absolute_ceiling set l.item = ap (lock_ceiling set) w.0 in
+            let k : kind_ceiling (ceil_row set l.item) (work_lock x.work l.item) ≡ absolute_ceiling set l.item = ap (λ (b : Bool). kind_ceiling (ceil_row set l.item) (cond b kind.Write (cond (has_read x.work l.item) kind.Read kind.Free))) w.1 in
+            omega (arith, e, k, at_item_is tx l.item x h lt, below_le (length held.ceilings) (at_item tx) l.item lt))
+        | inr r ↦ (
+            let lt : l.item < length held.ceilings = a.touched tx l.item x h (or_left (has_read x.work l.item) (has_written x.work l.item) r.1) in
+            let e : lock_ceiling set l ≡ write_ceiling set l.item = ap (lock_ceiling set) r.0 in
+            let k : kind_ceiling (ceil_row set l.item) (work_lock x.work l.item) ≡ write_ceiling set l.item =
+            ap (λ (b : Bool). kind_ceiling (ceil_row set l.item) (cond b kind.Write (cond (has_read x.work l.item) kind.Read kind.Free))) r.2
+            ∙ ap (λ (b : Bool). kind_ceiling (ceil_row set l.item) (cond b kind.Read kind.Free)) r.1 in
+            omega (arith, e, k, at_item_is tx l.item x h lt, below_le (length held.ceilings) (at_item tx) l.item lt))
+      ]) in
       omega (arith, up, down)
 
   -- what has a ceiling above 0 holds a lock, and what holds one has a row

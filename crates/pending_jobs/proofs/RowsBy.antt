@@ -1,5 +1,5 @@
 -- The rows that the tables stand for, by place, and after each change of the tables.
-use Rattle.std.proofs.Common.{◌≡◌, ◌≢◌, ℕ, ◌+◌, ◌<◌, ◌≤◌, ◌==◌, Bool, true, false, cond, List, length, map, Option, None, Some, get_or, set, refl, ap, sym, ◌∙◌, subst, inl, inr, arith}
+use Rattle.std.proofs.Common.{◌≡◌, ◌≢◌, ℕ, ◌+◌, ◌<◌, ◌==◌, Bool, true, false, cond, List, length, map, Option, None, Some, get_or, set, refl, ap, sym, ◌∙◌, subst, inl, inr, arith}
 use Rattle.std.proofs.lemmas.Bool.{cases_eq, cases_lt, eq-eqb, ne_eqb, eqb-true, and_parts}
 use Rattle.std.proofs.lemmas.List.{ext_get_or, length-set, length-map, get_or_past, get_or-set_same, get_or-set_other}
 use Rattle.std.proofs.Math.ListN.{get_or-map}
@@ -17,7 +17,7 @@ use Rattle.step_journal.specs.State.{Row, row_of, same_job, new_row}
 use Rattle.step_journal.specs.Instant.{freed, freed_from, with_row}
 use Rattle.pending_jobs.specs.declared.head.Head.{Head}
 use Rattle.pending_jobs.specs.Rows.{row_stepped, rows_stepped, rows_waiting, rows_ended}
-use Rattle.pending_jobs.specs.Tables.{no_job, head_at, waited_job, row_by, row_at, rows_by, job_after}
+use Rattle.pending_jobs.specs.Tables.{no_job, head_at, waited_job, row_by, row_at, rows_by}
 
 pub rows_length : (heads : List (Option Head)) (works : List Job) (on : List (Option TxId)) → length (rows_by heads works on) ≡ length heads
 unfolding rows_by
@@ -84,10 +84,10 @@ rows_released heads works on job tick w lt ltw none other clear =
     rows_are (set heads n new) (set works n w) on _ (length-set heads n new ∙ sym (length-set (rows_by heads works on) n _ ∙ rows_length heads works on)) (λ k.
     elim (cases_eq k n) [
       | inl e ↦ subst (λ (m : ℕ). row_at (set heads n new) (set works n w) on m ≡ row_of (with_row tick (rows_by heads works on) job) m) (sym e)
-        (row_parts _ new _ no_work _ None (get_or-set_same heads n new None lt) (ap (λ (j : Job). j.work) (get_or-set_same works n w no_job ltw) ∙ clear) (ap (waited_job (set heads n new)) none)
-        ∙ sym (get_or-set_same (rows_by heads works on) n (Some (new_row job tick)) None (omega (arith, rows_length heads works on))))
+          (row_parts _ new _ no_work _ None (get_or-set_same heads n new None lt) (ap (λ (j : Job). j.work) (get_or-set_same works n w no_job ltw) ∙ clear) (ap (waited_job (set heads n new)) none)
+          ∙ sym (get_or-set_same (rows_by heads works on) n (Some (new_row job tick)) None (omega (arith, rows_length heads works on))))
       | inr ne ↦ row_parts _ _ _ _ _ _ (get_or-set_other heads n k new None ne) (ap (λ (j : Job). j.work) (get_or-set_other works n k w no_job ne)) (waited_other heads n new (on_of on k) (other k))
-        ∙ sym (get_or-set_other (rows_by heads works on) n k (Some (new_row job tick)) None ne ∙ rows_at heads works on k)
+          ∙ sym (get_or-set_other (rows_by heads works on) n k (Some (new_row job tick)) None ne ∙ rows_at heads works on k)
     ])
 
 -- a step
@@ -97,7 +97,7 @@ waited_kept heads tx h h' None lt here same = refl
 waited_kept heads tx h h' (Some u) lt here same =
     elim (cases_eq u.0 tx) [
       | inl e ↦ subst (λ (m : ℕ). option_map (λ (h : Head). h.job) (head_at (set heads tx (Some h')) m) ≡ option_map (λ (h : Head). h.job) (head_at heads m)) (sym e)
-        (ap (option_map (λ (h : Head). h.job)) (get_or-set_same heads tx (Some h') None lt) ∙ ap Some same ∙ sym (ap (option_map (λ (h : Head). h.job)) here))
+          (ap (option_map (λ (h : Head). h.job)) (get_or-set_same heads tx (Some h') None lt) ∙ ap Some same ∙ sym (ap (option_map (λ (h : Head). h.job)) here))
       | inr ne ↦ ap (option_map (λ (h : Head). h.job)) (get_or-set_other heads tx u.0 (Some h') None ne)
     ]
 
@@ -114,10 +114,10 @@ rows_after_step heads works on tx head row items op job lt ltw fit named noted =
     (rows_are (set heads tx new) (set works tx job) on _ (length-set heads tx new ∙ sym (length-set rows tx _ ∙ rows_length heads works on)) (λ k.
     elim (cases_eq k tx) [
       | inl e ↦ subst (λ (m : ℕ). row_at (set heads tx new) (set works tx job) on m ≡ row_of (set rows tx stepped) m) (sym e)
-        (row_parts _ new _ _ _ _ (get_or-set_same heads tx new None lt) (ap (λ (j : Job). j.work) (get_or-set_same works tx job no_job ltw) ∙ noted) (waited_kept heads tx head (record head { used = head.used + 1 }) (on_of on tx) lt fit.here refl)
-        ∙ (is ∙ sym (get_or-set_same rows tx stepped None (omega (arith, rows_length heads works on)))))
+          (row_parts _ new _ _ _ _ (get_or-set_same heads tx new None lt) (ap (λ (j : Job). j.work) (get_or-set_same works tx job no_job ltw) ∙ noted) (waited_kept heads tx head (record head { used = head.used + 1 }) (on_of on tx) lt fit.here refl)
+          ∙ (is ∙ sym (get_or-set_same rows tx stepped None (omega (arith, rows_length heads works on)))))
       | inr ne ↦ row_parts _ _ _ _ _ _ (get_or-set_other heads tx k new None ne) (ap (λ (j : Job). j.work) (get_or-set_other works tx k job no_job ne)) (waited_kept heads tx head (record head { used = head.used + 1 }) (on_of on k) lt fit.here refl)
-        ∙ sym (get_or-set_other rows tx k stepped None ne ∙ rows_at heads works on k)
+          ∙ sym (get_or-set_other rows tx k stepped None ne ∙ rows_at heads works on k)
     ]))
 
 -- a wait
@@ -136,10 +136,10 @@ rows_after_wait heads works on on' tx head blocker row job lt fit named there is
     (rows_are heads works on' _ (sym (length-set rows tx _ ∙ rows_length heads works on)) (λ k.
     elim (cases_eq k tx) [
       | inl e ↦ subst (λ (m : ℕ). row_at heads works on' m ≡ row_of (set rows tx waiting) m) (sym e)
-        (row_parts _ (Some head) _ _ _ (Some job) fit.here refl (ap (waited_job heads) (changes tx ∙ ap (λ (b : Bool). cond b (Some job.tx) (on_of on tx)) (eq-eqb tx tx refl)) ∙ waits)
-        ∙ (now ∙ sym (get_or-set_same rows tx waiting None (omega (arith, rows_length heads works on)))))
+          (row_parts _ (Some head) _ _ _ (Some job) fit.here refl (ap (waited_job heads) (changes tx ∙ ap (λ (b : Bool). cond b (Some job.tx) (on_of on tx)) (eq-eqb tx tx refl)) ∙ waits)
+          ∙ (now ∙ sym (get_or-set_same rows tx waiting None (omega (arith, rows_length heads works on)))))
       | inr ne ↦ row_parts _ _ _ _ _ _ refl refl (ap (waited_job heads) (changes k ∙ ap (λ (b : Bool). cond b (Some job.tx) (on_of on k)) (ne_eqb k tx ne)))
-        ∙ sym (get_or-set_other rows tx k waiting None ne ∙ rows_at heads works on k)
+          ∙ sym (get_or-set_other rows tx k waiting None ne ∙ rows_at heads works on k)
     ]))
 
 -- an end
@@ -150,21 +150,22 @@ freed_job_at heads tx job u o true own here named same e =
     let at : u.0 ≡ tx = eqb-true _ _ e in
     let is : option_map (λ (h : Head). h.job) o ≡ Some job = same (subst (λ (m : ℕ). head_at heads m ≡ o) at here) at in
     sym (ap (freed_from job) is ∙ self job (same_job job job) (refl_job job)) where
-  refl_job : (j : JobId) → same_job j j ≡ true
-  refl_job j = grind (arith, eq-eqb j.tx.0 j.tx.0 refl, eq-eqb j.serial j.serial refl)
-  self : (j : JobId) (b : Bool) → b ≡ true → cond b None (Some j) ≡ None
-  self j true e = refl
-  self j false e = absurd cc
+      refl_job : (j : JobId) → same_job j j ≡ true
+      refl_job j = grind (arith, eq-eqb j.tx.0 j.tx.0 refl, eq-eqb j.serial j.serial refl)
+
+      self : (j : JobId) (b : Bool) → b ≡ true → cond b None (Some j) ≡ None
+      self j true e = refl
+      self j false e = absurd cc
 freed_job_at heads tx job u None false own here named same e = ap (option_map (λ (h : Head). h.job)) (get_or-set_other heads tx u.0 None None (λ q. absurd (let t : (u.0 == tx) ≡ true = eq-eqb _ _ q in cc)) ∙ here)
 freed_job_at heads tx job u (Some h) false own here named same e =
     ap (option_map (λ (h : Head). h.job)) (get_or-set_other heads tx u.0 None None (λ q. absurd (let t : (u.0 == tx) ≡ true = eq-eqb _ _ q in cc)) ∙ here)
     ∙ sym (other (same_job h.job job) refl) where
-  other : (b : Bool) → same_job h.job job ≡ b → cond b None (Some h.job) ≡ Some h.job
-  other false q = refl
-  other true q =
-      let a : h.job.tx.0 ≡ job.tx.0 = eqb-true _ _ (and_parts _ _ q).0 in
-      let t : (u.0 == tx) ≡ true = eq-eqb u.0 tx (sym (named h refl) ∙ (a ∙ own)) in
-      absurd cc
+      other : (b : Bool) → same_job h.job job ≡ b → cond b None (Some h.job) ≡ Some h.job
+      other false q = refl
+      other true q =
+          let a : h.job.tx.0 ≡ job.tx.0 = eqb-true _ _ (and_parts _ _ q).0 in
+          let t : (u.0 == tx) ≡ true = eq-eqb u.0 tx (sym (named h refl) ∙ (a ∙ own)) in
+          absurd cc
 
 freed_job : (heads : List (Option Head)) (tx : ℕ) (head : Head) (o : Option TxId) → head_at heads tx ≡ Some head → head.job.tx.0 ≡ tx → ((n : ℕ) (h : Head) → head_at heads n ≡ Some h → h.job.tx.0 ≡ n)
     → waited_job (set heads tx None) (unless_on tx o) ≡ freed_from head.job (waited_job heads o)
@@ -188,8 +189,8 @@ rows_after_end heads works on on' tx head row lt fit own named changes =
     (rows_are (set heads tx None) works on' _ (length-set heads tx None ∙ sym (length-map (set rows tx None) (option_map (freed head.job)) ∙ length-set rows tx None ∙ rows_length heads works on)) (λ k.
     (elim (cases_eq k tx) [
       | inl e ↦ subst (λ (m : ℕ). row_at (set heads tx None) works on' m ≡ option_map (freed head.job) (row_of (set rows tx None) m)) (sym e)
-        (ap (λ (h : Option Head). row_by h (get_or works tx no_job).work (waited_job (set heads tx None) (on_of on' tx))) (get_or-set_same heads tx None None lt)
-        ∙ sym (ap (option_map (freed head.job)) (get_or-set_same rows tx None None (omega (arith, rows_length heads works on)))))
+          (ap (λ (h : Option Head). row_by h (get_or works tx no_job).work (waited_job (set heads tx None) (on_of on' tx))) (get_or-set_same heads tx None None lt)
+          ∙ sym (ap (option_map (freed head.job)) (get_or-set_same rows tx None None (omega (arith, rows_length heads works on)))))
       | inr ne ↦ (
           let on_is : on_of on' k ≡ unless_on tx (on_of on k) = changes k ∙ ap (λ (b : Bool). cond b None (unless_on tx (on_of on k))) (ne_eqb k tx ne) in
           let waits : waited_job (set heads tx None) (on_of on' k) ≡ freed_from head.job (waited_job heads (on_of on k)) =

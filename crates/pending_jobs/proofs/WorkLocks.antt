@@ -1,6 +1,6 @@
 -- The locks that a job's work stands for, after an operation.
-use Rattle.std.proofs.Common.{◌≡◌, ◌⊎◌, ℕ, ◌<◌, ◌==◌, Bool, true, false, cond, ◌&&◌, ◌||◌, ℤ, List, [], ◌∷◌, Option, None, Some, refl, ap, sym, ◌∙◌, subst, inl, inr, arith}
-use Rattle.std.proofs.lemmas.Bool.{cases_eq, eq-eqb, ne_eqb, eqb-true, or_cases, or_left, or_right, false_from_ne_true}
+use Rattle.std.proofs.Common.{◌≡◌, ◌⊎◌, ℕ, ◌<◌, ◌==◌, Bool, true, false, cond, ◌&&◌, ◌||◌, ℤ, List, [], ◌∷◌, None, Some, refl, ap, sym, ◌∙◌, inl, inr, arith}
+use Rattle.std.proofs.lemmas.Bool.{cases_eq, eq-eqb, ne_eqb, eqb-true, or_cases, or_left, or_right}
 use Rattle.std.specs.Prelude.{is_some}
 use Rattle.std.specs.List.{find}
 use Rattle.rt_base.specs.declared.ids.ItemId.{ItemId}
@@ -8,7 +8,7 @@ use Rattle.rt_base.specs.declared.operation.Op.{Op}
 use Rattle.rt_base.specs.declared.operation.Op.TheVariants.{Read, Write, Compute, Commit, Quit}
 use Rattle.ceiling_table.specs.declared.LockKind.{LockKind}
 use Rattle.ceiling_table.specs.declared.LockKind.TheVariants as kind
-use Rattle.ceiling_table.specs.Held.{Locks, lock_at, locked_at, with_read as and_read, is_lock, is_write, HasItem, needs_lock as held_needs}
+use Rattle.ceiling_table.specs.Held.{Locks, lock_at, with_read as and_read, HasItem}
 use Rattle.item_model.specs.declared.stored.Stored.{Stored}
 use Rattle.item_model.specs.declared.stored.OutsideRead.{OutsideRead}
 use Rattle.item_model.specs.declared.stored.OwnWrite.{OwnWrite}
@@ -50,9 +50,9 @@ write_found_at : (ws : List OwnWrite) (w : OwnWrite) (item : ItemId) (value : �
 write_found_at ws w item value i true e rest =
     let same : (w.item.0 == i) ≡ (item.0 == i) = ap (λ (n : ℕ). n == i) (eqb-true _ _ e) in
     at (item.0 == i) ∙ ap (λ (c : Bool). (item.0 == i) || is_some (cond c (Some w) (find (λ (q : OwnWrite). q.item.0 == i) ws))) (sym same) where
-  at : (c : Bool) → is_some (cond c (Some (record { item = item; value = value })) (find (λ (q : OwnWrite). q.item.0 == i) ws)) ≡ (c || is_some (cond c (Some w) (find (λ (q : OwnWrite). q.item.0 == i) ws)))
-  at true = refl
-  at false = refl
+      at : (c : Bool) → is_some (cond c (Some (record { item = item; value = value })) (find (λ (q : OwnWrite). q.item.0 == i) ws)) ≡ (c || is_some (cond c (Some w) (find (λ (q : OwnWrite). q.item.0 == i) ws)))
+      at true = refl
+      at false = refl
 write_found_at ws w item value i false e rest = at (w.item.0 == i) where
   at : (c : Bool) → is_some (cond c (Some w) (find (λ (q : OwnWrite). q.item.0 == i) (with_write ws item value))) ≡ ((item.0 == i) || is_some (cond c (Some w) (find (λ (q : OwnWrite). q.item.0 == i) ws)))
   at true = or_true (item.0 == i) where

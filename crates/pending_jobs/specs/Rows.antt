@@ -7,12 +7,12 @@ use Rattle.rt_base.specs.declared.operation.Op.{Op}
 use Rattle.rt_base.specs.declared.operation.Op.TheVariants.{Read, Write, Compute, Commit, Quit}
 use Rattle.ceiling_table.specs.declared.CeilRow.{CeilRow}
 use Rattle.ceiling_table.specs.Held.{no_ceilings}
-use Rattle.item_model.specs.Work.{Work, work_after}
+use Rattle.item_model.specs.Work.{work_after}
 use Rattle.item_model.specs.declared.stored.Stored.{Stored}
 use Rattle.txn_set.specs.declared.decl.TxnDecl.{TxnDecl}
 use Rattle.txn_set.specs.Set.{Set, IsCompiled, names_item}
 use Rattle.txn_set.specs.Ceilings.{prios, write_ceiling, absolute_ceiling}
-use Rattle.step_journal.specs.State.{Row, row_of}
+use Rattle.step_journal.specs.State.{Row}
 use Rattle.step_journal.specs.Instant.{freed}
 use Rattle.step_journal.specs.LockRule.{Above}
 use Rattle.pending_jobs.specs.declared.head.Head.{Head}

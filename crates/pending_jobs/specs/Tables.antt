@@ -1,8 +1,7 @@
 -- The tables of the pending rows, and that they agree with one another.
-use Rattle.std.specs.Prelude.{◌≡◌, ◌≢◌, ℕ, ◌+◌, ◌^◌, ◌<◌, ◌≤◌, Bool, true, false, ◌||◌, if◌then◌else◌, List, [], length, map, min, slice_index_or, Option, None, Some, is_some, MatchOption}
+use Rattle.std.specs.Prelude.{◌≡◌, ℕ, ◌+◌, ◌^◌, ◌<◌, ◌≤◌, true, false, ◌||◌, if◌then◌else◌, List, [], length, map, min, slice_index_or, Option, None, Some, is_some, MatchOption}
 use Rattle.std.specs.List.{range_with_len}
 use Rattle.std.specs.Option.{option_map}
-use Rattle.rt_base.specs.declared.ids.ItemId.{ItemId}
 use Rattle.rt_base.specs.declared.ids.JobId.{JobId}
 use Rattle.rt_base.specs.declared.ids.TxId.{TxId}
 use Rattle.rt_base.specs.declared.rank_set.RankSet.{RankSet}
@@ -20,7 +19,7 @@ use Rattle.item_model.specs.declared.stored.Stored.{Stored}
 use Rattle.step_journal.specs.State.{Row, row_of}
 use Rattle.pending_jobs.specs.declared.head.Head.{Head}
 use Rattle.pending_jobs.specs.Rows.{Accesses}
-use Rattle.pending_jobs.specs.Deadlines.{deadline_of, IsLeastDeadline}
+use Rattle.pending_jobs.specs.Deadlines.{IsLeastDeadline}
 
 abbrev pub no_job : Job
 no_job = record { may_read = []; may_write = []; work = no_work }

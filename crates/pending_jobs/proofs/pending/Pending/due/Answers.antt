@@ -1,8 +1,7 @@
-use Rattle.std.proofs.Common.{◌≡◌, ◌<◌, ◌^◌, ◌∙◌, ℕ, List, length, Option, None, Some, subst, sym}
+use Rattle.std.proofs.Common.{◌≡◌, ◌<◌, ◌^◌, ℕ, List, Option, Some, subst, sym}
 use Rattle.std.specs.Prelude.{MatchOption}
 use Rattle.std.specs.List.{filter}
 use Rattle.std.specs.Option.{option_map}
-use Rattle.txn_set.specs.Set.{Set}
 use Rattle.step_journal.specs.State.{pending}
 use Rattle.step_journal.specs.LockRule.{highest}
 use Rattle.step_journal.specs.Instant.{is_due}
@@ -25,5 +24,5 @@ pub returns : goal.returns
 returns c set =
     subst (λ (p : PendingSeen). AreFactsOf set p.facts → c.first_due.result ≡ option_map (λ r. r.job) (highest set (filter (is_due set c.args.tick) (pending p.rows)))) c.self.view_is
     (λ f. the_due _ _ _ _ _ _ _ c.self.invariant set f c.args.tick c.first_due.result
-      (subst (λ (d : List ℕ). MatchOption c.first_due.result ((rank : ℕ) → NotDue c.self.inside.heads.items d c.self.inside.waits.order c.args.tick rank) (IsFirstDue c.self.inside.heads.items d c.self.inside.waits.order c.args.tick)) c.as_slice-2.ensures.value
-        (subst (λ (l : List (Option Head)). MatchOption c.first_due.result ((rank : ℕ) → NotDue l c.as_slice-2.result.now c.self.inside.waits.order c.args.tick rank) (IsFirstDue l c.as_slice-2.result.now c.self.inside.waits.order c.args.tick)) c.as_slice.ensures.value c.first_due.ensures)))
+    (subst (λ (d : List ℕ). MatchOption c.first_due.result ((rank : ℕ) → NotDue c.self.inside.heads.items d c.self.inside.waits.order c.args.tick rank) (IsFirstDue c.self.inside.heads.items d c.self.inside.waits.order c.args.tick)) c.as_slice-2.ensures.value
+    (subst (λ (l : List (Option Head)). MatchOption c.first_due.result ((rank : ℕ) → NotDue l c.as_slice-2.result.now c.self.inside.waits.order c.args.tick rank) (IsFirstDue l c.as_slice-2.result.now c.self.inside.waits.order c.args.tick)) c.as_slice.ensures.value c.first_due.ensures)))

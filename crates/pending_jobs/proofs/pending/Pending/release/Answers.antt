@@ -15,6 +15,6 @@ pub returns : goal.returns
 returns c =
     rw (← c.self.view_is)
     (release_seen _ _ _ _ _ _ _ c.self.invariant c.args.job c.args.tick c.rank.result c.index.result.now c.earlier.result c.index_mut.result.now c.clear.new.self c.with-self-inside.result
-      (subst (λ (p : PendingSeen). c.args.job.tx.0 < length p.rows) (sym c.self.view_is) c.requires.tx)
-      (subst (λ (p : PendingSeen). row_of p.rows c.args.job.tx.0 ≡ None) (sym c.self.view_is) c.requires.free)
-      c.requires.tick c.index_mut.ensures.value c.clear.ensures c.rank.ensures.in_range c.rank.ensures.rank c.with-self-inside.ensures c.index.ensures c.earlier.ensures)
+    (subst (λ (p : PendingSeen). c.args.job.tx.0 < length p.rows) (sym c.self.view_is) c.requires.tx)
+    (subst (λ (p : PendingSeen). row_of p.rows c.args.job.tx.0 ≡ None) (sym c.self.view_is) c.requires.free)
+    c.requires.tick c.index_mut.ensures.value c.clear.ensures c.rank.ensures.in_range c.rank.ensures.rank c.with-self-inside.ensures c.index.ensures c.earlier.ensures)

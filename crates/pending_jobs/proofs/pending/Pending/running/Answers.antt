@@ -1,4 +1,4 @@
-use Rattle.std.proofs.Common.{◌≡◌, ◌<◌, ◌∙◌, length, None, Some, subst, sym, ap, arith}
+use Rattle.std.proofs.Common.{◌≡◌, ◌∙◌, length, None, Some, subst, sym, ap, arith}
 use Rattle.std.specs.Option.{option_map}
 use Rattle.step_journal.specs.Running.{running}
 use Rattle.pending_jobs.specs.declared.head.Head.{Head}
@@ -16,11 +16,11 @@ pub returns-in_err-head : goal.returns-in_err-head
 returns-in_err-head c set =
     subst (λ (p : PendingSeen). AreFactsOf set p.facts → c.from_residual-in_err-head.result ≡ option_map (λ r. r.job) (running set p.rows)) c.self.view_is
     (λ f. c.from_residual-in_err-head.ensures
-      ∙ (ap (option_map (λ (h : Head). h.job)) (sym (head_read c.self.inside.heads.items c.in_ok-tx.tx.0 c.index.result.now None (omega (arith, c.in_ok-tx.ensures.in_range, ap length c.self.invariant.agree.prios, c.self.invariant.heads_size)) c.index.ensures c.in_err-head.was))
-      ∙ the_running _ _ _ _ _ _ _ c.self.invariant set f c.in_ok-tx.tx c.in_ok-tx.ensures.running))
+    ∙ (ap (option_map (λ (h : Head). h.job)) (sym (head_read c.self.inside.heads.items c.in_ok-tx.tx.0 c.index.result.now None (omega (arith, c.in_ok-tx.ensures.in_range, ap length c.self.invariant.agree.prios, c.self.invariant.heads_size)) c.index.ensures c.in_err-head.was))
+    ∙ the_running _ _ _ _ _ _ _ c.self.invariant set f c.in_ok-tx.tx c.in_ok-tx.ensures.running))
 
 pub returns : goal.returns
 returns c set =
     subst (λ (p : PendingSeen). AreFactsOf set p.facts → Some c.in_ok-head.head.job ≡ option_map (λ r. r.job) (running set p.rows)) c.self.view_is
     (λ f. ap (option_map (λ (h : Head). h.job)) (sym (head_read c.self.inside.heads.items c.in_ok-tx.tx.0 c.index.result.now (Some c.in_ok-head.head) (omega (arith, c.in_ok-tx.ensures.in_range, ap length c.self.invariant.agree.prios, c.self.invariant.heads_size)) c.index.ensures c.in_ok-head.was))
-      ∙ the_running _ _ _ _ _ _ _ c.self.invariant set f c.in_ok-tx.tx c.in_ok-tx.ensures.running)
+    ∙ the_running _ _ _ _ _ _ _ c.self.invariant set f c.in_ok-tx.tx c.in_ok-tx.ensures.running)

@@ -1,6 +1,5 @@
-use Rattle.std.proofs.Common.{◌≡◌, ◌<◌, length, Some, ap, subst, sym, refl}
-use Rattle.rt_base.specs.declared.ids.TxId.{TxId}
-use Rattle.step_journal.specs.State.{Row, row_of}
+use Rattle.std.proofs.Common.{◌≡◌, ◌<◌, length, Some, subst, sym, refl}
+use Rattle.step_journal.specs.State.{row_of}
 use Rattle.pending_jobs.specs.Rows.{PendingSeen}
 use Rattle.pending_jobs.specs.Waiting.{MayWait}
 use Rattle.pending_jobs.proofs.Calls.{wait_free, wait_on_free, wait_nobody, wait_table, wait_seen}
@@ -30,4 +29,4 @@ pub returns : goal.returns
 returns c row h =
     rw (← c.self.view_is)
     (wait_seen _ _ _ _ _ _ _ c.self.invariant c.args.tx.0 c.args.on (subst (λ (p : PendingSeen). c.args.tx.0 < length p.rows) (sym c.self.view_is) c.requires.tx)
-      (subst (λ (p : PendingSeen). MayWait p.rows c.args.tx.0 c.args.on) (sym c.self.view_is) c.requires.may) c.block.new.self c.block.ensures row (subst (λ (p : PendingSeen). row_of p.rows c.args.tx.0 ≡ Some row) (sym c.self.view_is) h))
+    (subst (λ (p : PendingSeen). MayWait p.rows c.args.tx.0 c.args.on) (sym c.self.view_is) c.requires.may) c.block.new.self c.block.ensures row (subst (λ (p : PendingSeen). row_of p.rows c.args.tx.0 ≡ Some row) (sym c.self.view_is) h))

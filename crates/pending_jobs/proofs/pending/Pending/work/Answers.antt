@@ -1,5 +1,5 @@
-use Rattle.std.proofs.Common.{◌≡◌, ◌<◌, ◌∙◌, length, Some, subst, sym, arith}
-use Rattle.step_journal.specs.State.{Row, row_of}
+use Rattle.std.proofs.Common.{◌≡◌, ◌<◌, length, Some, subst, sym, arith}
+use Rattle.step_journal.specs.State.{row_of}
 use Rattle.pending_jobs.specs.Rows.{PendingSeen}
 use Rattle.pending_jobs.proofs.RowsBy.{rows_length}
 use Rattle.pending_jobs.proofs.Calls.{work_is}
