@@ -4,3 +4,6 @@ pub mod Cancels
 pub mod Arrivals
 pub mod Facts
 pub mod Steps
+pub mod Plans
+pub mod Planned
+pub mod Opens

@@ -34,7 +34,7 @@ contains_in [] k x lt e = absurd (omega arith)
 contains_in (y ∷ ys) zero x lt e = inl (sym e)
 contains_in (y ∷ ys) (suc k) x lt e = inr (contains_in ys k x (omega arith) e)
 
-all_in : {A : Type 0} (P : A → Type 0) (xs : List A) → All P xs → (x : A) → In x xs → P x
+pub all_in : {A : Type 0} (P : A → Type 0) (xs : List A) → All P xs → (x : A) → In x xs → P x
 all_in {A = A} P xs all x i = at xs (λ k d lt. all k d lt) i where
   at : (ys : List A) → ((k : ℕ) (d : A) → k < length ys → P (get_or ys k d)) → In x ys → P x
   at [] h i = absurd i

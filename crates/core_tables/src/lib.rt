@@ -2,6 +2,10 @@
 #![tactic(auto)]
 
 mod arrive;
+mod asks;
+mod openings;
+mod tables;
 mod tally;
 
+pub use tables::CoreTables;
 pub use tally::Tally;
