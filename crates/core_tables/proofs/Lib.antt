@@ -7,3 +7,6 @@ pub mod Steps
 pub mod Plans
 pub mod Planned
 pub mod Opens
+pub mod Names
+pub mod Refusals
+pub mod Places

@@ -10,7 +10,9 @@ use Rattle.step_journal.specs.Running.{running, job_row}
 use Rattle.step_journal.specs.Step.{lock_refusal}
 use Rattle.board.specs.declared.replies.StepReply.{StepReply}
 use Rattle.board.specs.declared.replies.StepReply.TheVariants as reply
-use Rattle.board.specs.Answers.{ended_number, last_end}
+use Rattle.board.specs.declared.replies.IdleReply.{IdleReply}
+use Rattle.board.specs.declared.replies.IdleReply.TheVariants as idle
+use Rattle.board.specs.Answers.{ended_number, last_end, waiting_reply}
 use Rattle.core_tables.specs.Changes.{denied}
 
 abbrev pub first_of : Option StepReply → Option StepReply → Option StepReply
@@ -35,3 +37,8 @@ refused_by set s kept room job op =
     if is_some (job_row s.rows job)
     then turned_by set s kept room job op (running set s.rows)
     else Some (reply.NoJob (ended_number s.ended job.tx.0) (last_end s.ended job.tx.0))
+
+-- the answer to idle, by the running job and the least planned tick
+abbrev pub idle_by : (kept room : ℕ) → Option ℕ → Option JobId → IdleReply
+idle_by kept room next (Some job) = idle.NotIdle job
+idle_by kept room next None = waiting_reply kept room next

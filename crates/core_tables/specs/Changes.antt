@@ -11,14 +11,14 @@ use Rattle.rt_base.specs.declared.operation.End.TheVariants as end
 use Rattle.rt_base.specs.declared.release.Release.{Release}
 use Rattle.item_model.specs.declared.stored.Stored.{Stored}
 use Rattle.item_model.specs.Work.{items_after}
-use Rattle.txn_set.specs.declared.decl.TxnDecl.{TxnDecl}
-use Rattle.txn_set.specs.Set.{Set, txn_of, may_read, may_write}
+use Rattle.txn_set.specs.Set.{Set, txn_of, names_item}
 use Rattle.step_journal.specs.State.{State, Row, row_of, pending}
 use Rattle.step_journal.specs.LockRule.{in_falling_priority}
 use Rattle.step_journal.specs.Instant.{freed, is_due, with_row}
 use Rattle.board.specs.declared.replies.StepReply.{StepReply}
 use Rattle.board.specs.declared.replies.StepReply.TheVariants as reply
 use Rattle.board.specs.Answers.{unwritten}
+use Rattle.pending_jobs.specs.Rows.{PendingSeen}
 use Rattle.core_tables.specs.declared.tally.Tally.{Tally}
 use Rattle.core_tables.specs.Seen.{tallies_after}
 
@@ -51,15 +51,26 @@ abbrev pub items_settled : Set → Row → Option End → List Stored → List S
 items_settled set row None items = items
 items_settled set row (Some e) items = items_after set.items row.work row.release e items
 
--- why an operation is refused before the room is looked at, if it is: undeclared, too early, unwritten
-abbrev pub early : TxnDecl → Row → Option StepReply
-early txn row = if nat_lt row.used txn.quiet then Some (reply.TooEarly (txn.quiet - row.used)) else None
+-- why an access is refused, by the declared items and the quiet steps
+abbrev pub access_by : List ItemId → ItemId → (quiet used : ℕ) → Option StepReply
+access_by declared item quiet used =
+    if names_item declared item.0
+    then (if nat_lt used quiet then Some (reply.TooEarly (quiet - used)) else None)
+    else Some (reply.Undeclared item)
 
+-- why an operation is refused before the room is looked at, if it is: undeclared, too early, unwritten
 abbrev pub denied : Set → Row → Op → Option StepReply
-denied set row (Read item) =
-    if may_read (txn_of set row.job.tx.0) item.0 then early (txn_of set row.job.tx.0) row else Some (reply.Undeclared item)
-denied set row (Write item value) =
-    if may_write (txn_of set row.job.tx.0) item.0 then early (txn_of set row.job.tx.0) row else Some (reply.Undeclared item)
+denied set row (Read item) = access_by (txn_of set row.job.tx.0).reads item (txn_of set row.job.tx.0).quiet row.used
+denied set row (Write item value) = access_by (txn_of set row.job.tx.0).writes item (txn_of set row.job.tx.0).quiet row.used
 denied set row Compute = None
 denied set row Commit = option_map (λ i. reply.Unwritten i) (unwritten set (txn_of set row.job.tx.0).writes row.work)
 denied set row Quit = None
+
+-- the pending rows and the tallies after a step of this row, where it ends the job or not
+abbrev pub pending_settled : Row → Option End → PendingSeen → PendingSeen
+pending_settled row None p = p
+pending_settled row (Some e) p = record p { rows = rows_without p.rows row.job }
+
+abbrev pub tallies_settled : ℕ → Option End → List Tally → List Tally
+tallies_settled tx None tallies = tallies
+tallies_settled tx (Some e) tallies = tallies_after tallies tx e

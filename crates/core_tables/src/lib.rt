@@ -4,6 +4,7 @@
 mod arrive;
 mod asks;
 mod openings;
+mod steps;
 mod tables;
 mod tally;
 
