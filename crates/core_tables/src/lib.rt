@@ -3,8 +3,8 @@
 
 mod arrive;
 mod asks;
+mod effects;
 mod openings;
-mod steps;
 mod tables;
 mod tally;
 
