@@ -10,3 +10,5 @@ pub mod Opens
 pub mod Names
 pub mod Refusals
 pub mod Places
+pub mod Arrived
+pub mod Effected

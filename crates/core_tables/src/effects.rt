@@ -140,3 +140,64 @@ fn over(own: Option<End>, late: bool) -> Option<End>
         None => None,
     }
 }
+
+impl CoreTables {
+    /// The running job waits on the job that blocks it. It touches the rows of the two transactions alone.
+    pub fn wait(&mut self, job: JobId, by: JobId)
+        requires blocked { (set : Set) × StandBlocked set self.old job by }
+        ensures { (set : Set) (s : State) (op : Op) (ceiling : ℕ) → AreTables set self.old s → IsLegalState set s → (b : IsBlocked set s job op by ceiling) → AreTables set self.new (with_wait s b.row by) }
+    {
+        self.pending.wait(job.tx, by);
+    }
+
+    /// The running job takes a granted step: its effect, then the arrival at the next tick. It answers the outcome, and the
+    /// job's end where it has ended then, also where that end is Late. A step that ends nobody, and at whose end nothing is
+    /// released, touches the rows of its job and item alone, with one look at the least deadline and one at the next release.
+    /// A job that ends costs what `Pending::end` does; each release logarithmic time in the number of planned releases.
+    pub fn go(&mut self, set: &CompiledSet, job: JobId, op: Op) -> (Outcome, Option<End>)
+        requires granted { StandGranted set.now self.old job op }
+        ensures outcome { (s : State) → AreTables set.now self.old s → IsLegalState set.now s → (g : IsGranted set.now s job op) → result.0 ≡ outcome_of s.items g.row.work op }
+        ensures over { (s : State) → AreTables set.now self.old s → IsLegalState set.now s → (g : IsGranted set.now s job op) → result.1 ≡ end_of (with_step set.now s g.row op) job }
+        ensures after { (s : State) → AreTables set.now self.old s → IsLegalState set.now s → (g : IsGranted set.now s job op) → AreTables set.now self.new (with_step set.now s g.row op) }
+    {
+        let at = self.clock + 1;
+        let outcome = outcome(&self.pending, &self.items, job.tx, op);
+        let late = is_late(&self.pending, job.tx, set.txn(job.tx).deadline, at);
+        let own = self.effect(set, job, op);
+        self.arrive(at);
+        (outcome, over(own, late))
+    }
+
+    /// With nothing pending, the time goes on to the least planned tick, and the releases planned for it take place. Each
+    /// costs logarithmic time in the number of planned releases.
+    pub fn go_on(&mut self, to: Tick)
+        requires idle { (set : Set) × StandIdle set self.old to }
+        ensures { (set : Set) (s : State) → AreTables set self.old s → IsLegalState set s → IsIdle set s to → AreTables set self.new (arrived set to s) }
+    {
+        self.arrive(to);
+    }
+
+    /// The effect of a granted step: the job goes on, or ends with its writes installed or not. It answers that end.
+    fn effect(&mut self, set: &CompiledSet, job: JobId, op: Op) -> Option<End>
+        requires granted { StandGranted set.now self.old job op }
+        ensures end { (s : State) → AreTables set.now self.old s → IsLegalState set.now s → (g : IsGranted set.now s job op) → result ≡ end_by set.now (row_after s g.row op) (s.now + 1) op }
+        ensures after { (s : State) → AreTables set.now self.old s → IsLegalState set.now s → (g : IsGranted set.now s job op) → AreTables set.now self.new (after_effect set.now s g.row op) }
+    {
+        let at = self.clock + 1;
+        self.pending.step(job.tx, op, &self.items);
+        let end = settle(set, &self.pending, &mut self.items, job.tx, op, at);
+        close(&mut self.pending, &mut self.tallies, job.tx, end);
+        end
+    }
+
+    /// The events of a tick: the jobs whose deadline it is end Late, in falling priority, then the releases planned for it
+    /// take place.
+    fn arrive(&mut self, tick: Tick)
+        requires arrives { (set : Set) × ArrivesSome set tick self.old }
+        ensures { (set : Set) (s : State) → AreTables set self.old s → CanArrive set tick s → AreTables set self.new (arrived set tick s) }
+    {
+        self.clock = tick;
+        cancel(&mut self.pending, &mut self.tallies, tick);
+        release(&mut self.pending, &mut self.calendar, tick);
+    }
+}
