@@ -143,6 +143,11 @@ fn base(rt: HostRuntime) -> Result<(), AllocError> {
     }
     assert!(rt; set.write_ceiling(ItemId(0)) == 3 && set.absolute_ceiling(ItemId(0)) == 3);
     assert!(rt; set.write_ceiling(ItemId(1)) == 2 && set.absolute_ceiling(ItemId(1)) == 2);
+    let Ok(copy) = set.copy(rt.alloc()) else {
+        panic!(rt; "memory");
+    };
+    assert!(rt; copy.write_ceiling(ItemId(0)) == 3 && copy.absolute_ceiling(ItemId(1)) == 2);
+    assert!(rt; copy.items().len() == 2 && copy.txns().len() == 3 && copy.together().is_empty());
     assert!(rt; set.blocks(TxId(1), 3) && set.blocks(TxId(2), 2));
     assert!(rt; !set.blocks(TxId(2), 4));
     assert!(rt; set.txns()[2].reads.as_slice() == [ItemId(0), ItemId(1)].as_slice());

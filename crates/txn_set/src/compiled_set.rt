@@ -1,16 +1,17 @@
 //! A set that meets the rules.
-ghost use Rattle.std.specs.Prelude.{◌≡◌, ◌<◌, length, nat_le};
+ghost use Rattle.std.specs.Prelude.{◌≡◌, ◌<◌, length, nat_le, IfOk};
 ghost use Rattle.std.specs.List.{All, list_any};
 ghost use Rattle.txn_set.specs.Set.{IsCompiled, txn_of};
 ghost use Rattle.txn_set.specs.Ceilings.{write_ceiling as write_ceiling_of, absolute_ceiling as absolute_ceiling_of, may_block, IsCeilingsOf};
 
 use crate::decl::{Ceilings, TxnDecl};
 use item_model::ItemDecl;
-use rt_base::{ItemId, Prio, TogetherDecl, TxId};
+use rt_base::{ItemId, List, OutOfMemory, Prio, TogetherDecl, TxId};
+use std::alloc::Global;
 use std::marker::Model;
 
 /// A set that meets the rules on items and transactions, with the ceilings of its items. Contracts see the three lists
-/// of declarations. Its calls take no memory.
+/// of declarations. Its calls but `copy` take no memory.
 #[derive(Drop)]
 pub struct CompiledSet {
     items: Vec<ItemDecl>,
@@ -28,6 +29,50 @@ impl Model for CompiledSet {
     ghost view = { λ s. record { items = s.items.items; txns = s.txns.items; together = s.together.items } };
 
     ghost invariant = { λ s. IsWithCeilings (record { items = s.items.items; txns = s.txns.items; together = s.together.items }) s.ceilings.items };
+}
+
+fn copy_of_items(alloc: Global, items: &List<ItemId>) -> Result<List<ItemId>, OutOfMemory>
+    ensures { IfOk result (λ copy. copy ≡ items.now) }
+{
+    Ok(List::of(Vec::from_slice(alloc, items.as_slice())?))
+}
+
+fn copy_of_txn(alloc: Global, txn: &TxnDecl) -> Result<TxnDecl, OutOfMemory>
+    ensures { IfOk result (λ copy. copy ≡ txn.now) }
+{
+    Ok(TxnDecl {
+        prio: txn.prio,
+        period: txn.period,
+        offset: txn.offset,
+        deadline: txn.deadline,
+        steps: txn.steps,
+        quiet: txn.quiet,
+        reads: copy_of_items(alloc, &txn.reads)?,
+        writes: copy_of_items(alloc, &txn.writes)?,
+    })
+}
+
+fn copies_of_txns(alloc: Global, txns: &[TxnDecl]) -> Result<Vec<TxnDecl>, OutOfMemory>
+    ensures { IfOk result (λ copies. copies.items ≡ txns.now) }
+{
+    let mut copies = Vec::with_capacity(alloc, txns.len())?;
+    for txn in txns {
+        copies.push(copy_of_txn(alloc, txn)?)?;
+    }
+    Ok(copies)
+}
+
+fn copies_of_sets(alloc: Global, sets: &[TogetherDecl]) -> Result<Vec<TogetherDecl>, OutOfMemory>
+    ensures { IfOk result (λ copies. copies.items ≡ sets.now) }
+{
+    let mut copies = Vec::with_capacity(alloc, sets.len())?;
+    for set in sets {
+        copies.push(TogetherDecl {
+            items: copy_of_items(alloc, &set.items)?,
+            within: set.within,
+        })?;
+    }
+    Ok(copies)
 }
 
 impl CompiledSet {
@@ -48,6 +93,18 @@ impl CompiledSet {
             together,
             ceilings,
         }
+    }
+
+    /// A set of the same declarations. It takes memory for each of them.
+    pub fn copy(&self, alloc: Global) -> Result<CompiledSet, OutOfMemory>
+        ensures { IfOk result (λ s. s ≡ self.now) }
+    {
+        Ok(CompiledSet {
+            items: Vec::from_slice(alloc, &self.items)?,
+            txns: copies_of_txns(alloc, &self.txns)?,
+            together: copies_of_sets(alloc, &self.together)?,
+            ceilings: Vec::from_slice(alloc, &self.ceilings)?,
+        })
     }
 
     /// The declared items.

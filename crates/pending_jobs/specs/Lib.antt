@@ -1,0 +1,4 @@
+pub mod Rows
+pub mod Waiting
+pub mod Deadlines
+pub mod Tables

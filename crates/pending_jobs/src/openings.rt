@@ -1,0 +1,96 @@
+//! The tables of nothing pending.
+ghost use Rattle.std.specs.Prelude.{◌≡◌, ◌≤◌, ◌<◌, ℕ, map, length, None, Some, IfOk, slice_index_or, replicate};
+ghost use Rattle.ceiling_table.specs.Held.{no_ceilings};
+ghost use Rattle.txn_set.specs.Set.{IsCompiled};
+ghost use Rattle.pending_jobs.specs.Rows.{ceil_row};
+ghost use Rattle.pending_jobs.specs.Tables.{opening_job};
+
+use crate::head::Head;
+use ceiling_table::CeilRow;
+use rt_base::{ItemId, OutOfMemory, Prio, Tick};
+use std::alloc::Global;
+use strict_commit::Work;
+use txn_set::{CompiledSet, TxnDecl};
+
+/// The priorities of the transactions.
+pub fn prios_of(alloc: Global, txns: &[TxnDecl]) -> Result<Vec<Prio>, OutOfMemory>
+    ensures { IfOk result (λ v. v.items ≡ map (λ t. t.prio) txns.now) }
+{
+    let mut prios = Vec::new(alloc);
+    for txn in txns {
+        prios.push(txn.prio)?;
+    }
+    Ok(prios)
+}
+
+/// The relative deadlines of the transactions.
+pub fn deadlines_of(alloc: Global, txns: &[TxnDecl]) -> Result<Vec<Tick>, OutOfMemory>
+    ensures { IfOk result (λ v. v.items ≡ map (λ t. t.deadline) txns.now) }
+{
+    let mut deadlines = Vec::new(alloc);
+    for txn in txns {
+        deadlines.push(txn.deadline)?;
+    }
+    Ok(deadlines)
+}
+
+/// No pending job of any transaction.
+pub fn no_heads(alloc: Global, txns: &[TxnDecl]) -> Result<Vec<Option<Head>>, OutOfMemory>
+    ensures { IfOk result (λ v. v.items ≡ map (λ t. None) txns.now) }
+{
+    let mut heads = Vec::new(alloc);
+    for txn in txns {
+        let _txn = txn;
+        heads.push(None)?;
+    }
+    Ok(heads)
+}
+
+/// These items, copied.
+fn copied(alloc: Global, items: &[ItemId]) -> Result<Vec<ItemId>, OutOfMemory>
+    ensures { IfOk result (λ v. v.items ≡ items.now) }
+{
+    let mut copies = Vec::new(alloc);
+    for item in items {
+        copies.push(*item)?;
+    }
+    Ok(copies)
+}
+
+/// Nothing read and nothing written by a job of a transaction.
+fn work_of(alloc: Global, txn: &TxnDecl) -> Result<Work, OutOfMemory>
+    ensures { IfOk result (λ w. w ≡ opening_job txn.now) }
+{
+    let reads = copied(alloc, txn.reads.as_slice())?;
+    let writes = copied(alloc, txn.writes.as_slice())?;
+    Work::new(alloc, reads, writes)
+}
+
+/// The places for the work of each transaction's jobs.
+pub fn works_of(alloc: Global, txns: &[TxnDecl]) -> Result<Vec<Work>, OutOfMemory>
+    ensures { IfOk result (λ v. v.items ≡ map opening_job txns.now) }
+{
+    let mut works = Vec::new(alloc);
+    for txn in txns {
+        let work = work_of(alloc, txn)?;
+        works.push(work)?;
+    }
+    Ok(works)
+}
+
+/// The ceilings of the items.
+pub fn ceilings_of(alloc: Global, set: &CompiledSet) -> Result<Vec<CeilRow>, OutOfMemory>
+    ensures size { IfOk result (λ v. length v.items ≡ length set.now.items) }
+    ensures ceilings { IfOk result (λ v. (item : ℕ) → item < length set.now.items → slice_index_or v.items item no_ceilings ≡ ceil_row set.now item) }
+{
+    set.is_compiled();
+    let mut ceilings = Vec::new(alloc);
+    for item in 0..set.items().len() {
+        let id = ItemId(item as u32);
+        ceilings.push(CeilRow {
+            write: set.write_ceiling(id),
+            absolute: set.absolute_ceiling(id),
+        })?;
+    }
+    Ok(ceilings)
+}
