@@ -142,7 +142,7 @@ released_tables set tick t s pending calendar a facts rows holds same = record {
 
 -- who may be released
 
-pub record Was (rows : List (Option Row)) (n : ℕ) (x : Row) : Type 0 where
+pub record Was (rows : List (Option Row)) (n : ℕ) : Type 0 where
   pub was : Row
   pub here : row_of rows n ≡ Some was
 
@@ -155,7 +155,7 @@ some_of : (job : JobId) (o : Option Row) (x : Row) → option_map (freed job) o 
 some_of job None x h = absurd cc
 some_of job (Some r) x h = (r, refl)
 
-one_left : (rows : List (Option Row)) (job : JobId) (n : ℕ) (x : Row) → row_of (rows_without rows job) n ≡ Some x → (job.tx.0 ≢ n) × Was rows n x
+one_left : (rows : List (Option Row)) (job : JobId) (n : ℕ) (x : Row) → row_of (rows_without rows job) n ≡ Some x → (job.tx.0 ≢ n) × Was rows n
 one_left rows job n x h =
     let r = some_of job (row_of (with_item rows job.tx.0 None) n) x (sym (get_or-map (option_map (freed job)) (with_item rows job.tx.0 None) n None) ∙ h) in
     elim (cases_eq n job.tx.0) [
@@ -163,12 +163,12 @@ one_left rows job n x h =
       | inr ne ↦ (λ k. ne (sym k), record { was = r.0; here = sym (get_or-set_other rows job.tx.0 n None None ne) ∙ r.1 })
     ]
 
-all_left : (rows : List (Option Row)) (jobs : List JobId) (n : ℕ) (x : Row) → row_of (fold rows_without rows jobs) n ≡ Some x → ((j : JobId) → In j jobs → j.tx.0 ≢ n) × Was rows n x
+all_left : (rows : List (Option Row)) (jobs : List JobId) (n : ℕ) (x : Row) → row_of (fold rows_without rows jobs) n ≡ Some x → ((j : JobId) → In j jobs → j.tx.0 ≢ n) × Was rows n
 all_left rows [] n x h = (λ j i. absurd i, record { was = x; here = h })
 all_left rows (job ∷ jobs) n x h =
     let rest = all_left (rows_without rows job) jobs n x h in
     let one = one_left rows job n rest.1.was rest.1.here in
-    (λ j i. elim i [ inl e ↦ (λ same. one.0 (sym (ap (λ (k : JobId). k.tx.0) e) ∙ same)) | inr later ↦ rest.0 j later ], one.1)
+    (λ j i. elim i [ inl e ↦ (λ same. one.0 (sym (ap (λ (k : JobId). k.tx.0) e) ∙ same)) | inr more ↦ rest.0 j more ], record { was = one.1.was; here = one.1.here })
 
 without_many : (rows : List (Option Row)) (jobs : List JobId) → length (fold rows_without rows jobs) ≡ length rows
 without_many rows [] = refl
@@ -200,7 +200,7 @@ pending_many [] = omega arith
 pending_many (None ∷ rows) = omega (arith, pending_many rows)
 pending_many (Some r ∷ rows) = omega (arith, pending_many rows)
 
-tallies_few : (set : Set) (tallies : List Tally) (ended : List EndedJob) (n : ℕ) → AreTallies set tallies ended → ended_number ended n < 2 ^ 33 → (tally_of tallies n).number < 2 ^ 33
+pub tallies_few : (set : Set) (tallies : List Tally) (ended : List EndedJob) (n : ℕ) → AreTallies set tallies ended → ended_number ended n < 2 ^ 33 → (tally_of tallies n).number < 2 ^ 33
 tallies_few set tallies ended n are few =
     elim (cases_lt n (length set.txns)) [
       | inl lt ↦ omega (arith, few, ap (λ (t : Tally). t.number) (are.each n lt))
@@ -236,19 +236,19 @@ cancel_planned set tick s tallies are = (lates set tick (in_falling_priority set
 
 -- the events, one after the other
 module _ (set : Set) (tick : ℕ) (t : TablesSeen) (s : State) (a : AreTables set t s) (can : CanArrive set tick s) where
-  pub arrive_cancels : CanCancelSome t.pending t.tallies
-  arrive_cancels = record { set = set; facts = a.rows.facts; can = can_cancel set tick t s a can }
+  pub arrive_cancels : (tallies : List Tally) → tallies ≡ t.tallies → CanCancel set t.pending.rows tallies
+  arrive_cancels tallies e = subst (CanCancel set t.pending.rows) (sym e) (can_cancel set tick t s a can)
 
   pub arrive_releases : (pending : PendingSeen) → pending ≡ record t.pending { rows = rows_cancelled set tick t.pending.rows } → CanRelease tick pending.rows s.planned
   arrive_releases pending e =
       subst (λ (rows : List (Option Row)). CanRelease tick rows s.planned)
       (ap (rows_cancelled set tick) (sym a.rows.rows) ∙ ap (λ (p : PendingSeen). p.rows) (sym e)) (can_release set tick s can)
 
-  pub arrives : (cancelled released : PendingSeen) (tallies : List Tally) (calendar : Agenda) → cancelled ≡ record t.pending { rows = rows_cancelled set tick t.pending.rows } → tallies ≡ tallies_cancelled set tick t.pending.rows t.tallies
+  pub arrives : (cancelled released : PendingSeen) (old_tallies tallies : List Tally) (calendar : Agenda) → old_tallies ≡ t.tallies → cancelled ≡ record t.pending { rows = rows_cancelled set tick t.pending.rows } → tallies ≡ tallies_cancelled set tick t.pending.rows old_tallies
       → released.facts ≡ cancelled.facts → released.rows ≡ fold (with_row tick) cancelled.rows (due_jobs tick s.planned) → Holds calendar (later tick s.planned) → SamePlans t.calendar calendar
       → AreTables set (record { clock = tick; items = t.items; calendar = calendar; pending = released; tallies = tallies }) (arrived set tick s)
   unfolding arrived
-  arrives cancelled released tallies calendar ec et facts rows holds same =
+  arrives cancelled released old_tallies tallies calendar eo ec et facts rows holds same =
       let s1 : State = record s { now = tick } in
       let s2 : State = with_cancellations set tick s1 in
       let t2 : TablesSeen = record t { clock = tick; pending = record t.pending { rows = rows_cancelled set tick t.pending.rows }; tallies = tallies_cancelled set tick t.pending.rows t.tallies } in
@@ -259,4 +259,4 @@ module _ (set : Set) (tick : ℕ) (t : TablesSeen) (s : State) (a : AreTables se
       (facts ∙ ap (λ (p : PendingSeen). p.facts) ec)
       (rows ∙ (ap (λ (p : PendingSeen). fold (with_row tick) p.rows (due_jobs tick s.planned)) ec ∙ ap (λ (l : List Release). fold (with_row tick) t2.pending.rows (due_jobs tick l)) (sym planned)))
       (subst (λ (l : List Release). Holds calendar (later tick l)) (sym planned) holds) same in
-      subst (λ (l : List Tally). AreTables set (record { clock = tick; items = t.items; calendar = calendar; pending = released; tallies = l }) (with_releases tick s2)) (sym et) is
+      subst (λ (l : List Tally). AreTables set (record { clock = tick; items = t.items; calendar = calendar; pending = released; tallies = l }) (with_releases tick s2)) (sym (et ∙ ap (tallies_cancelled set tick t.pending.rows) eo)) is

@@ -8,24 +8,29 @@ use Rattle.rt_base.specs.declared.ids.JobId.{JobId}
 use Rattle.rt_base.specs.declared.operation.Op.{Op}
 use Rattle.rt_base.specs.declared.operation.Op.TheVariants.{Read, Write, Compute, Commit, Quit}
 use Rattle.rt_base.specs.declared.operation.End.{End}
+use Rattle.item_model.specs.Work.{outcome_of}
 use Rattle.item_model.specs.declared.stored.Stored.{Stored}
 use Rattle.ceiling_table.specs.Held.{HasItem}
 use Rattle.txn_set.specs.Set.{Set, IsCompiled, txn_of, names_item}
 use Rattle.step_journal.specs.State.{State, Row, row_of}
-use Rattle.step_journal.specs.Instant.{freed, with_end}
-use Rattle.step_journal.specs.LockRule.{Above, refusal}
-use Rattle.step_journal.specs.Step.{may_ask, lock_refusal, given, row_after, end_by, settled, after_effect, with_wait}
+use Rattle.step_journal.specs.Instant.{freed, with_end, is_due, arrived}
+use Rattle.step_journal.specs.LockRule.{Above, refusal, needs_lock}
+use Rattle.step_journal.specs.Step.{may_ask, lock_refusal, given, row_after, end_by, settled, after_effect, with_step, end_of, with_wait}
 use Rattle.step_journal.specs.Running.{running}
 use Rattle.history_laws.proofs.Invariant.{IsPending, in_range, running_is}
 use Rattle.history_laws.proofs.Calendar.{named_from}
 use Rattle.history_laws.proofs.Never.{refusal_at}
+use Rattle.board.specs.Over.{over_of}
 use Rattle.pending_jobs.specs.Rows.{Facts, PendingSeen, AreRows, AreFactsOf, Accesses, IsDeclared, accesses_at, accesses_of, rows_stepped, rows_waiting}
+use Rattle.pending_jobs.specs.Waiting.{MayWait}
+use Rattle.pending_jobs.proofs.Protocols.{may_wait}
 use Rattle.core_tables.specs.declared.tally.Tally.{Tally}
 use Rattle.core_tables.specs.Seen.{TablesSeen, tally_of}
 use Rattle.core_tables.specs.Tables.{AreTables}
 use Rattle.core_tables.specs.Legal.{IsLegalState, IsGranted, IsBlocked}
 use Rattle.core_tables.specs.Changes.{rows_without, items_settled, pending_settled, tallies_settled}
-use Rattle.core_tables.proofs.Facts.{Known, known}
+use Rattle.core_tables.specs.Arriving.{CanArrive}
+use Rattle.core_tables.proofs.Facts.{Known, known, effect_arrives}
 use Rattle.core_tables.proofs.Arrived.{one_ended, tallies_few}
 use Rattle.core_tables.proofs.Refusals.{accesses_are, item_of}
 
@@ -173,3 +178,44 @@ waits set t s job by op ceiling pending a legal b waiting =
       };
       tallies = a.tallies;
     }
+
+pub may_wait_here : (set : Set) (t : TablesSeen) (s : State) (job by : JobId) (op : Op) (ceiling : ℕ) → AreTables set t s → IsLegalState set s → IsBlocked set s job op by ceiling → MayWait t.pending.rows job.tx.0 by
+may_wait_here set t s job by op ceiling a legal b =
+    let k = known set s legal in
+    let above : Above = record { holder = by; ceiling = ceiling } in
+    let refused : refusal set s.rows b.row ≡ Some above = refusal_at set s b.row above (needs_lock b.row.work op) b.refused in
+    let may : MayWait s.rows b.row.job.tx.0 by = may_wait set s.rows k.refused b.row above (named_from set s.rows k.compiled k.sound.frame) k.sound.protocol b.runs refused in
+    subst (λ (rows : List (Option Row)). MayWait rows job.tx.0 by) (sym a.rows.rows) (subst (λ (j : JobId). MayWait s.rows j.tx.0 by) b.is may)
+
+pub blocked_in_range : (set : Set) (t : TablesSeen) (s : State) (job by : JobId) (op : Op) (ceiling : ℕ) → AreTables set t s → IsLegalState set s → (b : IsBlocked set s job op by ceiling) → job.tx.0 < length t.pending.rows
+blocked_in_range set t s job by op ceiling a legal b =
+    in_range t.pending.rows job.tx.0 b.row
+    (ap (λ (l : List (Option Row)). row_of l job.tx.0) a.rows.rows ∙ subst (λ (j : JobId). row_of s.rows j.tx.0 ≡ Some b.row) b.is ((known set s legal).here b.row b.runs))
+
+pub tally_low : (set : Set) (t : TablesSeen) (s : State) (n : ℕ) → AreTables set t s → IsLegalState set s → (tally_of t.tallies n).number < 2 ^ 63
+tally_low set t s n a legal = omega (arith, tallies_few set t.tallies s.ended n a.tallies (omega (arith, (known set s legal).few n)))
+
+-- the events of the next tick
+
+pub next_arrives : (set : Set) (t : TablesSeen) (s : State) (job : JobId) (op : Op) → AreTables set t s → IsLegalState set s → (g : IsGranted set s job op) → CanArrive set (t.clock + 1) (after_effect set s g.row op)
+next_arrives set t s job op a legal g =
+    subst (λ (n : ℕ). CanArrive set (n + 1) (after_effect set s g.row op)) (sym a.now) (effect_arrives set s job op (known set s legal) g)
+
+pub with_step_is : (set : Set) (t : TablesSeen) (s : State) (row : Row) (op : Op) → AreTables set t s → arrived set (t.clock + 1) (after_effect set s row op) ≡ with_step set s row op
+unfolding with_step
+with_step_is set t s row op a = ap (λ (n : ℕ). arrived set (n + 1) (after_effect set s row op)) a.now
+
+pub outcome_is : (set : Set) (t : TablesSeen) (s : State) (row : Row) (op : Op) → AreTables set t s → outcome_of t.items row.work op ≡ outcome_of s.items row.work op
+outcome_is set t s row op a = ap (λ (i : List Stored). outcome_of i row.work op) a.items
+
+pub over_is : (set : Set) (t : TablesSeen) (s : State) (job : JobId) (op : Op) (own : Option End) (late : Bool) (deadline : ℕ) → AreTables set t s → IsLegalState set s → (g : IsGranted set s job op)
+    → own ≡ end_by set (row_after s g.row op) (s.now + 1) op → deadline ≡ (txn_of set job.tx.0).deadline → late ≡ (g.row.release + deadline == t.clock + 1) → over_of own late ≡ end_of (with_step set s g.row op) job
+over_is set t s job op own late deadline a legal g eo ed el =
+    let due : late ≡ is_due set (s.now + 1) g.row =
+    el
+    ∙ (ap (λ (n : ℕ). g.row.release + n == t.clock + 1) (ed ∙ ap (λ (j : JobId). (txn_of set j.tx.0).deadline) (sym g.is))
+    ∙ ap (λ (n : ℕ). g.row.release + (txn_of set g.row.job.tx.0).deadline == n + 1) a.now) in
+    ap (λ (o : Option End). over_of o late) eo
+    ∙ (ap (over_of (end_by set (row_after s g.row op) (s.now + 1) op)) due
+    ∙ ((known set s legal).over g.row op g.runs
+    ∙ ap (end_of (with_step set s g.row op)) g.is))

@@ -19,7 +19,7 @@ pub end-requires : goal.end-requires
 end-requires c =
     let r = c.requires in
     let loop = c.loop-job.invariant r.set r.facts r.can in
-    record { tx = late_in_range r.set c.args.tick c.loop-job.pending c.in-Some.job loop.can.frame (c.in-Some.ensures r.set (facts_of _ _ _ loop.facts r.facts)) }
+    late_in_range r.set c.args.tick c.loop-job.pending c.in-Some.job loop.can.frame (c.in-Some.ensures r.set (facts_of _ _ _ loop.facts r.facts))
 
 pub count_end-requires-clause-tx : goal.count_end-requires-clause-tx
 count_end-requires-clause-tx c =
