@@ -11,7 +11,8 @@ mod script;
 
 use crate::drive::{Counts, Plan, drive};
 use core_rows::generated;
-use plain_core::{PlainCore, PlainCore as Core};
+use lock_core::Core;
+use plain_core::PlainCore;
 use rt_base::OutOfMemory;
 use std::alloc::Global;
 use std::env;

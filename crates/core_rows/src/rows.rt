@@ -8,7 +8,7 @@ use crate::calls::{
 use crate::sets::{TogetherRow, TxnRow, compiled};
 use board::{Board, IdleReply, StepReply};
 use item_model::{ItemDecl, ItemKind};
-use plain_core::PlainCore as Core;
+use lock_core::Core;
 use rt_base::{End, ItemId, Op, OutOfMemory, Outcome, PlanRefused, Prio, Tick, TxId};
 use std::alloc::Global;
 use txn_set::CompiledSet;
