@@ -1,0 +1,147 @@
+-- Each change of a core is one step of each history that it stands for.
+use Rattle.std.proofs.Common.{◌≡◌, ℕ, ◌<◌, inl, inr, Bool, true, false, cond, List, [], ◌∷◌, ◌++◌, length, Option, None, Some, refl, ap, sym, ◌∙◌, subst, arith}
+use Rattle.std.proofs.lemmas.Bool.Decides.{leb_tells}
+use Rattle.std.specs.Prelude.{nat_le, Ok}
+use Rattle.rt_base.specs.declared.ids.TxId.{TxId}
+use Rattle.rt_base.specs.declared.ids.JobId.{JobId}
+use Rattle.rt_base.specs.declared.operation.Op.{Op}
+use Rattle.rt_base.specs.declared.operation.End.{End}
+use Rattle.rt_base.specs.declared.operation.Outcome.{Outcome}
+use Rattle.step_journal.specs.declared.entry.Entry.{Entry}
+use Rattle.step_journal.specs.declared.entry.Entry.TheVariants.{Planned, Step, Blocked, Idle}
+use Rattle.txn_set.specs.Set.{Set}
+use Rattle.item_model.specs.Work.{outcome_of}
+use Rattle.step_journal.specs.State.{State, Row, pending}
+use Rattle.step_journal.specs.Running.{running}
+use Rattle.step_journal.specs.Journal.{JournalSeen}
+use Rattle.step_journal.specs.Instant.{arrived}
+use Rattle.step_journal.specs.Step.{Event, plan, ask, idle, step, plans_of, earliest, next_job, with_plan, with_step, with_wait, end_of, next_tick}
+use Rattle.step_journal.specs.History.{state_of, event_of}
+use Rattle.history_laws.proofs.Never.{never_stuck}
+use Rattle.board.specs.Answers.{plan_reply, step_reply, idle_reply, idle_reply_at, waiting_reply}
+use Rattle.board.specs.Stories.{noted, step_entry}
+use Rattle.board.specs.declared.replies.StepReply.{StepReply}
+use Rattle.board.specs.declared.replies.StepReply.TheVariants as reply
+use Rattle.board.specs.declared.replies.IdleReply.TheVariants as answer
+use Rattle.board.proofs.More.{story_more, plan_steps, passes, not_le}
+use Rattle.board.proofs.Rooms.{steps_full}
+use Rattle.core_tables.specs.Seen.{TablesSeen}
+use Rattle.core_tables.specs.Tables.{AreTables}
+use Rattle.core_tables.specs.Legal.{IsLegalState, IsGranted, IsBlocked, IsIdle, Refuses}
+use Rattle.core_tables.proofs.Steps.{granted_steps, blocked_steps, idle_steps}
+use Rattle.core_tables.proofs.Refusals.{granted_reply}
+use Rattle.lock_core.specs.Seen.{CoreSeen, core_of}
+use Rattle.lock_core.specs.Stands.{Stands, IsCore}
+use Rattle.lock_core.specs.Turns.{IsTurn}
+use Rattle.lock_core.proofs.Stood.{legal_state}
+
+abbrev pub with_entry : JournalSeen → Entry → JournalSeen
+with_entry journal e = record journal { kept = journal.kept ++ e ∷ [] }
+
+pub no_turn : (core : CoreSeen) (story : List Entry) (event : Event) → Stands core story → IsTurn core core story event None
+no_turn core story event h = record { stands = h; steps = tt; kept = refl }
+
+turned : (set : Set) (journal more : JournalSeen) (tables next_tables : TablesSeen) (story : List Entry) (e : Entry) (next : State) → more ≡ with_entry journal e → Stands (core_of set journal tables) story
+    → step set (state_of set story) (event_of e) ≡ Some (e, next) → length journal.kept < journal.room → AreTables set next_tables next
+    → IsTurn (core_of set journal tables) (core_of set more next_tables) story (event_of e) (Some e)
+turned set journal more tables next_tables story e next ej h steps lt are =
+    let m = story_more set journal.room journal.first journal.kept story e next h.is_story steps lt in
+    subst (λ (j : JournalSeen). IsTurn (core_of set journal tables) (core_of set j next_tables) story (event_of e) (Some e)) (sym ej) (record {
+      stands = record { is_story = m.is_story; are = subst (λ (s : State). AreTables set next_tables s) m.state are };
+      steps = steps ∙ ap (λ (s : State). Some (e, s)) m.state;
+      kept = refl;
+    })
+
+pub plan_room : (set : Set) (s : State) (kept room tx tick : ℕ) (job : JobId) → plan_reply set s kept room tx tick ≡ Ok job → kept < room
+plan_room set s kept room tx tick job said = (passes tick s.now (earliest set tx (plans_of s tx)) (length s.planned) kept room (next_job s tx) job said).0.roomy
+
+pub plan_turn : (set : Set) (journal more : JournalSeen) (tables next_tables : TablesSeen) (story : List Entry) (tx : TxId) (tick kept room : ℕ) (job : JobId) → more ≡ with_entry journal (Planned tx tick)
+    → tx.0 < length set.txns → kept ≡ length journal.kept → room ≡ journal.room → plan_reply set (state_of set story) kept room tx.0 tick ≡ Ok job → AreTables set next_tables (with_plan (state_of set story) tx.0 tick)
+    → Stands (core_of set journal tables) story → IsTurn (core_of set journal tables) (core_of set more next_tables) story (plan tx.0 tick) (Some (Planned tx tick))
+plan_turn set journal more tables next_tables story tx tick kept room job ej lt ek er said are h =
+    turned set journal more tables next_tables story (Planned tx tick) (with_plan (state_of set story) tx.0 tick) ej h (plan_steps set (state_of set story) kept room tx tick job lt said)
+    (omega (arith, plan_room set (state_of set story) kept room tx.0 tick job said, ek, er)) are
+
+pub go_turn : (set : Set) (journal more : JournalSeen) (tables next_tables : TablesSeen) (story : List Entry) (job : JobId) (op : Op) (outcome : Outcome) (over : Option End) (tick : ℕ)
+    → more ≡ with_entry journal (Step job op outcome over tick) → tick ≡ tables.clock → length journal.kept < journal.room → (h : Stands (core_of set journal tables) story) → (g : IsGranted set (state_of set story) job op)
+    → outcome ≡ outcome_of (state_of set story).items g.row.work op → over ≡ end_of (with_step set (state_of set story) g.row op) job → AreTables set next_tables (with_step set (state_of set story) g.row op)
+    → IsTurn (core_of set journal tables) (core_of set more next_tables) story (ask job op) (Some (Step job op outcome over (state_of set story).now))
+go_turn set journal more tables next_tables story job op outcome over tick ej et lt h g eo ev are =
+    let s : State = state_of set story in
+    let next : State = with_step set s g.row op in
+    turned set journal more tables next_tables story (Step job op outcome over s.now) next (ej ∙ ap (λ (n : ℕ). with_entry journal (Step job op outcome over n)) (et ∙ h.are.now)) h
+    (granted_steps set s job op g ∙ (ap (λ (o : Outcome). Some (Step job op o (end_of next job) s.now, next)) (sym eo) ∙ ap (λ (v : Option End). Some (Step job op outcome v s.now, next)) (sym ev))) lt are
+
+pub go_says : (set : Set) (journal : JournalSeen) (tables : TablesSeen) (story : List Entry) (job : JobId) (op : Op) (outcome : Outcome) (over : Option End) → length journal.kept < journal.room
+    → (h : Stands (core_of set journal tables) story) → (g : IsGranted set (state_of set story) job op)
+    → outcome ≡ outcome_of (state_of set story).items g.row.work op → over ≡ end_of (with_step set (state_of set story) g.row op) job
+    → reply.Done outcome over ≡ step_reply set (state_of set story) (length journal.kept) journal.room job op
+go_says set journal tables story job op outcome over lt h g eo ev =
+    let s : State = state_of set story in
+    ap (λ (o : Outcome). reply.Done o over) eo
+    ∙ (ap (λ (v : Option End). reply.Done (outcome_of s.items g.row.work op) v) ev
+    ∙ sym (granted_reply set s (length journal.kept) journal.room job op g (legal_state (core_of set journal tables) story h) lt))
+
+pub block_turn : (set : Set) (journal more : JournalSeen) (tables next_tables : TablesSeen) (story : List Entry) (job : JobId) (op : Op) (by : JobId) (ceiling tick : ℕ)
+    → more ≡ with_entry journal (Blocked job op by ceiling tick) → tick ≡ tables.clock → length journal.kept < journal.room → (h : Stands (core_of set journal tables) story)
+    → (b : IsBlocked set (state_of set story) job op by ceiling) → AreTables set next_tables (with_wait (state_of set story) b.row by)
+    → IsTurn (core_of set journal tables) (core_of set more next_tables) story (ask job op) (Some (Blocked job op by ceiling (state_of set story).now))
+block_turn set journal more tables next_tables story job op by ceiling tick ej et lt h b are =
+    let s : State = state_of set story in
+    turned set journal more tables next_tables story (Blocked job op by ceiling s.now) (with_wait s b.row by) (ej ∙ ap (λ (n : ℕ). with_entry journal (Blocked job op by ceiling n)) (et ∙ h.are.now)) h
+    (blocked_steps set s job op by ceiling b) lt are
+
+pub idle_turn : (set : Set) (journal more : JournalSeen) (tables next_tables : TablesSeen) (story : List Entry) (tick to : ℕ)
+    → more ≡ with_entry journal (Idle tick to) → tick ≡ tables.clock → length journal.kept < journal.room → (h : Stands (core_of set journal tables) story)
+    → IsIdle set (state_of set story) to → AreTables set next_tables (arrived set to (state_of set story))
+    → IsTurn (core_of set journal tables) (core_of set more next_tables) story idle (Some (Idle (state_of set story).now to))
+idle_turn set journal more tables next_tables story tick to ej et lt h i are =
+    let s : State = state_of set story in
+    turned set journal more tables next_tables story (Idle s.now to) (arrived set to s) (ej ∙ ap (λ (n : ℕ). with_entry journal (Idle n to)) (et ∙ h.are.now)) h
+    (idle_steps set s to i) lt are
+
+-- where an answer lets a job wait, or the time go on, there is room for an entry
+
+pub block_room : (set : Set) (s : State) (kept room : ℕ) (job : JobId) (op : Op) (by : JobId) (ceiling : ℕ) → step_reply set s kept room job op ≡ reply.Blocked by ceiling → kept < room
+block_room set s kept room job op by ceiling said =
+    let entry : step_entry s.now job op (step_reply set s kept room job op) ≡ Some (Blocked job op by ceiling s.now) = ap (step_entry s.now job op) said in
+    elim (leb_tells room kept) [ inl t ↦ absurd (not_none _ _ (steps_full set s kept room job op t.0) entry) | inr f ↦ f.1 ] where
+      not_none : (o : Option Entry) (e : Entry) → o ≡ None → o ≡ Some e → ⊥
+      not_none o e a b = cc
+
+full_at : (kept room t to : ℕ) (b : Bool) → nat_le room kept ≡ b → cond b (answer.Full room) (answer.Advanced t) ≡ answer.Advanced to → (Some t ≡ Some to) × (kept < room)
+full_at kept room t to true e h = absurd cc
+full_at kept room t to false e h = (cc, not_le room kept e)
+
+waiting_at : (kept room to : ℕ) (n : Option ℕ) → waiting_reply kept room n ≡ answer.Advanced to → (n ≡ Some to) × (kept < room)
+waiting_at kept room to None h = absurd cc
+waiting_at kept room to (Some t) h = full_at kept room t to (nat_le room kept) refl h
+
+advances_at : (s : State) (kept room to : ℕ) (o : Option Row) → idle_reply_at s kept room o ≡ answer.Advanced to → (o ≡ None) × ((next_tick s.planned ≡ Some to) × (kept < room))
+advances_at s kept room to (Some r) h = absurd cc
+advances_at s kept room to None h = (refl, waiting_at kept room to (next_tick s.planned) h)
+
+pub advances : (set : Set) (s : State) (kept room to : ℕ) → IsLegalState set s → idle_reply set s kept room ≡ answer.Advanced to → IsIdle set s to
+advances set s kept room to legal says =
+    let a = advances_at s kept room to (running set s.rows) says in
+    let runs : running set s.rows ≡ None → pending s.rows ≡ [] =
+    subst (λ (k : State). running set k.rows ≡ None → pending k.rows ≡ []) (sym legal.is) (never_stuck set legal.story legal.compiled legal.legal).runs in
+    record { none = runs a.0; next = a.1.0 }
+
+pub idle_room : (set : Set) (s : State) (kept room to : ℕ) → idle_reply set s kept room ≡ answer.Advanced to → kept < room
+idle_room set s kept room to says = (advances_at s kept room to (running set s.rows) says).1.1
+
+-- what a refusal says, by its kind
+
+abbrev Said : Set → State → ℕ → ℕ → JobId → Op → StepReply → Type 0
+Said set s kept room job op r = (step_reply set s kept room job op ≡ r) × Refuses set s job op r
+
+pub blocked_said : (set : Set) (s : State) (kept room : ℕ) (job : JobId) (op : Op) (r : StepReply) (by : JobId) (ceiling : ℕ) → r ≡ reply.Blocked by ceiling → Said set s kept room job op r → Said set s kept room job op (reply.Blocked by ceiling)
+blocked_said set s kept room job op r by ceiling e said = subst (λ (x : StepReply). Said set s kept room job op x) e said
+
+pub never_done : (set : Set) (s : State) (kept room : ℕ) (job : JobId) (op : Op) (r : StepReply) (outcome : Outcome) (over : Option End) → r ≡ reply.Done outcome over → Said set s kept room job op r → ⊥
+never_done set s kept room job op r outcome over e said = (subst (λ (x : StepReply). Said set s kept room job op x) e said).1
+
+-- the core stands for some history after the turn, since it did before
+pub still_core : (old new : CoreSeen) (event : Event) (entry : List Entry → Option Entry) → IsCore old → ((story : List Entry) → Stands old story → IsTurn old new story event (entry story)) → IsCore new
+still_core old new event entry is turn = record { story = noted is.story (entry is.story); stands = (turn is.story is.stands).stands }

@@ -1,0 +1,33 @@
+-- The laws of the histories that a core stands for.
+use Rattle.std.specs.Prelude.{◌≡◌, ◌≢◌, ℕ, true, false, ◌||◌, List, Some, slice_get}
+use Rattle.rt_base.specs.declared.ids.JobId.{JobId}
+use Rattle.step_journal.specs.declared.entry.Entry.{Entry}
+use Rattle.step_journal.specs.declared.entry.EndedJob.{EndedJob}
+use Rattle.txn_set.specs.Set.{Set}
+use Rattle.item_model.specs.Work.{has_read, has_written}
+use Rattle.step_journal.specs.State.{State, Row}
+use Rattle.step_journal.specs.Running.{job_row}
+use Rattle.step_journal.specs.History.{state_of}
+use Rattle.step_journal.specs.Serial.{IsSerial}
+use Rattle.history_laws.specs.Protocol.{NeverStuck, HoldsNothing, IsAloneSoFar, DelayedByOne}
+
+-- of two pending jobs none holds a lock on an item on which the other holds a write lock
+abbrev pub HasNoConflict : State → Type 0
+HasNoConflict s =
+    (a b : JobId) (x y : Row) (i : ℕ) → job_row s.rows a ≡ Some x → job_row s.rows b ≡ Some y → a ≢ b
+    → has_written x.work i ≡ true → (has_read y.work i || has_written y.work i) ≡ false
+
+-- a job that ended holds no lock and waits on nobody, and nobody waits on it
+abbrev pub EndedJobsHoldNothing : State → Type 0
+EndedJobsHoldNothing s =
+    (n : ℕ) (ended : EndedJob) → slice_get s.ended n ≡ Some ended → HoldsNothing s ended.job
+
+-- what the laws say of one history and of the state after it
+pub record IsLawful (set : Set) (story : List Entry) : Type 0 where
+  pub no_conflict : HasNoConflict (state_of set story)
+  pub ended_hold_nothing : EndedJobsHoldNothing (state_of set story)
+  pub never_stuck : NeverStuck set (state_of set story)
+  pub serial : IsSerial set story
+  pub pending_alone :
+      (job : JobId) (row : Row) → job_row (state_of set story).rows job ≡ Some row → IsAloneSoFar set story row
+  pub one_delay : (job : JobId) → DelayedByOne set story job

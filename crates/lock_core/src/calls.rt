@@ -1,0 +1,92 @@
+//! The calls that change a core.
+ghost use Rattle.std.specs.Prelude.{◌≡◌, ◌+◌, ◌-◌, ◌<◌, ◌++◌, ℕ, List, length, min, take, drop, vec_len, vec_capacity, OnErr};
+ghost use Rattle.step_journal.specs.declared.entry.Entry.{Entry as Noted};
+ghost use Rattle.step_journal.specs.Step.{plan as planned, ask, idle as idled};
+ghost use Rattle.step_journal.specs.History.{state_of};
+ghost use Rattle.step_journal.specs.Serial.{IsSerial};
+ghost use Rattle.history_laws.specs.Protocol.{NeverStuck};
+ghost use Rattle.board.specs.Answers.{next_tick_for};
+ghost use Rattle.board.specs.Stories.{plan_entry, plan_next_entry, step_entry, idle_entry, plan_answer, plan_next_answer, step_answer, idle_answer, now_of};
+ghost use Rattle.lock_core.specs.Stands.{Stands};
+ghost use Rattle.lock_core.specs.Turns.{IsTurn, IsRefusal, IsIdleRefusal};
+ghost use Rattle.lock_core.specs.Promises.{HasNoConflict, EndedJobsHoldNothing};
+
+use crate::core_board::Core;
+use crate::turns;
+use board::{IdleReply, StepReply};
+use rt_base::{JobId, Op, PlanRefused, Tick, TxId};
+use step_journal::Entry;
+
+impl Core {
+    /// Plans the transaction's next job for a tick; a job planned for the present tick is pending at once. Errors: those of
+    /// the calendar in their order, then Full exactly where as many entries are kept as there is room for. A refusal
+    /// changes nothing. It costs a few look-ups and an insertion into the calendar's heap.
+    pub fn plan(&mut self, tx: TxId, tick: Tick) -> Result<JobId, PlanRefused>
+        requires { tx.0 < length self.old.set.txns }
+        ensures fixed { (self.new.set ≡ self.old.set) × (self.new.journal.room ≡ self.old.journal.room) × (self.new.journal.first ≡ self.old.journal.first) }
+        ensures answer { (story : List Noted) → Stands self.old story → result ≡ plan_answer self.old.set story (length self.old.journal.kept) self.old.journal.room tx.0 tick }
+        ensures turn { (story : List Noted) → Stands self.old story → IsTurn self.old self.new story (planned tx.0 tick) (plan_entry tx tick result) }
+        ensures refused { OnErr result (self.new ≡ self.old) }
+    {
+        turns::plan(&self.set, &mut self.journal, &mut self.tables, tx, tick)
+    }
+
+    /// Plans the transaction's next job for the earliest tick at which it may be planned, and answers that tick too. Only
+    /// TooFar, CalendarFull, NoSerial and Full can come.
+    pub fn plan_next(&mut self, tx: TxId) -> Result<(JobId, Tick), PlanRefused>
+        requires { tx.0 < length self.old.set.txns }
+        ensures fixed { (self.new.set ≡ self.old.set) × (self.new.journal.room ≡ self.old.journal.room) × (self.new.journal.first ≡ self.old.journal.first) }
+        ensures answer { (story : List Noted) → Stands self.old story → result ≡ plan_next_answer self.old.set story (length self.old.journal.kept) self.old.journal.room tx.0 }
+        ensures turn { (story : List Noted) → Stands self.old story → IsTurn self.old self.new story (planned tx.0 (next_tick_for self.old.set (state_of self.old.set story) tx.0)) (plan_next_entry tx result) }
+        ensures refused { OnErr result (self.new ≡ self.old) }
+    {
+        let tick = self.tables.next_for(tx);
+        match self.plan(tx, tick) {
+            Ok(job) => Ok((job, tick)),
+            Err(e) => Err(e),
+        }
+    }
+
+    /// A job asks for an operation. The refusals come in the order of `StepReply`; after one other than Blocked all is as
+    /// before, after Blocked the job waits. A granted operation takes one tick. Whatever comes, no two pending jobs hold
+    /// locks in conflict, ended jobs hold nothing, no jobs wait in a cycle, and the replies are those of the ended jobs
+    /// run alone. It costs a bounded number of look-ups, and no scan of the transactions: a new lock goes over the holders
+    /// of locks, a read or write over what the job has read and written, an end over the items, and the arrival over the
+    /// jobs that are late and the releases of that instant.
+    pub fn step(&mut self, job: JobId, op: Op) -> StepReply
+        requires { job.tx.0 < length self.old.set.txns }
+        ensures fixed { (self.new.set ≡ self.old.set) × (self.new.journal.room ≡ self.old.journal.room) × (self.new.journal.first ≡ self.old.journal.first) }
+        ensures answer { (story : List Noted) → Stands self.old story → result ≡ step_answer self.old.set story (length self.old.journal.kept) self.old.journal.room job op }
+        ensures turn { (story : List Noted) → Stands self.old story → IsTurn self.old self.new story (ask job op) (step_entry (now_of self.old.set story) job op result) }
+        ensures refused { IsRefusal result → self.new ≡ self.old }
+        ensures no_conflict { (story : List Noted) → Stands self.new story → HasNoConflict (state_of self.new.set story) }
+        ensures ended_hold_nothing { (story : List Noted) → Stands self.new story → EndedJobsHoldNothing (state_of self.new.set story) }
+        ensures no_cycle { (story : List Noted) → Stands self.new story → NeverStuck self.new.set (state_of self.new.set story) }
+        ensures serial { (story : List Noted) → Stands self.new story → IsSerial self.new.set story }
+    {
+        turns::step(&self.set, &mut self.journal, &mut self.tables, job, op)
+    }
+
+    /// With nothing pending, the time goes on to the least planned tick, and its releases take place. NotIdle, Nothing and
+    /// Full come in this order and change nothing.
+    pub fn idle(&mut self) -> IdleReply
+        ensures fixed { (self.new.set ≡ self.old.set) × (self.new.journal.room ≡ self.old.journal.room) × (self.new.journal.first ≡ self.old.journal.first) }
+        ensures answer { (story : List Noted) → Stands self.old story → result ≡ idle_answer self.old.set story (length self.old.journal.kept) self.old.journal.room }
+        ensures turn { (story : List Noted) → Stands self.old story → IsTurn self.old self.new story idled (idle_entry (now_of self.old.set story) result) }
+        ensures refused { IsIdleRefusal result → self.new ≡ self.old }
+    {
+        turns::idle(&self.set, &mut self.journal, &mut self.tables)
+    }
+
+    /// Moves the oldest kept entries to the end of `into`, as many as it has places for and no more than `most`, and
+    /// answers how many. It costs one move for each entry that was kept.
+    pub fn drain(&mut self, most: usize, into: &mut Vec<Entry>) -> usize
+        ensures count { result ≡ min most (min (length self.old.journal.kept) (vec_capacity into.old - vec_len into.old)) }
+        ensures moved { into.new.items ≡ into.old.items ++ take result self.old.journal.kept }
+        ensures places { vec_capacity into.new ≡ vec_capacity into.old }
+        ensures left { self.new ≡ record self.old { journal = record self.old.journal { first = self.old.journal.first + result; kept = drop result self.old.journal.kept } } }
+        ensures after { (story : List Noted) → Stands self.old story → Stands self.new story }
+    {
+        self.journal.drain_into(most, into)
+    }
+}

@@ -1,0 +1,10 @@
+//! The core: a board over tables. Each call is the step of the history that the core stands for, and is answered by
+//! look-ups where a plain board scans.
+#![tactic(auto)]
+
+mod board_impl;
+mod calls;
+mod core_board;
+mod turns;
+
+pub use core_board::{Core, TrialCore};

@@ -1,0 +1,151 @@
+//! What a call does to the parts of a core.
+ghost use Rattle.std.specs.Prelude.{◌≡◌, ◌<◌, ℕ, List, length, Some, OnErr};
+ghost use Rattle.rt_base.specs.declared.ids.JobId.{JobId as Job};
+ghost use Rattle.step_journal.specs.declared.entry.Entry.{Entry as Noted};
+ghost use Rattle.step_journal.specs.Step.{plan as planned, ask, idle as idled};
+ghost use Rattle.step_journal.specs.History.{state_of};
+ghost use Rattle.board.specs.Stories.{plan_entry, step_entry, idle_entry, plan_answer, step_answer, idle_answer, now_of};
+ghost use Rattle.core_tables.specs.Legal.{IsGranted, IsBlocked, IsIdle};
+ghost use Rattle.lock_core.specs.Seen.{core_of};
+ghost use Rattle.lock_core.specs.Stands.{Stands, IsCore};
+ghost use Rattle.lock_core.specs.Turns.{IsTurn, IsRefusal, IsIdleRefusal};
+
+use board::{IdleReply, StepReply};
+use core_tables::CoreTables;
+use rt_base::{JobId, Op, PlanRefused, Prio, Tick, TxId};
+use step_journal::{Entry, Journal};
+use txn_set::CompiledSet;
+
+/// Plans a job, or refuses it.
+pub fn plan(
+    set: &CompiledSet,
+    journal: &mut Journal,
+    tables: &mut CoreTables,
+    tx: TxId,
+    tick: Tick,
+) -> Result<JobId, PlanRefused>
+    requires in_set { tx.0 < length set.now.txns }
+    requires core { IsCore (core_of set.now journal.old tables.old) }
+    ensures fixed { (journal.new.room ≡ journal.old.room) × (journal.new.first ≡ journal.old.first) }
+    ensures answer { (story : List Noted) → Stands (core_of set.now journal.old tables.old) story → result ≡ plan_answer set.now story (length journal.old.kept) journal.old.room tx.0 tick }
+    ensures turn { (story : List Noted) → Stands (core_of set.now journal.old tables.old) story → IsTurn (core_of set.now journal.old tables.old) (core_of set.now journal.new tables.new) story (planned tx.0 tick) (plan_entry tx tick result) }
+    ensures refused { OnErr result ((journal.new ≡ journal.old) × (tables.new ≡ tables.old)) }
+{
+    match tables.plan(tx, tick, journal.len(), journal.room()) {
+        Ok(job) => {
+            journal.push(Entry::Planned { tx, tick });
+            Ok(job)
+        }
+        Err(e) => Err(e),
+    }
+}
+
+// A granted operation: its effect, and the arrival at the next tick.
+fn go(
+    set: &CompiledSet,
+    journal: &mut Journal,
+    tables: &mut CoreTables,
+    job: JobId,
+    op: Op,
+) -> StepReply
+    requires core { IsCore (core_of set.now journal.old tables.old) }
+    requires granted { (story : List Noted) → Stands (core_of set.now journal.old tables.old) story → IsGranted set.now (state_of set.now story) job op }
+    requires roomy { length journal.old.kept < journal.old.room }
+    ensures fixed { (journal.new.room ≡ journal.old.room) × (journal.new.first ≡ journal.old.first) }
+    ensures answer { (story : List Noted) → Stands (core_of set.now journal.old tables.old) story → result ≡ step_answer set.now story (length journal.old.kept) journal.old.room job op }
+    ensures turn { (story : List Noted) → Stands (core_of set.now journal.old tables.old) story → IsTurn (core_of set.now journal.old tables.old) (core_of set.now journal.new tables.new) story (ask job op) (step_entry (now_of set.now story) job op result) }
+    ensures refused { IsRefusal result → (journal.new ≡ journal.old) × (tables.new ≡ tables.old) }
+{
+    let tick = tables.now();
+    let (outcome, over) = tables.go(set, job, op);
+    journal.push(Entry::Step {
+        job,
+        op,
+        outcome,
+        over,
+        tick,
+    });
+    StepReply::Done { outcome, over }
+}
+
+// A refused operation: the job waits.
+fn block(
+    set: &CompiledSet,
+    journal: &mut Journal,
+    tables: &mut CoreTables,
+    job: JobId,
+    op: Op,
+    by: JobId,
+    ceiling: Prio,
+) -> StepReply
+    requires core { IsCore (core_of set.now journal.old tables.old) }
+    requires blocked { (story : List Noted) → Stands (core_of set.now journal.old tables.old) story → IsBlocked set.now (state_of set.now story) job op by ceiling }
+    requires answer { (story : List Noted) → Stands (core_of set.now journal.old tables.old) story → step_answer set.now story (length journal.old.kept) journal.old.room job op ≡ StepReply.Blocked by ceiling }
+    requires roomy { length journal.old.kept < journal.old.room }
+    ensures fixed { (journal.new.room ≡ journal.old.room) × (journal.new.first ≡ journal.old.first) }
+    ensures answer { (story : List Noted) → Stands (core_of set.now journal.old tables.old) story → result ≡ step_answer set.now story (length journal.old.kept) journal.old.room job op }
+    ensures turn { (story : List Noted) → Stands (core_of set.now journal.old tables.old) story → IsTurn (core_of set.now journal.old tables.old) (core_of set.now journal.new tables.new) story (ask job op) (step_entry (now_of set.now story) job op result) }
+    ensures refused { IsRefusal result → (journal.new ≡ journal.old) × (tables.new ≡ tables.old) }
+{
+    let tick = tables.now();
+    tables.wait(job, by);
+    journal.push(Entry::Blocked {
+        job,
+        op,
+        by,
+        ceiling,
+        tick,
+    });
+    StepReply::Blocked { by, ceiling }
+}
+
+/// A job asks for an operation.
+pub fn step(
+    set: &CompiledSet,
+    journal: &mut Journal,
+    tables: &mut CoreTables,
+    job: JobId,
+    op: Op,
+) -> StepReply
+    requires in_set { job.tx.0 < length set.now.txns }
+    requires core { IsCore (core_of set.now journal.old tables.old) }
+    ensures fixed { (journal.new.room ≡ journal.old.room) × (journal.new.first ≡ journal.old.first) }
+    ensures answer { (story : List Noted) → Stands (core_of set.now journal.old tables.old) story → result ≡ step_answer set.now story (length journal.old.kept) journal.old.room job op }
+    ensures turn { (story : List Noted) → Stands (core_of set.now journal.old tables.old) story → IsTurn (core_of set.now journal.old tables.old) (core_of set.now journal.new tables.new) story (ask job op) (step_entry (now_of set.now story) job op result) }
+    ensures refused { IsRefusal result → (journal.new ≡ journal.old) × (tables.new ≡ tables.old) }
+{
+    match tables.refusal(set, job, op, journal.len(), journal.room()) {
+        None => go(set, journal, tables, job, op),
+        Some(StepReply::Blocked { by, ceiling }) => {
+            block(set, journal, tables, job, op, by, ceiling)
+        }
+        Some(StepReply::NoJob { ended, last }) => StepReply::NoJob { ended, last },
+        Some(StepReply::NotYet { running }) => StepReply::NotYet { running },
+        Some(StepReply::Undeclared { item }) => StepReply::Undeclared { item },
+        Some(StepReply::TooEarly { left }) => StepReply::TooEarly { left },
+        Some(StepReply::Unwritten { item }) => StepReply::Unwritten { item },
+        Some(StepReply::Full { room }) => StepReply::Full { room },
+        Some(StepReply::Done { .. }) => unreachable!(),
+    }
+}
+
+/// With nothing pending, the time goes on to the least planned tick.
+pub fn idle(set: &CompiledSet, journal: &mut Journal, tables: &mut CoreTables) -> IdleReply
+    requires core { IsCore (core_of set.now journal.old tables.old) }
+    ensures fixed { (journal.new.room ≡ journal.old.room) × (journal.new.first ≡ journal.old.first) }
+    ensures answer { (story : List Noted) → Stands (core_of set.now journal.old tables.old) story → result ≡ idle_answer set.now story (length journal.old.kept) journal.old.room }
+    ensures turn { (story : List Noted) → Stands (core_of set.now journal.old tables.old) story → IsTurn (core_of set.now journal.old tables.old) (core_of set.now journal.new tables.new) story idled (idle_entry (now_of set.now story) result) }
+    ensures refused { IsIdleRefusal result → (journal.new ≡ journal.old) × (tables.new ≡ tables.old) }
+{
+    match tables.idle_check(journal.len(), journal.room()) {
+        IdleReply::Advanced { to } => {
+            let from = tables.now();
+            tables.go_on(to);
+            journal.push(Entry::Idle { from, to });
+            IdleReply::Advanced { to }
+        }
+        IdleReply::NotIdle { running } => IdleReply::NotIdle { running },
+        IdleReply::Nothing => IdleReply::Nothing,
+        IdleReply::Full { room } => IdleReply::Full { room },
+    }
+}
