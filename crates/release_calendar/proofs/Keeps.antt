@@ -14,7 +14,7 @@ use Rattle.std.specs.VecDeque.{deque_items, deque_capacity}
 use Rattle.std.specs.declared.collections.VecDeque.{VecDeque}
 use Rattle.std.specs.declared.cmp.Reverse.{Reverse}
 use Rattle.release_calendar.specs.declared.planned.Planned.{Planned}
-use Rattle.release_calendar.specs.Queues.{queue_of, queued, head, head_alone, heads, heads_of, one_if, planned_cmp, IsQueue, AreLines}
+use Rattle.release_calendar.specs.Queues.{queue_of, queued, head, head_alone, heads, heads_of, one_if, planned_cmp, IsQueue, AreQueues}
 use Rattle.release_calendar.proofs.Moves.{beside}
 use Rattle.release_calendar.proofs.Splits.{all_flat, queued_put, queued_take, heads_with, heads_split, heads_same, heads_below}
 
@@ -74,8 +74,8 @@ put_heads queues heap heap' tx p (r ∷ rest) lt e old new =
     let same : heads (set queues tx (r ∷ (rest ++ p ∷ []))) ≡ heads queues = heads_same queues tx (r ∷ (rest ++ p ∷ [])) (ap head (sym e)) in
     subst (λ (xs : List (Reverse Planned)). IsPermutation xs heap') (sym same) (IsPermutation-trans (heads queues) heap heap' old new)
 
-pub put_keeps : (queues : List (List Planned)) (heap heap' : List (Reverse Planned)) (waiting capacity capacity' : ℕ) (p : Planned) → AreLines queues heap waiting capacity → p.tx < length queues → All (λ r. r.tick ≤ p.tick) (queue_of queues p.tx) → IsPermutation (head_alone (queue_of queues p.tx) p ++ heap) heap' → IsHeap planned_cmp heap' → capacity ≤ capacity'
-    → AreLines (set queues p.tx (queue_of queues p.tx ++ p ∷ [])) heap' (waiting + 1) capacity'
+pub put_keeps : (queues : List (List Planned)) (heap heap' : List (Reverse Planned)) (waiting capacity capacity' : ℕ) (p : Planned) → AreQueues queues heap waiting capacity → p.tx < length queues → All (λ r. r.tick ≤ p.tick) (queue_of queues p.tx) → IsPermutation (head_alone (queue_of queues p.tx) p ++ heap) heap' → IsHeap planned_cmp heap' → capacity ≤ capacity'
+    → AreQueues (set queues p.tx (queue_of queues p.tx ++ p ∷ [])) heap' (waiting + 1) capacity'
 put_keeps queues heap heap' waiting capacity capacity' p are lt below moved order more = record {
   each = each_set queues p.tx (queue_of queues p.tx ++ p ∷ []) lt are.each (queue_more p.tx (queue_of queues p.tx) p (are.each p.tx) refl below);
   order = order;
@@ -85,7 +85,7 @@ put_keeps queues heap heap' waiting capacity capacity' p are lt below moved orde
 }
 
 -- there is a place for one more head
-pub place_left : (queues : List (List Planned)) (heap : List (Reverse Planned)) (waiting capacity tx : ℕ) → AreLines queues heap waiting capacity → tx < length queues → queue_of queues tx ≡ [] → length heap < capacity
+pub place_left : (queues : List (List Planned)) (heap : List (Reverse Planned)) (waiting capacity tx : ℕ) → AreQueues queues heap waiting capacity → tx < length queues → queue_of queues tx ≡ [] → length heap < capacity
 place_left queues heap waiting capacity tx are lt e = omega (arith, heads_below queues tx lt e, length_permutation (heads queues) heap are.heads, are.places)
 
 -- ---- a release less
@@ -145,8 +145,8 @@ take_heads : (queues : List (List Planned)) (tx : ℕ) (q : List Planned) → tx
 take_heads queues tx [] lt = IsPermutation-refl (heads (set queues tx []))
 take_heads queues tx (p ∷ rest) lt = heads_with queues tx p rest lt
 
-take_keeps : (queues : List (List Planned)) (heap heap' : List (Reverse Planned)) (waiting capacity capacity' tx index : ℕ) (p : Planned) → AreLines queues heap waiting capacity → tx < length queues → index < length (queue_of queues tx) → p ≡ get_or (queue_of queues tx) index p
-    → IsPermutation (heads (set queues tx (remove (queue_of queues tx) index))) heap' → IsHeap planned_cmp heap' → capacity ≤ capacity' → AreLines (set queues tx (remove (queue_of queues tx) index)) heap' (waiting - 1) capacity'
+take_keeps : (queues : List (List Planned)) (heap heap' : List (Reverse Planned)) (waiting capacity capacity' tx index : ℕ) (p : Planned) → AreQueues queues heap waiting capacity → tx < length queues → index < length (queue_of queues tx) → p ≡ get_or (queue_of queues tx) index p
+    → IsPermutation (heads (set queues tx (remove (queue_of queues tx) index))) heap' → IsHeap planned_cmp heap' → capacity ≤ capacity' → AreQueues (set queues tx (remove (queue_of queues tx) index)) heap' (waiting - 1) capacity'
 take_keeps queues heap heap' waiting capacity capacity' tx index p are lt in' e moved order more = record {
   each = each_set queues tx (remove (queue_of queues tx) index) lt are.each (queue_less tx (queue_of queues tx) index in' (are.each tx));
   order = order;
@@ -156,8 +156,8 @@ take_keeps queues heap heap' waiting capacity capacity' tx index p are lt in' e 
 }
 
 -- where the head of a queue leaves
-pub head_keeps : (queues : List (List Planned)) (heap heap' : List (Reverse Planned)) (waiting capacity capacity' tx : ℕ) (p : Planned) → AreLines queues heap waiting capacity → tx < length queues → 0 < length (queue_of queues tx) → p ≡ get_or (queue_of queues tx) 0 p
-    → ((rest : List (Reverse Planned)) → IsPermutation (record { 0 = p } ∷ rest) heap → IsPermutation (head (remove (queue_of queues tx) 0) ++ rest) heap') → IsHeap planned_cmp heap' → capacity ≤ capacity' → AreLines (set queues tx (remove (queue_of queues tx) 0)) heap' (waiting - 1) capacity'
+pub head_keeps : (queues : List (List Planned)) (heap heap' : List (Reverse Planned)) (waiting capacity capacity' tx : ℕ) (p : Planned) → AreQueues queues heap waiting capacity → tx < length queues → 0 < length (queue_of queues tx) → p ≡ get_or (queue_of queues tx) 0 p
+    → ((rest : List (Reverse Planned)) → IsPermutation (record { 0 = p } ∷ rest) heap → IsPermutation (head (remove (queue_of queues tx) 0) ++ rest) heap') → IsHeap planned_cmp heap' → capacity ≤ capacity' → AreQueues (set queues tx (remove (queue_of queues tx) 0)) heap' (waiting - 1) capacity'
 head_keeps queues heap heap' waiting capacity capacity' tx p are lt some e moved order more =
     let apart : IsPermutation (heads queues) (record { 0 = p } ∷ others queues tx) = heads_apart queues tx p lt some e in
     let old : IsPermutation (record { 0 = p } ∷ others queues tx) heap = IsPermutation-trans (record { 0 = p } ∷ others queues tx) (heads queues) heap (IsPermutation-sym (heads queues) (record { 0 = p } ∷ others queues tx) apart) are.heads in
@@ -171,8 +171,8 @@ later_head (p ∷ rest) zero some lt = absurd (omega arith)
 later_head (p ∷ rest) (suc index) some lt = refl
 
 -- where a release behind the head leaves
-pub later_keeps : (queues : List (List Planned)) (heap : List (Reverse Planned)) (waiting capacity tx index : ℕ) (p : Planned) → AreLines queues heap waiting capacity → tx < length queues → 0 < index → index < length (queue_of queues tx) → p ≡ get_or (queue_of queues tx) index p
-    → AreLines (set queues tx (remove (queue_of queues tx) index)) heap (waiting - 1) capacity
+pub later_keeps : (queues : List (List Planned)) (heap : List (Reverse Planned)) (waiting capacity tx index : ℕ) (p : Planned) → AreQueues queues heap waiting capacity → tx < length queues → 0 < index → index < length (queue_of queues tx) → p ≡ get_or (queue_of queues tx) index p
+    → AreQueues (set queues tx (remove (queue_of queues tx) index)) heap (waiting - 1) capacity
 later_keeps queues heap waiting capacity tx index p are lt some in' e =
     take_keeps queues heap heap waiting capacity capacity tx index p are lt in' e
     (subst (λ (xs : List (Reverse Planned)). IsPermutation xs heap) (sym (heads_same queues tx (remove (queue_of queues tx) index) (later_head (queue_of queues tx) index some in'))) are.heads)
@@ -231,7 +231,7 @@ empty_at zero tx = refl
 empty_at (suc n) zero = refl
 empty_at (suc n) (suc tx) = empty_at n tx
 
-pub new_keeps : (queues : List (List Planned)) (heap : List (Reverse Planned)) (n capacity : ℕ) → queues ≡ replicate n [] → heap ≡ [] → IsHeap planned_cmp heap → capacity ≡ n → AreLines queues heap 0 capacity
+pub new_keeps : (queues : List (List Planned)) (heap : List (Reverse Planned)) (n capacity : ℕ) → queues ≡ replicate n [] → heap ≡ [] → IsHeap planned_cmp heap → capacity ≡ n → AreQueues queues heap 0 capacity
 new_keeps queues heap n capacity e none order c = record {
   each = λ tx. subst (λ (q : List Planned). IsQueue tx q) (sym (ap (λ (qs : List (List Planned)). get_or qs tx []) e ∙ empty_at n tx)) (record { own = All-nil (λ (p : Planned). p.tx ≡ tx); rising = λ i j d le lt. absurd (omega arith) });
   order = order;
@@ -243,32 +243,32 @@ new_keeps queues heap n capacity e none order c = record {
 -- ---- the queue behind a place
 
 -- what each holds
-abbrev pub lines : List (VecDeque Planned Global) → List (List Planned)
-lines vs = map deque_items vs
+abbrev pub contents : List (VecDeque Planned Global) → List (List Planned)
+contents vs = map deque_items vs
 
-pub queue_at : (vs : List (VecDeque Planned Global)) (tx : ℕ) (d v : VecDeque Planned Global) → tx < length vs → v ≡ get_or vs tx d → queue_of (lines vs) tx ≡ v.items
+pub queue_at : (vs : List (VecDeque Planned Global)) (tx : ℕ) (d v : VecDeque Planned Global) → tx < length vs → v ≡ get_or vs tx d → queue_of (contents vs) tx ≡ v.items
 queue_at [] tx d v lt e = absurd (omega arith)
 queue_at (w ∷ vs) zero d v lt e = ap deque_items (sym e)
 queue_at (w ∷ vs) (suc tx) d v lt e = queue_at vs tx d v (omega arith) e
 
 -- one of them changes, by a function of what it held
-pub lines_set : (vs : List (VecDeque Planned Global)) (tx : ℕ) (v v' : VecDeque Planned Global) (f : List Planned → List Planned) → tx < length vs → v ≡ get_or vs tx v → v'.items ≡ f v.items → lines (set vs tx v') ≡ set (lines vs) tx (f (queue_of (lines vs) tx))
-lines_set vs tx v v' f lt e is = map-set deque_items vs tx v' ∙ ap (λ (q : List Planned). set (lines vs) tx q) (is ∙ ap f (sym (queue_at vs tx v v lt e)))
+pub contents_set : (vs : List (VecDeque Planned Global)) (tx : ℕ) (v v' : VecDeque Planned Global) (f : List Planned → List Planned) → tx < length vs → v ≡ get_or vs tx v → v'.items ≡ f v.items → contents (set vs tx v') ≡ set (contents vs) tx (f (queue_of (contents vs) tx))
+contents_set vs tx v v' f lt e is = map-set deque_items vs tx v' ∙ ap (λ (q : List Planned). set (contents vs) tx q) (is ∙ ap f (sym (queue_at vs tx v v lt e)))
 
 -- a release came out of one of them
 pub record Took (vs : List (VecDeque Planned Global)) (tx index : ℕ) (v' : VecDeque Planned Global) (p : Planned) (room : ℕ) : Type 0 where
-  pub known : tx < length (lines vs)
-  pub within : index < length (queue_of (lines vs) tx)
-  pub at : p ≡ get_or (queue_of (lines vs) tx) index p
-  pub left : v'.items ≡ remove (queue_of (lines vs) tx) index
-  pub now : lines (set vs tx v') ≡ set (lines vs) tx (remove (queue_of (lines vs) tx) index)
+  pub known : tx < length (contents vs)
+  pub within : index < length (queue_of (contents vs) tx)
+  pub at : p ≡ get_or (queue_of (contents vs) tx) index p
+  pub left : v'.items ≡ remove (queue_of (contents vs) tx) index
+  pub now : contents (set vs tx v') ≡ set (contents vs) tx (remove (queue_of (contents vs) tx) index)
   pub rooms : All (λ q. room ≤ deque_capacity q) (set vs tx v')
 
-pub took : (vs : List (VecDeque Planned Global)) (tx index : ℕ) (v v' : VecDeque Planned Global) (p : Planned) (r : Option Planned) (room : ℕ) → tx < length (lines vs) → index < length (queue_of (lines vs) tx) → v ≡ get_or vs tx v → ((d : Planned) → index < v.len → r ≡ Some (get_or v.items index d)) → r ≡ Some p → OnSome r (v'.items ≡ remove v.items index)
+pub took : (vs : List (VecDeque Planned Global)) (tx index : ℕ) (v v' : VecDeque Planned Global) (p : Planned) (r : Option Planned) (room : ℕ) → tx < length (contents vs) → index < length (queue_of (contents vs) tx) → v ≡ get_or vs tx v → ((d : Planned) → index < v.len → r ≡ Some (get_or v.items index d)) → r ≡ Some p → OnSome r (v'.items ≡ remove v.items index)
     → deque_capacity v' ≡ deque_capacity v → All (λ q. room ≤ deque_capacity q) vs → Took vs tx index v' p room
 took vs tx index v v' p r room known within e got is items same rooms =
     let lt : tx < length vs = omega (arith, known, length-map vs deque_items) in
-    let here : queue_of (lines vs) tx ≡ v.items = queue_at vs tx v v lt e in
+    let here : queue_of (contents vs) tx ≡ v.items = queue_at vs tx v v lt e in
     let some : r ≡ Some (get_or v.items index p) = got p (omega (arith, within, ap length here, v.ok)) in
     let at : p ≡ get_or v.items index p = cc in
     let fits : room ≤ deque_capacity v = subst (λ q. room ≤ deque_capacity q) (sym e) (rooms tx v lt) in
@@ -277,7 +277,7 @@ took vs tx index v v' p r room known within e got is items same rooms =
       within = within;
       at = at ∙ ap (λ (q : List Planned). get_or q index p) (sym here);
       left = subst (λ (o : Option Planned). OnSome o (v'.items ≡ remove v.items index)) is items ∙ ap (λ (q : List Planned). remove q index) (sym here);
-      now = lines_set vs tx v v' (λ q. remove q index) lt e (subst (λ (o : Option Planned). OnSome o (v'.items ≡ remove v.items index)) is items);
+      now = contents_set vs tx v v' (λ q. remove q index) lt e (subst (λ (o : Option Planned). OnSome o (v'.items ≡ remove v.items index)) is items);
       rooms = All-set (λ q. room ≤ deque_capacity q) vs tx v' (omega (arith, fits, same)) rooms;
     }
 

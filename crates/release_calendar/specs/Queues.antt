@@ -11,7 +11,7 @@ use Rattle.release_calendar.specs.declared.planned.Planned.{Planned}
 use Rattle.release_calendar.specs.Agenda.{Agenda, job_of, plans_of, ArePeriods}
 
 -- by transaction its planned releases, the next of them first, and for how many there is room in all
-pub record Lines : Type 0 where
+pub record QueueFacts : Type 0 where
   pub queues : List (List Planned)
   pub room : ℕ
 
@@ -52,7 +52,7 @@ pub record IsQueue (tx : ℕ) (queue : List Planned) : Type 0 where
   pub rising : IsNonDecreasingBy (λ p. p.tick) queue
 
 -- what is kept of the queues: the heap has the head of each, and there are places for all
-pub record AreLines (queues : List (List Planned)) (heap : List (Reverse Planned)) (waiting capacity : ℕ) : Type 0 where
+pub record AreQueues (queues : List (List Planned)) (heap : List (Reverse Planned)) (waiting capacity : ℕ) : Type 0 where
   pub each : (tx : ℕ) → IsQueue tx (queue_of queues tx)
   pub order : IsHeap planned_cmp heap
   pub heads : IsPermutation (heads queues) heap

@@ -40,13 +40,13 @@ impl Model for Queues {
     ghost use Rattle.std.specs.BinaryHeap.{heap_items, heap_capacity};
     ghost use Rattle.std.specs.VecDeque.{deque_items, deque_capacity};
     ghost use Rattle.std.specs.List.{All};
-    ghost use Rattle.release_calendar.specs.Queues.{Lines, AreLines};
+    ghost use Rattle.release_calendar.specs.Queues.{QueueFacts, AreQueues};
 
-    ghost Value = { Lines };
+    ghost Value = { QueueFacts };
 
     ghost view = { λ c. record { queues = map deque_items c.queues.items; room = c.room } };
 
-    ghost invariant = { λ c. AreLines (map deque_items c.queues.items) (heap_items c.heads) c.waiting (heap_capacity c.heads) × All (λ q. c.room ≤ deque_capacity q) c.queues.items };
+    ghost invariant = { λ c. AreQueues (map deque_items c.queues.items) (heap_items c.heads) c.waiting (heap_capacity c.heads) × All (λ q. c.room ≤ deque_capacity q) c.queues.items };
 }
 
 impl Queues {
