@@ -3,11 +3,11 @@ ghost use Rattle.std.specs.Prelude.{◌≡◌, ◌≤◌, ◌+◌, ◌<◌, ◌^
 ghost use Rattle.step_journal.specs.declared.entry.Entry.{Entry as Noted};
 ghost use Rattle.board.specs.Stories.{noted, plan_entry, plan_next_entry, step_entry, idle_entry, plan_answer, plan_next_answer, step_answer, idle_answer, now_of};
 ghost use Rattle.set_admission.specs.Laws.{KeepsBounds};
-ghost use Rattle.plain_core.specs.Stands.{Stands};
+ghost use Rattle.lock_core.specs.Stands.{Stands};
 
 use board::{Board, IdleReply, StepReply};
 use item_model::Items;
-use plain_core::PlainCore;
+use lock_core::Core;
 use rt_base::{ItemId, JobId, Op, OutOfMemory, PlanRefused, Tick, TxId, Value};
 use set_admission::AdmittedSet;
 use std::alloc::Global;
@@ -209,9 +209,9 @@ impl<B: Board> Board for AdmittedBoard<B> {
 }
 
 /// The core over an admitted set: no job of it is late.
-pub type AdmittedCore = AdmittedBoard<PlainCore>;
+pub type AdmittedCore = AdmittedBoard<Core>;
 
-impl AdmittedBoard<PlainCore> {
+impl AdmittedBoard<Core> {
     /// A core over an admitted set at the opening state, with room for so many entries. After want of memory the set is
     /// handed back. No later call takes memory.
     pub fn new(
@@ -226,7 +226,7 @@ impl AdmittedBoard<PlainCore> {
         let Ok(copy) = set.set().copy(alloc) else {
             return Err((set, OutOfMemory));
         };
-        match PlainCore::new(alloc, copy, room) {
+        match Core::new(alloc, copy, room) {
             Ok(board) => Ok(AdmittedBoard::of(board, set)),
             Err((_, e)) => Err((set, e)),
         }

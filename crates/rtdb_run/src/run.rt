@@ -18,7 +18,7 @@ use crate::ticks::{all_fixed, any_eager};
 use admitted_core::AdmittedCore;
 use board::Board;
 use item_model::Items;
-use plain_core::PlainCore;
+use lock_core::Core;
 use rt_base::{List, Names, OutOfMemory, Tick};
 use scenario::{Releases, Scenario};
 use set_admission::AdmittedSet;
@@ -94,7 +94,7 @@ fn trial_text(
     requires room { room_of_jobs set.txns (λ tx. length (ticks_at bodies.ticks.items tx)) ≤ room }
     ensures { IfOk result (λ text. IsTextBy names.now (workload set (map next_of (map program_of bodies.scripts.items)) bodies.ticks.items) text.items) }
 {
-    let Ok(board) = PlainCore::new(alloc, set, room) else {
+    let Ok(board) = Core::new(alloc, set, room) else {
         return Err(OutOfMemory);
     };
     let items = left_on(board, bodies);
