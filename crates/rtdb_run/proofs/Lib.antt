@@ -1,3 +1,4 @@
 pub mod Lines
 pub mod Guarantees
 pub mod Compiles
+pub mod FixedTicks

@@ -15,7 +15,7 @@ use Rattle.scenario_reader.specs.Reading.{data_of, scenario_in}
 use Rattle.scenario_writer.specs.Canonical.{canonical}
 use Rattle.scenario_writer.specs.Generated.{generated_of}
 use Rattle.report_lines.specs.Texts.{ceilings_of}
-use Rattle.run_report.specs.Limits.{admitted_of}
+use Rattle.run_report.specs.Bounds.{admitted_of}
 use Rattle.refusal_lines.specs.Causes.{scenario_cause, compile_cause, admit_cause}
 use Rattle.rtdb_run.specs.declared.command.Command.{Command}
 use Rattle.rtdb_run.specs.declared.command.Command.TheVariants.{Ask, Gen}
@@ -83,7 +83,7 @@ Reading goes names (Ok s) status text = goes s status text
 Reading goes names (Err e) status text = Refused (scenario_cause names e) status text
 
 abbrev pub DataReply : (Shown → Reply) → Option Data → Reply
-DataReply goes data = Reading goes (names_in data) (scenario_in data)
+DataReply goes d = Reading goes (names_in d) (scenario_in d)
 
 -- an input above the limit is refused unread
 abbrev pub InputReply : (Shown → Reply) → Bool → List ℕ → Reply

@@ -1,0 +1,35 @@
+-- The fixed ticks of transactions, one after another.
+use Rattle.std.proofs.Common.{◌≡◌, ℕ, zero, suc, ◌+◌, ◌<◌, ◌≤◌, List, [], ◌∷◌, ◌++◌, length, get_or, drop, refl, sym, ap, ◌∙◌, arith, add-one, drop-cons, append_assoc, append-nil, length-drop}
+use Rattle.txn_set.specs.declared.decl.TxnDecl.{TxnDecl}
+use Rattle.scenario.specs.declared.releases.Releases.{Releases}
+use Rattle.scenario.specs.Releases.{jobs_of, ticks_of, total_jobs, fixed_ticks}
+
+-- no transaction has more jobs than all
+pub jobs_below : (rs : List Releases) (n : ℕ) (d : Releases) → n < length rs → jobs_of (get_or rs n d) ≤ total_jobs rs
+jobs_below [] n d lt = absurd (omega (arith, lt))
+jobs_below (r ∷ rs) zero d lt = omega arith
+jobs_below (r ∷ rs) (suc n) d lt = omega (arith, jobs_below rs n d (omega (arith, lt)))
+
+step : (ts : List TxnDecl) (rs : List Releases) (i : ℕ) (t : TxnDecl) (r : Releases) → i < length ts → i < length rs
+    → fixed_ticks (drop i ts) (drop i rs) ≡ ticks_of (get_or ts i t) (get_or rs i r) ∷ fixed_ticks (drop (i + 1) ts) (drop (i + 1) rs)
+step ts rs i t r p q = rw (add-one, drop-cons ts i t, drop-cons rs i r) refl
+
+-- one list more
+pub next_ticks : (before out out' : List (List ℕ)) (ts : List TxnDecl) (rs : List Releases) (i : ℕ) (t : TxnDecl) (r : Releases) → i < length ts → i < length rs
+    → out' ≡ out ++ ticks_of (get_or ts i t) (get_or rs i r) ∷ [] → out ++ fixed_ticks (drop i ts) (drop i rs) ≡ before
+    → out' ++ fixed_ticks (drop (i + 1) ts) (drop (i + 1) rs) ≡ before
+next_ticks before out out' ts rs i t r p q new so_far =
+    ap (λ (o : List (List ℕ)). o ++ fixed_ticks (drop (i + 1) ts) (drop (i + 1) rs)) new
+    ∙ append_assoc out (ticks_of (get_or ts i t) (get_or rs i r) ∷ []) (fixed_ticks (drop (i + 1) ts) (drop (i + 1) rs))
+    ∙ ap (λ (l : List (List ℕ)). out ++ l) (sym (step ts rs i t r p q))
+    ∙ so_far
+
+none_left : (ts : List TxnDecl) (rs : List Releases) → length ts ≤ 0 → fixed_ticks ts rs ≡ []
+none_left [] rs h = refl
+none_left (t ∷ ts) rs h = absurd (omega (arith, h))
+
+-- no list is left
+pub all_ticks : (before out : List (List ℕ)) (ts : List TxnDecl) (rs : List Releases) (i : ℕ) → length ts ≤ i → out ++ fixed_ticks (drop i ts) (drop i rs) ≡ before → out ≡ before
+all_ticks before out ts rs i h so_far =
+    let none : fixed_ticks (drop i ts) (drop i rs) ≡ [] = none_left (drop i ts) (drop i rs) (omega (arith, h, length-drop {A = TxnDecl} i ts)) in
+    sym (append-nil out) ∙ ap (λ (l : List (List ℕ)). out ++ l) (sym none) ∙ so_far
