@@ -84,8 +84,8 @@ bad_release s = refused_from 0 s.txns s.releases
 
 -- The room: more entries than a run has.
 
--- the entries that so many jobs of a transaction of so many steps may have: for each its plan, its steps, one refusal, and one
--- idling that ends at its release
+-- the entries that so many jobs of a transaction of so many steps may have: for each its plan, its steps, one refusal,
+-- and one idling that ends at its release
 abbrev pub entries_of : ℕ → ℕ → ℕ
 entries_of jobs steps = jobs + jobs * (steps + 2)
 
@@ -97,8 +97,8 @@ entries_in (t ∷ ts) (r ∷ rs) = entries_of (jobs_of r) t.steps + entries_in t
 abbrev pub room_of : Shown → ℕ
 room_of s = entries_in s.txns s.releases + 2
 
--- The tick by which eager jobs could be planned one period after another, after the last fixed release, where the greatest
--- period of all transactions counts for each.
+-- The tick by which eager jobs could be planned one period after another, after the last fixed release, where the
+-- greatest period of all transactions counts for each.
 abbrev pub eager_end : Shown → ℕ
 eager_end s =
     greatest (map greatest (fixed_ticks s.txns s.releases))

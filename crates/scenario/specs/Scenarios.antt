@@ -38,9 +38,9 @@ pub record IsProgramOver (items : ℕ) (p : Program) : Type 0 where
   pub good : list_all (is_good items) p.ops ≡ true
   pub computes : All IsTextOp p.ops
 
--- A scenario with one name for each item, and one name, script and releases for each transaction; its lists of items stand in
--- item order without repeats; its numbers are within the ranges of a text; and nothing of it is refused: its scripts ask for what
--- is declared, its jobs are few enough and can all be planned, and its room is that of a run.
+-- A scenario with one name for each item, and one name, script and releases for each transaction; its lists of items
+-- stand in item order without repeats; its numbers are within the ranges of a text; and nothing of it is refused: its
+-- scripts ask for what is declared, its jobs are few enough and can all be planned, and its room is that of a run.
 pub record IsScenario (s : Shown) : Type 0 where
   pub item_names : AreNames s.names.items
   pub txn_names : AreNames s.names.txns

@@ -34,9 +34,9 @@ is_write_of item quit = false
 abbrev pub writes_all : List ItemDecl → TxnDecl → List Operation → Bool
 writes_all decls t before = list_all (λ i. not (is_dated decls i.0) || list_any (is_write_of i.0) before) t.writes
 
--- Whether a transaction may ask for an operation after these: a read or write of an item that is declared for it, after its
--- quiet steps, and a commit that leaves no item unwritten. The value of a write may name any item by `last`: of one that the
--- job has not read it is 0.
+-- Whether a transaction may ask for an operation after these: a read or write of an item that is declared for it, after
+-- its quiet steps, and a commit that leaves no item unwritten. The value of a write may name any item by `last`: of one
+-- that the job has not read it is 0.
 abbrev pub may_ask : List ItemDecl → TxnDecl → List Operation → Operation → Bool
 may_ask decls t before (read i) = may_read t i.0 && nat_le t.quiet (steps_of before)
 may_ask decls t before (write i value) = may_write t i.0 && nat_le t.quiet (steps_of before)

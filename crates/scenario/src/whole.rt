@@ -42,7 +42,8 @@ impl Scenario {
         requires in_range { tx.0 < length self.now.txns }
         requires fixed { IsTrue (is_eager (releases_of self.now.releases tx.0)) → ⊥ }
         requires index { index < jobs_of (releases_of self.now.releases tx.0) }
-        ensures { result ≡ release_at (txn_of (set_of (shown self.now)) tx.0) (releases_of self.now.releases tx.0) index }
+        ensures { result ≡
+            release_at (txn_of (set_of (shown self.now)) tx.0) (releases_of self.now.releases tx.0) index }
     {
         let txn = &self.txns.as_slice()[tx.0 as usize];
         self.releases.as_slice()[tx.0 as usize].tick(txn, index)

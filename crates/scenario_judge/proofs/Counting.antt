@@ -52,7 +52,8 @@ refused_at index earliest period tick rest cause true far is = ap (λ (p : PlanR
 refused_at index earliest period tick rest cause false true is = ap (λ (p : PlanRefused). Some (index, p)) cc
 refused_at index earliest period tick rest cause false false is = absurd cc
 
-pub stops_at : (index earliest period tick : ℕ) (rest : List ℕ) (cause : PlanRefused) → Some cause ≡ tick_refusal earliest tick
+pub stops_at : (index earliest period tick : ℕ) (rest : List ℕ) (cause : PlanRefused)
+    → Some cause ≡ tick_refusal earliest tick
     → Some (index, cause) ≡ refused_tick index earliest period (tick ∷ rest)
 stops_at index earliest period tick rest cause is =
     refused_at index earliest period tick rest cause (ltb tick earliest) (ltb (2 ^ 40) tick) (sym is)
@@ -127,11 +128,13 @@ eager_more rs i r lt is =
 
 pub entries_more : (ts : List TxnDecl) (rs : List Releases) (i : ℕ) (t : TxnDecl) (r : Releases) → i < length ts
     → i < length rs → t ≡ get_or ts i t → r ≡ get_or rs i r
-    → entries_in (drop i ts) (drop i rs) ≡ entries_of (jobs_of r) t.steps + entries_in (drop (i + 1) ts) (drop (i + 1) rs)
+    → entries_in (drop i ts) (drop i rs)
+    ≡ entries_of (jobs_of r) t.steps + entries_in (drop (i + 1) ts) (drop (i + 1) rs)
 entries_more ts rs i t r lt also is is_r =
     ap (λ (xs : List TxnDecl). entries_in xs (drop i rs))
     (drop_more ts i t lt ∙ ap (λ (x : TxnDecl). x ∷ drop (i + 1) ts) (sym is))
-    ∙ ap (entries_in (t ∷ drop (i + 1) ts)) (drop_more rs i r also ∙ ap (λ (x : Releases). x ∷ drop (i + 1) rs) (sym is_r))
+    ∙ ap (entries_in (t ∷ drop (i + 1) ts))
+    (drop_more rs i r also ∙ ap (λ (x : Releases). x ∷ drop (i + 1) rs) (sym is_r))
 
 pub product_below : (n period : ℕ) → n ≤ 65536 → period ≤ 2 ^ 40 → n * period ≤ 65536 * 2 ^ 40
 product_below n period few le = omega (arith, mul-le-mul_left n le)

@@ -40,7 +40,8 @@ front_at ops place op lt is =
     ap (map operation) (take_more ops place op lt ∙ ap (λ (o : ScriptOp). take place ops ++ o ∷ []) (sym is))
     ∙ map_push operation (take place ops) op
 
-pub begins_walking : (decls : List ItemDecl) (t : TxnDecl) (ops : List ScriptOp) (w w' : Walk) → IsSized (length decls) w
+pub begins_walking : (decls : List ItemDecl) (t : TxnDecl) (ops : List ScriptOp) (w w' : Walk)
+    → IsSized (length decls) w
     → w' ≡ begun w t → IsWalking decls t ops 0 w'
 begins_walking decls t ops w w' sized is = subst (λ (x : Walk). IsWalking decls t ops 0 x) (sym is) (record {
   sized = sized_begun (length decls) t w sized;
@@ -52,7 +53,8 @@ pub turns : (decls : List ItemDecl) (t : TxnDecl) (ops : List ScriptOp) (place :
     → IsWalking decls t ops place w → place < length ops → op ≡ get_or ops place op
     → list_all (is_good (length decls)) (map operation ops) ≡ true → may_stand decls t w (operation op) ≡ true
     → w' ≡ after w (operation op) → IsWalking decls t ops (place + 1) w'
-turns decls t ops place op w w' h lt is good may next = subst (λ (x : Walk). IsWalking decls t ops (place + 1) x) (sym next) (record {
+turns decls t ops place op w w' h lt is good may next =
+    subst (λ (x : Walk). IsWalking decls t ops (place + 1) x) (sym next) (record {
   sized = sized_after (length decls) w (operation op) h.sized;
   stands = subst (λ (before : List Operation). StandsFor (length decls) t before (after w (operation op)))
       (sym (front_at ops place op lt is))

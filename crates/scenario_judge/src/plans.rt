@@ -195,8 +195,8 @@ fn longest_period(txns: &[TxnDecl]) -> Tick
     longest
 }
 
-/// The greatest fixed tick and, for each eager job, the greatest period of a transaction. A step for each job that is not
-/// eager, and for each transaction.
+/// The greatest fixed tick and, for each eager job, the greatest period of a transaction. A step for each job that is
+/// not eager, and for each transaction.
 pub fn eager_end(scenario: &Scenario) -> Tick
     requires each { length scenario.now.releases ≡ length scenario.now.txns }
     requires few { total_jobs_of scenario.now.releases ≤ 65536 }

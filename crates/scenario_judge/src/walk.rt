@@ -48,7 +48,8 @@ fn is_dated(items: &[ItemDecl], item: ItemId) -> bool
 
 // Whether each sensor and derived item among these is marked.
 fn all_written(items: &[ItemDecl], writes: &[ItemId], written: &Marks) -> bool
-    ensures { result ≡ list_all (λ i. not (is_dated_item items.now i.0) || slice_index_or written.now i.0 false) writes.now }
+    ensures { result ≡
+        list_all (λ i. not (is_dated_item items.now i.0) || slice_index_or written.now i.0 false) writes.now }
 {
     for item in writes {
         if is_dated(items, *item) && !written.has(*item) {

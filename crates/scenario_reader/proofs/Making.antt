@@ -71,7 +71,8 @@ program_over n t script good = record {
 pub programs_over : (n : ℕ) (ts : List Txn) → All (HasGoodScript n) ts → All (IsGoodTxn n) ts
     → All (IsProgramOver n) (map (program_from n) ts)
 programs_over n ts scripts good =
-    All-map (IsProgramOver n) (program_from n) ts (λ k d lt. program_over n (get_or ts k d) (scripts k d lt) (good k d lt))
+    All-map (IsProgramOver n) (program_from n) ts (λ k d lt. program_over n (get_or ts k d) (scripts k d lt)
+    (good k d lt))
 
 pub text_times : (n : ℕ) (ts : List Txn) → All (IsGoodTxn n) ts → All HasTextTimes (map (decl_of n) ts)
 text_times n ts good = All-map HasTextTimes (decl_of n) ts (λ k d lt. (good k d lt).times)

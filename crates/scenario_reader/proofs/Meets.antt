@@ -99,15 +99,22 @@ order_rises : (items : ℕ) (names : List (Option ItemId)) → AllPairs (λ a b.
 order_rises items names =
     AllPairs-filter (λ a b. a < b) (is_named names) (range_with_len 0 items)
     (λ i j d lt less.
-    omega (arith, length-range_with_len 0 items, get_or-range_with_len 0 items i d (omega (arith, length-range_with_len 0 items)),
-    get_or-range_with_len 0 items j d (omega (arith, length-range_with_len 0 items))))
+    omega (
+      arith,
+      length-range_with_len 0 items,
+      get_or-range_with_len 0 items i d (omega (arith, length-range_with_len 0 items)),
+      get_or-range_with_len 0 items j d (omega (arith, length-range_with_len 0 items)),
+    ))
 
 order_below : (items : ℕ) (names : List (Option ItemId)) → All (λ i. i < items)
     (filter (is_named names) (range_with_len 0 items))
 order_below items names =
     All-filter (is_named names) (λ i. i < items) (range_with_len 0 items)
-    (λ k d lt. omega (arith, length-range_with_len 0 items,
-    get_or-range_with_len 0 items k d (omega (arith, length-range_with_len 0 items))))
+    (λ k d lt. omega (
+      arith,
+      length-range_with_len 0 items,
+      get_or-range_with_len 0 items k d (omega (arith, length-range_with_len 0 items)),
+    ))
 
 ids_rise : (ns : List ℕ) → AllPairs (λ a b. a < b) ns → AllPairs (λ a b. a.0 < b.0) (map item_id ns)
 ids_rise ns h i j d lt less =
@@ -118,7 +125,8 @@ ids_rise ns h i j d lt less =
 
 pub in_order : (set : Set) (names : List (Option ItemId)) → AreItemsOf set (in_item_order (length set.items) names)
 in_order set names = record {
-  rising = ids_rise (filter (is_named names) (range_with_len 0 (length set.items))) (order_rises (length set.items) names);
+  rising = ids_rise (filter (is_named names) (range_with_len 0 (length set.items)))
+      (order_rises (length set.items) names);
   in_range = All-map (λ i. i.0 < length set.items) item_id
       (filter (is_named names) (range_with_len 0 (length set.items))) (order_below (length set.items) names);
 }

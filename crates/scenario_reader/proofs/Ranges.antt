@@ -56,7 +56,8 @@ formed_holds P form (Some d) h = h d
 member_holds : {A : Type 0} (P : A → Type 0) (place : Place) (form : Data → Option A) (name : List ℕ) (d : Data)
     → IfForm P form → Holds P (member_at place form name d)
 unfolding member_at
-member_holds P place form name d h = needed_holds P place (option_and_then form (get name d)) (formed_holds P form (get name d) h)
+member_holds P place form name d h = needed_holds P place (option_and_then form (get name d)) (formed_holds P form
+    (get name d) h)
 
 optional_holds : {A : Type 0} (P : A → Type 0) (default : A) (place : Place) (form : Data → Option A) (o : Option Data)
     → P default → IfForm P form → Holds P (optional default place form o)
@@ -111,7 +112,8 @@ valid_item : (taken : Places) (i : ℕ) (d : Data) → Holds IsValidItem (item_a
 valid_item taken i d =
     subst (λ (r : Result (List ℕ × ItemDecl) FormError). Holds IsValidItem r) (sym (item_at_is taken i d))
     (through IsValidItem (needed (places.Item i) (item_form d)) (after_form taken i d)
-    (λ formed formed_is. through IsValidItem (member_at (places.ItemMember i members.Name) (new_name taken) (codes "name") d)
+    (λ formed formed_is. through IsValidItem (member_at (places.ItemMember i members.Name) (new_name taken)
+    (codes "name") d)
     (after_name i d)
     (λ name name_is. through IsValidItem (member_at (places.ItemMember i members.Kind) kind_form (codes "kind") d)
     (λ word. item_kind (places.ItemMember i members.Validity) word d >>= after_kind i d name)
@@ -230,7 +232,8 @@ compute_good false o h = tt
 op_form_good : (d : Data) → IfSome (op_form d) IsShape
 op_form_good d =
     first_good (text_form d) _
-    (if_then IsShape op_word (as_str d) (λ text. words_good (bytes_eq text (codes "commit")) (bytes_eq text (codes "quit"))))
+    (if_then IsShape op_word (as_str d) (λ text. words_good (bytes_eq text (codes "commit")) (bytes_eq text
+    (codes "quit"))))
     (first_good (read_form d) _ (read_good (sized 1 d) (option_and_then as_str (get (codes "read") d)))
     (first_good (write_form d) _
     (write_good (sized 2 d) (option_and_then as_str (get (codes "write") d)) (get (codes "value") d))
@@ -336,7 +339,8 @@ unfolding times_at
 times_good i d =
     through AreTextTimes (member_at (of_member i txn_members.Priority) (whole 0 (2 ^ 31)) (codes "priority") d)
     (after_prio i d)
-    (λ prio prio_is. through AreTextTimes (member_at (of_member i txn_members.Period) (whole 0 (2 ^ 40)) (codes "period") d)
+    (λ prio prio_is. through AreTextTimes (member_at (of_member i txn_members.Period) (whole 0 (2 ^ 40))
+    (codes "period") d)
     (after_period i d prio)
     (λ period period_is. through AreTextTimes
     (member_or 0 (of_member i txn_members.Offset) (whole 0 (2 ^ 40)) (codes "offset") d) (after_offset i d prio period)
@@ -348,11 +352,13 @@ times_good i d =
     (after_steps i d prio period offset deadline)
     (λ steps steps_is. through AreTextTimes
     (member_or 0 (of_member i txn_members.Quiet) (whole 0 (2 ^ 40)) (codes "quiet") d)
-    (λ quiet. Ok (record { prio = prio; period = period; offset = offset; deadline = deadline; steps = steps; quiet = quiet }))
+    (λ quiet. Ok
+    (record { prio = prio; period = period; offset = offset; deadline = deadline; steps = steps; quiet = quiet }))
     (λ quiet quiet_is. record {
       prio = (number_at (of_member i txn_members.Priority) 0 (2 ^ 31) (codes "priority") d prio prio_is).1;
       period = (number_at (of_member i txn_members.Period) 0 (2 ^ 40) (codes "period") d period period_is).1;
-      offset = (number_or 0 (of_member i txn_members.Offset) (2 ^ 40) (codes "offset") d offset (omega arith) offset_is).1;
+      offset = (number_or 0 (of_member i txn_members.Offset) (2 ^ 40) (codes "offset") d offset
+          (omega arith) offset_is).1;
       deadline = (number_or period (of_member i txn_members.Deadline) (2 ^ 40) (codes "deadline") d deadline
           (number_at (of_member i txn_members.Period) 0 (2 ^ 40) (codes "period") d period period_is).1 deadline_is).1;
       steps = (number_at (of_member i txn_members.Steps) 0 (2 ^ 40) (codes "steps") d steps steps_is).1;
@@ -375,14 +381,16 @@ Names = List (Option ItemId)
 abbrev after_samples : Places → ℕ → Data → Times → Names → Names → Releases → List ℤ → Result Txn FormError
 after_samples items i d times read_names write_names releases samples =
     script_at items i d >>= λ script. Ok
-    (record { times = times; reads = read_names; writes = write_names; releases = releases; samples = samples; script = script })
+    (record { times = times; reads = read_names; writes = write_names; releases = releases; samples = samples;
+    script = script })
 
 abbrev after_releases : Places → ℕ → Data → Times → Names → Names → Releases → Result Txn FormError
 after_releases items i d times read_names write_names releases =
     samples_at i d >>= after_samples items i d times read_names write_names releases
 
 abbrev after_writes : Places → ℕ → Data → Times → Names → Names → Result Txn FormError
-after_writes items i d times read_names write_names = releases_at i d >>= after_releases items i d times read_names write_names
+after_writes items i d times read_names write_names = releases_at i d >>= after_releases items i d times read_names
+    write_names
 
 abbrev after_reads : Places → ℕ → Data → Times → Names → Result Txn FormError
 after_reads items i d times read_names =
@@ -401,12 +409,14 @@ txn_good n places range i d =
     (after_reads places i d times)
     (λ read_names reads_is. through (IsGoodTxn n) (names_at places i txn_members.Writes (codes "writes") d)
     (after_writes places i d times read_names)
-    (λ write_names writes_is. through (IsGoodTxn n) (releases_at i d) (after_releases places i d times read_names write_names)
+    (λ write_names writes_is. through (IsGoodTxn n) (releases_at i d)
+    (after_releases places i d times read_names write_names)
     (λ releases releases_is. through (IsGoodTxn n) (samples_at i d)
     (after_samples places i d times read_names write_names releases)
     (λ samples samples_is. through (IsGoodTxn n) (script_at places i d)
     (λ script. Ok
-    (record { times = times; reads = read_names; writes = write_names; releases = releases; samples = samples; script = script }))
+    (record { times = times; reads = read_names; writes = write_names; releases = releases; samples = samples;
+    script = script }))
     (λ script script_is. record {
       times = text_times n
           (record { times = times; reads = read_names; writes = write_names; releases = releases; samples = samples; script = script })
@@ -457,7 +467,8 @@ set_good : (items : Places) (i : ℕ) (d : Data) → Holds IsNear (set_at items 
 unfolding set_at
 set_good items i d =
     through IsNear (needed (places.Set i) (set_form d)) (after_set items i d)
-    (λ formed formed_is. through IsNear (member_at (places.SetItems i) as_array (codes "items") d) (after_values items i d)
+    (λ formed formed_is. through IsNear (member_at (places.SetItems i) as_array (codes "items") d)
+    (after_values items i d)
     (λ values values_is. through IsNear (all_at (set_place i) (named items) values) (after_named i d)
     (λ found found_is. through IsNear (member_at (places.SetWithin i) (whole 0 (2 ^ 40)) (codes "within") d)
     (λ within. Ok (record { items = found; within = within }))
@@ -468,7 +479,8 @@ set_steps : (places : Places) (acc : List Together) (d : Data) → All IsNear ac
 unfolding set_step
 set_steps places acc d h =
     through (All IsNear) (set_at places (length acc) d) (λ x. Ok (acc ++ x ∷ []))
-    (λ x is. All-push IsNear acc x h (holds_ok IsNear (set_at places (length acc) d) x (set_good places (length acc) d) is))
+    (λ x is. All-push IsNear acc x h (holds_ok IsNear (set_at places (length acc) d) x (set_good places
+    (length acc) d) is))
 
 sets_good : (places : Places) (d : Data) → Holds (All IsNear) (sets_at places d)
 unfolding sets_at

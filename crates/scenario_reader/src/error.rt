@@ -16,21 +16,32 @@ pub enum ScenarioError {
     NotJson,
     /// A member is missing or not of its form: the first place in reading order.
     #[error("a member is missing or not of its form")]
-    BadField { place: Place },
+    BadField {
+        place: Place,
+    },
     /// A name in reads, writes, script or a relative set is no item's: the first in reading order.
     #[error("a name is no item's")]
-    UnknownName { place: Place },
+    UnknownName {
+        place: Place,
+    },
     /// An operation may not stand in its script: it is on an item that is not declared for it, comes before its
     /// transaction's quiet steps are over or after a commit or quit, or is a commit that leaves a declared sensor or
     /// derived write unwritten. The first by transaction, then operation.
     #[error("operation {op} may not stand in its script")]
-    BadScript { tx: TxId, op: usize },
+    BadScript {
+        tx: TxId,
+        op: usize,
+    },
     /// A script has more than 10,000 operations, each compute counted as many: the first by transaction.
     #[error("a script has more than 10,000 operations")]
-    TooManySteps { tx: TxId },
+    TooManySteps {
+        tx: TxId,
+    },
     /// There are more than 65,536 jobs in all.
     #[error("there are more than 65,536 jobs: {count}")]
-    TooManyJobs { count: u64 },
+    TooManyJobs {
+        count: u64,
+    },
     /// A release comes less than a period after the one before it, or after 2^40: the first by transaction, then index.
     #[error("release {index} may not be planned")]
     BadRelease {
@@ -40,10 +51,14 @@ pub enum ScenarioError {
     },
     /// The room is above 2^20 entries.
     #[error("the room is above 2^20 entries: {needed}")]
-    RoomTooLarge { needed: u64 },
+    RoomTooLarge {
+        needed: u64,
+    },
     /// The greatest fixed release and, for each eager job, the greatest period end above 2^40.
     #[error("the jobs may end after 2^40: {needed}")]
-    EagerTooFar { needed: u64 },
+    EagerTooFar {
+        needed: u64,
+    },
     #[error("out of memory")]
     OutOfMemory,
 }

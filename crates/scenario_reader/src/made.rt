@@ -56,11 +56,7 @@ fn declared(alloc: Global, items: usize, txn: &ReadTxn) -> Result<TxnDecl, OutOf
 }
 
 // The script of a transaction, and its releases.
-fn scripted(
-    alloc: Global,
-    items: usize,
-    txn: ReadTxn,
-) -> Result<(Script, Releases), OutOfMemory>
+fn scripted(alloc: Global, items: usize, txn: ReadTxn) -> Result<(Script, Releases), OutOfMemory>
     requires { HasGoodScript items (txn_view txn) }
     ensures program { IfOk result (λ p. program_of p.0 ≡ program_from items (txn_view txn)) }
     ensures releases { IfOk result (λ p. p.1 ≡ (txn_view txn).releases) }

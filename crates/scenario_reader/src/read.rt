@@ -45,9 +45,9 @@ fn of_value(alloc: Global, value: &Value) -> Result<Scenario, ScenarioError>
     of_forms(alloc, forms)
 }
 
-/// The scenario of a JSON text in UTF-8, or the first refusal. NotJson comes exactly where the bytes have no reading as a
-/// JSON value. It is linear in the text, but for the maps of names and the sorts of reads, writes and relative sets; a
-/// compute is never expanded. For each transaction it takes a place for each item.
+/// The scenario of a JSON text in UTF-8, or the first refusal in the order of ScenarioError. It is linear in the text, but
+/// for the maps of names and the sorts of reads, writes and relative sets; a compute is never expanded. For each
+/// transaction it takes a place for each item.
 pub fn read_scenario(alloc: Global, bytes: &[u8]) -> Result<Scenario, ScenarioError>
     requires { length bytes.now < 2 ^ 32 }
     ensures read { GivesBy shown result (scenario_in (data_of bytes.now)) }

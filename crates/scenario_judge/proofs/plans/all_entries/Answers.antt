@@ -12,7 +12,8 @@ entries-total-requires-clause-jobs c =
 
 pub overflow_add-total : goal.overflow_add-total
 overflow_add-total c =
-    let entries : c.entries-total.result ≡ entries_of (jobs_of c.index-releases-tx.result) c.index-txns-tx.result.steps =
+    let entries : c.entries-total.result ≡ entries_of (jobs_of c.index-releases-tx.result)
+    c.index-txns-tx.result.steps =
     c.entries-total.ensures ∙ ap (λ (n : ℕ). entries_of n c.index-txns-tx.result.steps) c.jobs.ensures in
     omega (
       arith,
@@ -21,7 +22,8 @@ overflow_add-total c =
       c.requires.few,
       c.loop-tx.invariant,
       entries_more c.args.txns.now c.args.releases.now c.loop-tx.tx c.index-txns-tx.result c.index-releases-tx.result
-          c.loop-tx-test.true (omega (arith, c.requires.each, c.loop-tx-test.true)) c.index-txns-tx.is c.index-releases-tx.is,
+          c.loop-tx-test.true (omega (arith, c.requires.each, c.loop-tx-test.true)) c.index-txns-tx.is
+          c.index-releases-tx.is,
     )
 
 pub returns-clause-fits : goal.returns-clause-fits

@@ -4,6 +4,7 @@ use Rattle.scenario_judge.proofs.plans.longest_period.Given as goal
 
 abbrev pub invariant-loop-txn : goal.invariant-loop-txn
 invariant-loop-txn l = record {
-  same : max l.longest (greatest (map (λ t. t.period) (drop l.txn-index l.txns))) ≡ greatest (map (λ t. t.period) l.txns);
+  same : max l.longest (greatest (map (λ t. t.period) (drop l.txn-index l.txns)))
+      ≡ greatest (map (λ t. t.period) l.txns);
   fits : l.longest ≤ 2 ^ 40;
 }

@@ -8,7 +8,8 @@ use Rattle.scenario_reader.proofs.made.parts.Goals as goal
 
 pub add-requires : goal.add-requires
 add-requires c =
-    this_one (λ t. HasGoodScript c.args.items (txn_view t)) c.next.new.self.rest.items c.loop-txn.txn-iterator.rest.items
+    this_one (λ t. HasGoodScript c.args.items (txn_view t)) c.next.new.self.rest.items
+    c.loop-txn.txn-iterator.rest.items
     c.in-Some.txn c.in-Some.ensures.steps.0 c.loop-txn.invariant.left
 
 pub loop-txn-init : goal.loop-txn-init
