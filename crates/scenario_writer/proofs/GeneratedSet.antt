@@ -107,13 +107,13 @@ sensor_if true v h = refl
 sensor_if false v h = absurd (false≢true h)
 
 module _ (n : ℕ) (one : 1 ≤ n) (few : n ≤ 64) where
-  abbrev items : List ItemDecl
+  abbrev pub items : List ItemDecl
   items = each (dated_item n) n ++ state_item ∷ []
 
-  abbrev txns : List TxnDecl
+  abbrev pub txns : List TxnDecl
   txns = each (txn_decl n) n
 
-  abbrev set : Set
+  abbrev pub set : Set
   set = record { items = items; txns = txns; together = [] }
 
   pub many : length items ≡ n + 1
@@ -178,13 +178,13 @@ module _ (n : ℕ) (one : 1 ≤ n) (few : n ≤ 64) where
       let q : (get_or txns j d).prio ≡ n - j = ap (λ (t : TxnDecl). t.prio) (at_each (txn_decl n) n j d within) in
       λ e. absurd (omega arith)
 
-  txn_at : (tx : ℕ) → tx < n → txn_of set tx ≡ txn_decl n tx
+  pub txn_at : (tx : ℕ) → tx < n → txn_of set tx ≡ txn_decl n tx
   txn_at tx lt = at_each (txn_decl n) n tx no_txn lt
 
-  txn_past : (tx : ℕ) → n ≤ tx → txn_of set tx ≡ no_txn
+  pub txn_past : (tx : ℕ) → n ≤ tx → txn_of set tx ≡ no_txn
   txn_past tx le = get_or_past txns tx no_txn (let e : length txns ≡ n = length_each (txn_decl n) n in omega arith)
 
-  item_got : (i : ℕ) → i < n → slice_get items i ≡ Some (dated_item n i)
+  pub item_got : (i : ℕ) → i < n → slice_get items i ≡ Some (dated_item n i)
   item_got i lt = slice_get-get_or items i state_item (let e : length items ≡ n + 1 = many in omega arith)
       ∙ ap Some (before_last (dated_item n) n i state_item state_item lt)
 
@@ -204,7 +204,7 @@ module _ (n : ℕ) (one : 1 ≤ n) (few : n ≤ 64) where
       → is_dated items i ≡ false
   undated o i e f = ap (λ (q : Option ItemDecl). is_some (option_and_then (λ d. validity_of_kind d.kind) q)) e ∙ f
 
-  dated_below : (i : ℕ) → is_dated items i ≡ true → i < n
+  pub dated_below : (i : ℕ) → is_dated items i ≡ true → i < n
   dated_below i h = elim (cases_order i n) [
     | inl same ↦ absurd (false≢true (sym (undated (Some state_item) i (ap (slice_get items) same ∙ last_got) refl) ∙ h))
     | inr other ↦ elim other [
@@ -240,7 +240,7 @@ module _ (n : ℕ) (one : 1 ≤ n) (few : n ≤ 64) where
       ∙ sensor_if (is_even item) (4 * period_of n) h.1
 
   -- a parent is a sensor item
-  parent_is : (tx item : ℕ) → IsTrue (may_read (txn_of set tx) item) → is_derived items item ≡ false
+  pub parent_is : (tx item : ℕ) → IsTrue (may_read (txn_of set tx) item) → is_derived items item ≡ false
   parent_is tx item h = elim (cases_lt tx n) [
     | inl less ↦ parent_at tx item less
         (reads_only_if (is_even tx) tx item refl (sym (ap (λ (t : TxnDecl). may_read t item) (txn_at tx less)) ∙ h))

@@ -1,9 +1,9 @@
 mod Ascii
 mod Each
-mod GeneratedNames
+pub mod GeneratedNames
 mod GeneratedReleases
 pub mod GeneratedScripts
-mod GeneratedSet
+pub mod GeneratedSet
 mod Loops
 pub mod Merging
 mod Plain

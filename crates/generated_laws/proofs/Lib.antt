@@ -1,0 +1,2 @@
+mod Load
+mod Admitted
