@@ -1,0 +1,14 @@
+pub mod Lates
+pub mod Releases
+pub mod Cancels
+pub mod Arrivals
+pub mod Facts
+pub mod Steps
+pub mod Plans
+pub mod Planned
+pub mod Opens
+pub mod Names
+pub mod Refusals
+pub mod Places
+pub mod Arrived
+pub mod Effected

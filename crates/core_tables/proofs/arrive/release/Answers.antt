@@ -1,0 +1,34 @@
+use Rattle.std.proofs.Common.{◌+◌, length, ap, sym, ◌∙◌, subst, arith, refl}
+use Rattle.core_tables.proofs.Releases.{less_kept, release_there, release_free}
+use Rattle.core_tables.proofs.Arrivals.{releases, released_rows, released_planned, left_some, nothing_due, stays_as}
+use Rattle.core_tables.proofs.Cancels.{default_none}
+use Rattle.core_tables.proofs.arrive.release.Goals as goal
+
+pub release-requires-clause-tx : goal.release-requires-clause-tx
+release-requires-clause-tx c =
+    let some = left_some c.args.tick c.args.pending.now c.loop-job.pending c.args.calendar.now c.loop-job.calendar c.loop-job.invariant c.requires.can in
+    release_there c.args.tick c.loop-job.pending.rows some.planned c.in-Some.job some.can (c.in-Some.ensures.due some.planned some.holds)
+
+pub release-requires-clause-free : goal.release-requires-clause-free
+release-requires-clause-free c =
+    let some = left_some c.args.tick c.args.pending.now c.loop-job.pending c.args.calendar.now c.loop-job.calendar c.loop-job.invariant c.requires.can in
+    release_free c.args.tick c.loop-job.pending.rows some.planned c.in-Some.job some.can (c.in-Some.ensures.due some.planned some.holds)
+
+pub loop-job-smaller : goal.loop-job-smaller
+loop-job-smaller c = less_kept c.args.tick c.loop-job.calendar c.due.new.self c.in-Some.job c.in-Some.ensures.due c.in-Some.ensures.left
+
+pub loop-job-preserved : goal.loop-job-preserved
+loop-job-preserved c =
+    releases c.args.tick c.args.pending.now c.loop-job.pending c.release.new.self c.args.calendar.now c.loop-job.calendar c.due.new.self c.in-Some.job c.loop-job.invariant
+    c.in-Some.ensures.due c.in-Some.ensures.left c.due.ensures.rest c.release.ensures
+
+pub returns-clause-rows : goal.returns-clause-rows
+returns-clause-rows c =
+    released_rows c.args.tick c.args.pending.now c.loop-job.pending c.args.calendar.now c.loop-job.calendar c.loop-job.invariant
+    (nothing_due c.args.tick c.loop-job.calendar c.due.result (default_none c.due.result c.in_default.not-Some) c.due.ensures.due)
+
+pub returns-clause-planned : goal.returns-clause-planned
+returns-clause-planned c =
+    released_planned c.args.tick c.args.pending.now c.loop-job.pending c.args.calendar.now c.loop-job.calendar c.due.new.self c.loop-job.invariant
+    (nothing_due c.args.tick c.loop-job.calendar c.due.result (default_none c.due.result c.in_default.not-Some) c.due.ensures.due)
+    (stays_as c.args.tick c.loop-job.calendar c.due.new.self c.due.result (default_none c.due.result c.in_default.not-Some) c.due.ensures.left)
