@@ -151,7 +151,10 @@ fn beside_a_plain_scan(rt: HostRuntime) -> Result<(), OutOfMemory> {
             }
         }
         let ranks = ranks_of(&waits, pending);
-        assert!(rt; running::<Brand>(ranks, &waits, Blank::new(1)) == plain.running(), "call {call}");
+        assert!(rt;
+            running::<Brand>(ranks, &waits, Blank::new(1)) == plain.running(),
+            "call {call}"
+        );
     }
     Ok(())
 }

@@ -2,3 +2,5 @@ pub mod Lines
 pub mod Guarantees
 pub mod Compiles
 pub mod FixedTicks
+pub mod Ready
+pub mod FixedMore

@@ -5,6 +5,7 @@ use Rattle.serde_json.specs.Data.{Data}
 use Rattle.serde_json.specs.Written.{compact_text}
 use Rattle.txn_compiler.specs.Refusal.{compile_refusal}
 use Rattle.txn_compiler.specs.declared.error.CompileError.{CompileError}
+use Rattle.txn_compiler.specs.declared.error.CompileError.TheVariants as compiling
 use Rattle.set_admission.specs.Admission.{refusal}
 use Rattle.set_admission.specs.declared.error.AdmitError.{AdmitError}
 use Rattle.scenario_forms.specs.declared.error.FormError.{FormError}
@@ -39,6 +40,19 @@ Written wanted status text = (status ≡ statuses.Ok) × (text ≡ wanted)
 
 abbrev pub Refused : List ℕ → Reply
 Refused cause status text = (status ≡ statuses.Refused) × (text ≡ refused_line cause)
+
+-- whether an error says that a growth was refused
+abbrev pub is_memory : CompileError → Bool
+is_memory (compiling.TooManyItems count) = false
+is_memory (compiling.TooManyTxns count) = false
+is_memory (compiling.SamePrio a b) = false
+is_memory (compiling.BadTimes tx which) = false
+is_memory (compiling.NoWriter item) = false
+is_memory (compiling.TwoWriters item a b) = false
+is_memory (compiling.CyclicDerivation item) = false
+is_memory compiling.OutOfMemory = true
+is_memory (compiling.TooManySets count) = false
+is_memory (compiling.BadTogether set) = false
 
 -- the declarations compile, or the line of the first rule that they break
 abbrev pub Compiling : Reply → Names → Option CompileError → Reply

@@ -1,5 +1,5 @@
 -- The run of a scenario, what holds of it, and the text that it has.
-use Rattle.std.specs.Prelude.{◌≡◌, ℕ, ◌≤◌, Bool, true, false, List, []}
+use Rattle.std.specs.Prelude.{◌≡◌, ℕ, ◌≤◌, Bool, true, false, List, [], map, length}
 use Rattle.std.specs.List.{list_any}
 use Rattle.rt_base.specs.declared.ids.JobId.{JobId}
 use Rattle.rt_base.specs.declared.name.Names.{Names}
@@ -10,10 +10,15 @@ use Rattle.step_journal.specs.State.{opening}
 use Rattle.step_journal.specs.History.{state_of}
 use Rattle.step_journal.specs.Serial.{IsSerial, serial_items}
 use Rattle.history_laws.specs.Protocol.{DelayedByOne}
-use Rattle.counting_laws.specs.Counting.{refusal_count}
+use Rattle.counting_laws.specs.Counting.{refusal_count, room_of_jobs}
 use Rattle.commit_laws.specs.Commits.{CommitsAreFresh}
 use Rattle.set_admission.specs.Laws.{KeepsBounds}
-use Rattle.sim_history.specs.Sim.{Workload, IsSim}
+use Rattle.sim_history.specs.Sim.{Body, Workload, IsSim}
+use Rattle.sim_run.specs.Workloads.{workload, ticks_of, AreAccepted, IsObedient}
+use Rattle.step_script.specs.declared.script.Script.{Script}
+use Rattle.step_script.specs.Scripts.{program_of, next_of}
+use Rattle.scenario.specs.declared.releases.Releases.{Releases}
+use Rattle.scenario.specs.Scenarios.{IsScenario}
 use Rattle.scenario.specs.Releases.{is_eager}
 use Rattle.scenario.specs.Shown.{Shown, set_of}
 use Rattle.workload_laws.specs.Runs.{workload_of}
@@ -36,6 +41,26 @@ pub record IsGuaranteed (set : Set) (history : List Entry) : Type 0 where
 abbrev pub KeepsBoundsUnless : Bool → Set → List Entry → Type 0
 KeepsBoundsUnless true set history = Unit {0}
 KeepsBoundsUnless false set history = KeepsBounds set history
+
+-- the set, scripts, releases and room of a scenario
+pub record Declares (set : Set) (scripts : List Script) (releases : List Releases) (room : ℕ) : Type 0 where
+  pub scenario : Shown
+  pub is : IsScenario scenario
+  pub set_is : set ≡ set_of scenario
+  pub programs_are : map program_of scripts ≡ scenario.programs
+  pub releases_are : releases ≡ scenario.releases
+  pub room_is : room ≡ scenario.room
+
+abbrev pub functions_of : List Script → List Body
+functions_of scripts = map next_of (map program_of scripts)
+
+-- scripts, serials and ticks with which a board of this set and this room can be run
+pub record IsReady (set : Set) (room : ℕ) (scripts : List Script) (serials : ℕ) (ticks : List (List ℕ)) : Type 0 where
+  pub scripts_each : length scripts ≡ length set.txns
+  pub serials_each : serials ≡ length set.txns
+  pub accepted : AreAccepted set ticks
+  pub obedient : IsObedient (workload set (functions_of scripts) ticks)
+  pub enough : room_of_jobs set.txns (λ tx. length (ticks_of ticks tx)) ≤ room
 
 -- the items that the run of a workload leaves, and their final lines
 pub record IsLeftBy (w : Workload) (items : List Stored) : Type 0 where

@@ -1,13 +1,10 @@
 //! The run of a scenario on one board.
-ghost use Rattle.std.specs.Prelude.{◌≡◌, ◌≤◌, ◌^◌, [], map, length, IfOk, true, false};
-ghost use Rattle.std.specs.List.{All};
-ghost use Rattle.step_script.specs.Scripts.{program_of, next_of};
-ghost use Rattle.counting_laws.specs.Counting.{room_of_jobs};
-ghost use Rattle.sim_run.specs.Workloads.{workload, ticks_of as ticks_at, AreAccepted, IsObedient};
+ghost use Rattle.std.specs.Prelude.{◌≡◌, ◌≤◌, ◌^◌, [], length, IfOk, true, false};
+ghost use Rattle.sim_run.specs.Workloads.{workload};
 ghost use Rattle.scenario.specs.Shown.{shown};
-ghost use Rattle.scenario.specs.Scenarios.{IsScenario, HasTextTimes};
-ghost use Rattle.scenario.specs.Releases.{fixed_ticks, total_jobs};
-ghost use Rattle.rtdb_run.specs.Runs.{IsLeftBy, IsTextBy};
+ghost use Rattle.scenario.specs.Scenarios.{IsScenario};
+ghost use Rattle.scenario.specs.Releases.{fixed_ticks};
+ghost use Rattle.rtdb_run.specs.Runs.{Declares, IsReady, functions_of, IsLeftBy, IsTextBy};
 ghost use Rattle.rtdb_run.specs.Replies.{RunReply};
 
 use crate::reply::{Reply, refused, refused_admission, refused_set, written};
@@ -41,14 +38,14 @@ fn prepared(
     set: &CompiledSet,
     scripts: List<Script>,
     releases: &List<Releases>,
+    room: usize,
 ) -> Result<Bodies, OutOfMemory>
-    requires times { All HasTextTimes set.now.txns }
-    requires few { total_jobs releases.now ≤ 65536 }
-    requires each { length releases.now ≡ length set.now.txns }
+    requires { Declares set.now scripts releases.now room }
     ensures scripts { IfOk result (λ b. b.scripts.items ≡ scripts) }
-    ensures serials { IfOk result (λ b. length b.serials.items ≡ length scripts) }
     ensures ticks { IfOk result (λ b. b.ticks.items ≡ fixed_ticks set.now.txns releases.now) }
+    ensures ready { IfOk result (λ b. IsReady set.now room b.scripts.items (length b.serials.items) b.ticks.items) }
 {
+    set.is_compiled();
     let scripts = scripts.into_vec();
     let serials = vec![in alloc; 0u32; scripts.len()]?;
     let ticks = all_fixed(alloc, set.txns(), releases.as_slice())?;
@@ -62,11 +59,8 @@ fn prepared(
 // The items that the run of these scripts leaves on a new board.
 fn left_on<B: Board>(board: B, bodies: Bodies) -> Items
     requires opened { B.stands board [] }
-    requires each { (length bodies.scripts.items ≡ length (B.set board).txns) × (length bodies.serials.items ≡ length (B.set board).txns) }
-    requires accepted { AreAccepted (B.set board) bodies.ticks.items }
-    requires obedient { IsObedient (workload (B.set board) (map next_of (map program_of bodies.scripts.items)) bodies.ticks.items) }
-    requires room { room_of_jobs (B.set board).txns (λ tx. length (ticks_at bodies.ticks.items tx)) ≤ B.room board }
-    ensures { IsLeftBy (workload (B.set board) (map next_of (map program_of bodies.scripts.items)) bodies.ticks.items) result }
+    requires ready { IsReady (B.set board) (B.room board) bodies.scripts.items (length bodies.serials.items) bodies.ticks.items }
+    ensures { IsLeftBy (workload (B.set board) (functions_of bodies.scripts.items) bodies.ticks.items) result }
 {
     let mut board = board;
     let Bodies {
@@ -88,11 +82,8 @@ fn trial_text(
     bodies: Bodies,
 ) -> Result<Vec<u8>, OutOfMemory>
     requires small { room ≤ 2 ^ 20 }
-    requires each { (length bodies.scripts.items ≡ length set.txns) × (length bodies.serials.items ≡ length set.txns) }
-    requires accepted { AreAccepted set bodies.ticks.items }
-    requires obedient { IsObedient (workload set (map next_of (map program_of bodies.scripts.items)) bodies.ticks.items) }
-    requires room { room_of_jobs set.txns (λ tx. length (ticks_at bodies.ticks.items tx)) ≤ room }
-    ensures { IfOk result (λ text. IsTextBy names.now (workload set (map next_of (map program_of bodies.scripts.items)) bodies.ticks.items) text.items) }
+    requires ready { IsReady set room bodies.scripts.items (length bodies.serials.items) bodies.ticks.items }
+    ensures { IfOk result (λ text. IsTextBy names.now (workload set (functions_of bodies.scripts.items) bodies.ticks.items) text.items) }
 {
     let Ok(board) = Core::new(alloc, set, room) else {
         return Err(OutOfMemory);
@@ -110,11 +101,8 @@ fn admitted_text(
     bodies: Bodies,
 ) -> Result<Vec<u8>, OutOfMemory>
     requires small { room ≤ 2 ^ 20 }
-    requires each { (length bodies.scripts.items ≡ length set.txns) × (length bodies.serials.items ≡ length set.txns) }
-    requires accepted { AreAccepted set bodies.ticks.items }
-    requires obedient { IsObedient (workload set (map next_of (map program_of bodies.scripts.items)) bodies.ticks.items) }
-    requires room { room_of_jobs set.txns (λ tx. length (ticks_at bodies.ticks.items tx)) ≤ room }
-    ensures { IfOk result (λ text. IsTextBy names.now (workload set (map next_of (map program_of bodies.scripts.items)) bodies.ticks.items) text.items) }
+    requires ready { IsReady set room bodies.scripts.items (length bodies.serials.items) bodies.ticks.items }
+    ensures { IfOk result (λ text. IsTextBy names.now (workload set (functions_of bodies.scripts.items) bodies.ticks.items) text.items) }
 {
     let Ok(board) = AdmittedCore::new(alloc, set, room) else {
         return Err(OutOfMemory);
@@ -144,7 +132,7 @@ fn trial(alloc: Global, scenario: Scenario) -> Result<Reply, OutOfMemory>
     if any_eager(releases.as_slice()) {
         return refused(alloc, Status::Refused, b"NotYet");
     }
-    let bodies = prepared(alloc, &set, scripts, &releases)?;
+    let bodies = prepared(alloc, &set, scripts, &releases, room)?;
     Ok(written(trial_text(alloc, &names, set, room, bodies)?))
 }
 
@@ -173,7 +161,7 @@ fn admitted_run(alloc: Global, scenario: Scenario) -> Result<Reply, OutOfMemory>
     if any_eager(releases.as_slice()) {
         return refused(alloc, Status::Refused, b"NotYet");
     }
-    let bodies = prepared(alloc, set.set(), scripts, &releases)?;
+    let bodies = prepared(alloc, set.set(), scripts, &releases, room)?;
     Ok(written(admitted_text(alloc, &names, set, room, bodies)?))
 }
 

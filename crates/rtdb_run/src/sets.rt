@@ -1,12 +1,11 @@
 //! The set of a scenario: its ceilings, and its admission.
-ghost use Rattle.std.specs.Prelude.{◌≡◌, ◌≢◌, IfOk, IfErr, None, Some};
+ghost use Rattle.std.specs.Prelude.{◌≡◌, IfOk, IfErr, None, Some};
 ghost use Rattle.txn_compiler.specs.Kept.{AreLists};
 ghost use Rattle.txn_compiler.specs.Refusal.{compile_refusal};
-ghost use Rattle.txn_compiler.specs.declared.error.CompileError.TheVariants.{OutOfMemory as NoMemoryToCompile};
 ghost use Rattle.set_admission.specs.Admission.{refusal};
 ghost use Rattle.scenario.specs.Shown.{shown};
 ghost use Rattle.scenario.specs.Scenarios.{IsScenario};
-ghost use Rattle.rtdb_run.specs.Replies.{CeilingsReply, AdmitReply};
+ghost use Rattle.rtdb_run.specs.Replies.{CeilingsReply, AdmitReply, is_memory};
 
 use crate::reply::{Reply, refused_admission, refused_set, written};
 use item_model::ItemDecl;
@@ -37,8 +36,22 @@ pub(crate) fn compiled(
         together.into_vec(),
     ) {
         Ok(set) => Ok(Ok(set)),
-        Err(CompileError::OutOfMemory) => Err(OutOfMemory),
-        Err(error) => Ok(Err(error)),
+        Err(error) => {
+            if wants_memory(error) {
+                Err(OutOfMemory)
+            } else {
+                Ok(Err(error))
+            }
+        }
+    }
+}
+
+fn wants_memory(error: CompileError) -> bool
+    ensures { result ≡ is_memory error }
+{
+    match error {
+        CompileError::OutOfMemory => true,
+        _ => false,
     }
 }
 
@@ -51,6 +64,7 @@ pub(crate) fn admitted(
     ensures passed { IfOk result (λ r. IfOk r (λ a. refusal set ≡ None)) }
     ensures refused { IfOk result (λ r. IfErr r (λ e. refusal set ≡ Some e)) }
 {
+    set.is_compiled();
     match admit(alloc, set) {
         Ok(set) => Ok(Ok(set)),
         Err((_, AdmitError::OutOfMemory)) => Err(OutOfMemory),

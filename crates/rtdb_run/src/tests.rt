@@ -39,7 +39,11 @@ fn sink(alloc: Global, most: usize, failing: Vec<u64>) -> Result<MemSink, Fail> 
     if most == 0 {
         return Err("no bytes".into());
     }
-    Ok(MemSink::new(alloc, 100_000, most, failing).ok().ok_or("memory")?)
+    Ok(
+        MemSink::new(alloc, 100_000, most, failing)
+            .ok()
+            .ok_or("memory")?,
+    )
 }
 
 // The status and the text of words and an input, from a call that no fault meets.
@@ -54,11 +58,13 @@ fn replied(alloc: Global, words: &[&str], input: &str) -> Result<(Status, Vec<u8
 #[test]
 fn base(rt: HostRuntime) -> Result<(), Fail> {
     let alloc = rt.alloc();
-    let bounds =
-        "bound sample 5 7\nbound control 5 13\nbound logger 0 14\nage temp 17\nadmitted\n";
+    let bounds = "bound sample 5 7\nbound control 5 13\nbound logger 0 14\nage temp 17\nadmitted\n";
     let finals = "final temp 11 30\nfinal valve 109 20\nend\n";
     let rows = [
-        (["ceilings"].as_slice(), "ceiling temp 3 3\nceiling valve 2 2\n"),
+        (
+            ["ceilings"].as_slice(),
+            "ceiling temp 3 3\nceiling valve 2 2\n",
+        ),
         (["admit"].as_slice(), bounds),
         (["run"].as_slice(), finals),
         (["run", "--trial"].as_slice(), finals),
@@ -77,19 +83,79 @@ fn changes_of_base(rt: HostRuntime) -> Result<(), Fail> {
     let alloc = rt.alloc();
     let sampled = r#""releases":[0,10,20,30]"#;
     let rows = [
-        ("admit", r#""validity":20"#, r#""validity":17"#, "bound sample 5 7\nbound control 5 13\nbound logger 0 14\nage temp 17\nadmitted\n"),
-        ("admit", r#""validity":20"#, r#""validity":16"#, "refused TooOld control temp 17\n"),
-        ("run", r#""priority":1"#, r#""priority":2"#, "refused SamePrio control logger\n"),
-        ("run", sampled, r#""releases":[5,14]"#, "refused TooSoon sample 1 15\n"),
-        ("run", sampled, r#""releases":[1099511627777]"#, "refused TooFar sample 0 1099511627776\n"),
-        ("run", sampled, r#""jobs":65537"#, "refused TooManyJobs 65540\n"),
+        (
+            "admit",
+            r#""validity":20"#,
+            r#""validity":17"#,
+            "bound sample 5 7\nbound control 5 13\nbound logger 0 14\nage temp 17\nadmitted\n",
+        ),
+        (
+            "admit",
+            r#""validity":20"#,
+            r#""validity":16"#,
+            "refused TooOld control temp 17\n",
+        ),
+        (
+            "run",
+            r#""priority":1"#,
+            r#""priority":2"#,
+            "refused SamePrio control logger\n",
+        ),
+        (
+            "run",
+            sampled,
+            r#""releases":[5,14]"#,
+            "refused TooSoon sample 1 15\n",
+        ),
+        (
+            "run",
+            sampled,
+            r#""releases":[1099511627777]"#,
+            "refused TooFar sample 0 1099511627776\n",
+        ),
+        (
+            "run",
+            sampled,
+            r#""jobs":65537"#,
+            "refused TooManyJobs 65540\n",
+        ),
         ("run", sampled, r#""eager":1"#, "refused NotYet\n"),
-        ("ceilings", r#""kind":"sensor""#, r#""kind":"Sensor""#, "refused BadField /items/0/kind\n"),
-        ("ceilings", r#""priority":3"#, r#""priority":3.5"#, "refused BadField /transactions/0/priority\n"),
-        ("ceilings", r#""name":"logger""#, r#""note":1,"name":"logger""#, "refused BadField /transactions/2\n"),
-        ("ceilings", r#""reads":["temp"]"#, r#""reads":["tempo"]"#, "refused UnknownName /transactions/1/reads/0\n"),
-        ("ceilings", r#"{"compute":1}"#, r#""quit""#, "refused BadScript /transactions/1/script/2\n"),
-        ("ceilings", r#""version":1"#, r#""version":2"#, "ceiling temp 3 3\nceiling valve 2 2\n"),
+        (
+            "ceilings",
+            r#""kind":"sensor""#,
+            r#""kind":"Sensor""#,
+            "refused BadField /items/0/kind\n",
+        ),
+        (
+            "ceilings",
+            r#""priority":3"#,
+            r#""priority":3.5"#,
+            "refused BadField /transactions/0/priority\n",
+        ),
+        (
+            "ceilings",
+            r#""name":"logger""#,
+            r#""note":1,"name":"logger""#,
+            "refused BadField /transactions/2\n",
+        ),
+        (
+            "ceilings",
+            r#""reads":["temp"]"#,
+            r#""reads":["tempo"]"#,
+            "refused UnknownName /transactions/1/reads/0\n",
+        ),
+        (
+            "ceilings",
+            r#"{"compute":1}"#,
+            r#""quit""#,
+            "refused BadScript /transactions/1/script/2\n",
+        ),
+        (
+            "ceilings",
+            r#""version":1"#,
+            r#""version":2"#,
+            "ceiling temp 3 3\nceiling valve 2 2\n",
+        ),
     ];
     for (command, from, to, text) in rows {
         let input = BASE.replace(alloc, from, to)?;
@@ -106,7 +172,9 @@ fn other_scenarios(rt: HostRuntime) -> Result<(), Fail> {
     let trial = ["run", "--trial"].as_slice();
     let admit = ["admit"].as_slice();
     let late = SOLO.replace(alloc, r#""steps":4"#, r#""steps":5"#)?;
-    let late = late.as_str().replace(alloc, r#"{"compute":2}"#, r#"{"compute":3}"#)?;
+    let late = late
+        .as_str()
+        .replace(alloc, r#"{"compute":2}"#, r#"{"compute":3}"#)?;
     let apart = TOGETHER.replace(alloc, r#""within":45"#, r#""within":46"#)?;
     let alone = TOGETHER.replace(alloc, r#"["a","b"],"within""#, r#"["a"],"within""#)?;
     let twice = UNWRITTEN.replace(
@@ -116,18 +184,43 @@ fn other_scenarios(rt: HostRuntime) -> Result<(), Fail> {
     )?;
     let rows = [
         (run, SOLO, Status::Ok, "final x 1 8\nend\n"),
-        (run, late.as_str(), Status::Refused, "refused NotSchedulable solo 5\n"),
+        (
+            run,
+            late.as_str(),
+            Status::Refused,
+            "refused NotSchedulable solo 5\n",
+        ),
         (trial, late.as_str(), Status::Ok, "final x 0 0\nend\n"),
         (run, CYCLE, Status::Refused, "refused CyclicDerivation a\n"),
         (run, UNWRITTEN, Status::Refused, "refused NoWriter p\n"),
-        (run, twice.as_str(), Status::Refused, "refused TwoWriters p a b\n"),
+        (
+            run,
+            twice.as_str(),
+            Status::Refused,
+            "refused TwoWriters p a b\n",
+        ),
         (run, EMPTY, Status::Ok, "end\n"),
         (admit, EMPTY, Status::Ok, "admitted\n"),
         (run, NONE, Status::Refused, "refused NotJson\n"),
         (run, "{\"version\":1,", Status::Refused, "refused NotJson\n"),
-        (admit, TOGETHER, Status::Refused, "refused TooApart rd 0 46\n"),
-        (admit, apart.as_str(), Status::Ok, "bound ta 2 4\nbound tb 2 6\nbound rd 0 7\nage a 14\nage b 46\nadmitted\n"),
-        (admit, alone.as_str(), Status::Refused, "refused BadTogether 0\n"),
+        (
+            admit,
+            TOGETHER,
+            Status::Refused,
+            "refused TooApart rd 0 46\n",
+        ),
+        (
+            admit,
+            apart.as_str(),
+            Status::Ok,
+            "bound ta 2 4\nbound tb 2 6\nbound rd 0 7\nage a 14\nage b 46\nadmitted\n",
+        ),
+        (
+            admit,
+            alone.as_str(),
+            Status::Refused,
+            "refused BadTogether 0\n",
+        ),
     ];
     for (words, input, status, text) in rows {
         let (got, said) = replied(alloc, words, input)?;
@@ -210,7 +303,11 @@ fn plain_commands(rt: HostRuntime) -> Result<(), Fail> {
     let rows = [
         (["run"].as_slice(), Status::Usage, USAGE),
         (["run", "--trial"].as_slice(), Status::Usage, USAGE),
-        (["ceilings"].as_slice(), Status::Ok, "ceiling temp 3 3\nceiling valve 2 2\n"),
+        (
+            ["ceilings"].as_slice(),
+            Status::Ok,
+            "ceiling temp 3 3\nceiling valve 2 2\n",
+        ),
     ];
     for (words, status, text) in rows {
         let words = words_of(alloc, words)?;

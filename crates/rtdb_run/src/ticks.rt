@@ -17,11 +17,7 @@ pub(crate) fn any_eager(releases: &[Releases]) -> bool
 }
 
 // So many ticks, each a period after the one before.
-fn periodic(
-    alloc: Global,
-    txn: &TxnDecl,
-    jobs: u32,
-) -> Result<List<Tick>, OutOfMemory>
+fn periodic(alloc: Global, txn: &TxnDecl, jobs: u32) -> Result<List<Tick>, OutOfMemory>
     requires times { HasTextTimes txn.now }
     requires few { jobs ≤ 65536 }
     ensures { IfOk result (λ l. l ≡ ticks_of txn.now (Releases.Jobs jobs)) }
@@ -34,11 +30,7 @@ fn periodic(
 }
 
 // The fixed ticks of one transaction.
-fn fixed(
-    alloc: Global,
-    txn: &TxnDecl,
-    releases: &Releases,
-) -> Result<List<Tick>, OutOfMemory>
+fn fixed(alloc: Global, txn: &TxnDecl, releases: &Releases) -> Result<List<Tick>, OutOfMemory>
     requires times { HasTextTimes txn.now }
     requires few { jobs_of releases.now ≤ 65536 }
     ensures { IfOk result (λ l. l ≡ ticks_of txn.now releases.now) }

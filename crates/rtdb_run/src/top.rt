@@ -1,12 +1,13 @@
 //! The top call.
-ghost use Rattle.std.specs.Prelude.{◌≡◌, ◌⊎◌, ◌≤◌, length, [], Some, IfOk, IsErrOf};
+ghost use Rattle.std.specs.Prelude.{◌≡◌, ◌⊎◌, ◌≤◌, length, [], Some, Ok, IfOk, IsErrOf};
 ghost use Rattle.io_edge.specs.Causes.{Rose};
 ghost use Rattle.scenario.specs.Shown.{shown};
 ghost use Rattle.scenario.specs.Scenarios.{IsScenario};
+ghost use Rattle.scenario_forms.specs.Root.{forms_view};
 ghost use Rattle.scenario_reader.specs.Reading.{data_of};
 ghost use Rattle.rtdb_run.specs.declared.top.Stop.TheVariants.{Memory};
 ghost use Rattle.rtdb_run.specs.Commands.{command_of, plain_command_of, IsInRange};
-ghost use Rattle.rtdb_run.specs.Replies.{names_in, ScenarioReply, DataReply, generated_text};
+ghost use Rattle.rtdb_run.specs.Replies.{names_in, names_of_forms, ScenarioReply, DataReply, generated_text};
 ghost use Rattle.rtdb_run.specs.Answers.{Judged, Answers, IsGood};
 
 use crate::command::{Command, Question, Word, read_command, read_plain_command};
@@ -17,7 +18,7 @@ use crate::status::Status;
 use io_edge::{ReadError, Sink, Source, read_all, write_all};
 use rt_base::{List, Names, OutOfMemory};
 use scenario::Scenario;
-use scenario_forms::{FormError, read_forms, read_value};
+use scenario_forms::{FormError, Forms, ItemTable, TxnTable, read_forms, read_value};
 use scenario_reader::{ScenarioError, read_scenario};
 use scenario_writer::{generated, write_scenario};
 use std::alloc::{AllocError, Global};
@@ -60,12 +61,34 @@ fn names(alloc: Global, input: &[u8]) -> Result<Names, OutOfMemory>
         Err(_) => return Ok(no_names(alloc)),
     };
     match read_forms(alloc, &value) {
-        Ok(forms) => Ok(Names {
-            items: List::of(forms.items.names),
-            txns: List::of(forms.txns.names),
-        }),
+        Ok(forms) => Ok(names_of(forms)),
         Err(FormError::OutOfMemory) => Err(OutOfMemory),
         Err(_) => Ok(no_names(alloc)),
+    }
+}
+
+fn names_of(forms: Forms) -> Names
+    ensures { result ≡ names_of_forms (Ok (forms_view forms)) }
+{
+    let Forms {
+        version: _,
+        items,
+        txns,
+        sets: _,
+    } = forms;
+    let ItemTable {
+        places: _,
+        names: items,
+        decls: _,
+    } = items;
+    let TxnTable {
+        places: _,
+        names: txns,
+        txns: _,
+    } = txns;
+    Names {
+        items: List::of(items),
+        txns: List::of(txns),
     }
 }
 
@@ -135,11 +158,7 @@ fn generate(alloc: Global, n: u32) -> Result<Reply, OutOfMemory>
 }
 
 // The reply to a command.
-fn answer<S: Source>(
-    alloc: Global,
-    command: Option<Command>,
-    source: &mut S,
-) -> Result<Reply, Stop>
+fn answer<S: Source>(alloc: Global, command: Option<Command>, source: &mut S) -> Result<Reply, Stop>
     requires { IsInRange command }
     ensures ok { IfOk result (λ r. Judged command (S.left source.old) (S.left source.new) r.status r.text.items) }
     ensures fault { IsErrOf result Stop.Fault → Rose (S.faults source.old) (S.faults source.new) }

@@ -38,6 +38,7 @@ needed_in place (Some d) m h = found (option_and_then as_u64 (as_number d)) m h
     met : (o : Option ℕ) (m : ℕ) → needed place o ≡ Ok m → o ≡ Some m
     met None m h = absurd cc
     met (Some n) m h = cc
+
     found : (o : Option ℕ) (m : ℕ)
         → needed place (option_and_then (λ n. if nat_le 1 n && nat_le n (2 ^ 40) then Some n else None) o) ≡ Ok m
         → (1 ≤ m) × (m ≤ 2 ^ 40)

@@ -55,18 +55,18 @@ pub turns : (decls : List ItemDecl) (t : TxnDecl) (ops : List ScriptOp) (place :
     → w' ≡ after w (operation op) → IsWalking decls t ops (place + 1) w'
 turns decls t ops place op w w' h lt is good may next =
     subst (λ (x : Walk). IsWalking decls t ops (place + 1) x) (sym next) (record {
-  sized = sized_after (length decls) w (operation op) h.sized;
-  stands = subst (λ (before : List Operation). StandsFor (length decls) t before (after w (operation op)))
-      (sym (front_at ops place op lt is))
-      (goes_on (length decls) t (map operation (take place ops)) (operation op) w h.sized h.stands);
-  same = ap (λ (before : List Operation). bad_op_after decls t before (map operation (drop (place + 1) ops)))
-      (front_at ops place op lt is)
-      ∙ passes_on decls t (map operation (take place ops)) (map operation (drop (place + 1) ops)) (operation op)
-      (bad_op decls t (map operation ops))
-      (sym (stands_same decls t (map operation (take place ops)) w (operation op) h.stands
-      (good_at (length decls) ops place op lt is good)) ∙ may)
-      (ap (bad_op_after decls t (map operation (take place ops))) (sym (rest_at ops place op lt is)) ∙ h.same);
-})
+      sized = sized_after (length decls) w (operation op) h.sized;
+      stands = subst (λ (before : List Operation). StandsFor (length decls) t before (after w (operation op)))
+          (sym (front_at ops place op lt is))
+          (goes_on (length decls) t (map operation (take place ops)) (operation op) w h.sized h.stands);
+      same = ap (λ (before : List Operation). bad_op_after decls t before (map operation (drop (place + 1) ops)))
+          (front_at ops place op lt is)
+          ∙ passes_on decls t (map operation (take place ops)) (map operation (drop (place + 1) ops)) (operation op)
+          (bad_op decls t (map operation ops))
+          (sym (stands_same decls t (map operation (take place ops)) w (operation op) h.stands
+          (good_at (length decls) ops place op lt is good)) ∙ may)
+          (ap (bad_op_after decls t (map operation (take place ops))) (sym (rest_at ops place op lt is)) ∙ h.same);
+    })
 
 pub stops : (decls : List ItemDecl) (t : TxnDecl) (ops : List ScriptOp) (place : ℕ) (op : ScriptOp) (w : Walk)
     → IsWalking decls t ops place w → place < length ops → op ≡ get_or ops place op

@@ -56,7 +56,7 @@ module _ (places : Places) (names : List (List ℕ)) (placed : ArePlaced places 
   expr_back (leaf_last i) zero low below fits = absurd (omega arith)
   expr_back (leaf_last i) (suc n) low below fits = at_level n _ _ refl
       ∙ ap (λ (o : Option ItemId). Some (last_of o)) (item_back places names placed i (ltb-true i.0
-          (length names) below))
+      (length names) below))
   expr_back (node op a b) zero low below fits = absurd (omega arith)
   expr_back (node op a b) (suc n) low below fits = at_level n _ _ (node_shape op (expr_data names a)
       (expr_data names b))

@@ -55,10 +55,10 @@ module _ (s : Shown) where
   unfolding items_at
   items_back second h =
       then _ (items_of (items_data s.names.items s.items)) _ (found_member places.Items as_array (codes "items")
-          (canonical_as second s)
+      (canonical_as second s)
       (array_of (items_data s.names.items s.items)) _ refl refl)
       ∙ items_from s.names.items s.items (λ q. None) [] [] h.named_items
-          (all_fresh s.names.items h.item_names) h.valid h.initial
+      (all_fresh s.names.items h.item_names) h.valid h.initial
 
   txns_found : (second : Bool) → member_at places.Txns as_array (codes "transactions") (canonical_as second s)
       ≡ Ok (items_of (txns_in second s))
@@ -79,7 +79,7 @@ module _ (s : Shown) where
   unfolding sets_at
   sets_back true h =
       then _ (items_of (map (set_data s.names.items) s.together)) _ (found_or no_items places.Together as_array
-          (codes "together")
+      (codes "together")
       (canonical_as true s) (array_of (map (set_data s.names.items) s.together)) _ refl refl)
       ∙ sets_from s.names.items (places_of s.names.items) (placed true h) s.together [] h.sets
   sets_back false h =
@@ -94,5 +94,5 @@ module _ (s : Shown) where
       ∙ then _ (table (places_of s.names.items) s.names.items s.items) _ (items_back second h)
       ∙ then _ ((read_forms second s).txns) _
       (ap (λ (b : Bool). txns_at b (places_of s.names.items) (canonical_as second s)) (same_version second)
-          ∙ txns_back second h)
+      ∙ txns_back second h)
       ∙ then _ (map read_set s.together) _ (sets_back second h)

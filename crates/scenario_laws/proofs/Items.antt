@@ -51,20 +51,20 @@ gets_value name State initial = refl
 kind_part : (i : ℕ) (name : List ℕ) (kind : ItemKind) (initial : ℤ) → HasValidity kind
     → (f : ItemKind → Result (List ℕ × ItemDecl) FormError)
     → (member_at (places.ItemMember i members.Kind) kind_form (codes "kind") (item_data name
-        (record { kind = kind; initial = initial }))
+    (record { kind = kind; initial = initial }))
     >>= λ word. item_kind (places.ItemMember i members.Validity) word (item_data name
-        (record { kind = kind; initial = initial })) >>= f)
+    (record { kind = kind; initial = initial })) >>= f)
     ≡ f kind
 unfolding item_kind
 kind_part i name (Sensor validity) initial h f =
     then _ _ _ (found_member (places.ItemMember i members.Kind) kind_form (codes "kind") _ _ _ refl refl)
     ∙ then _ (Sensor validity) f (then _ validity _ (found_member (places.ItemMember i members.Validity) (whole 1
-        (2 ^ 40))
+    (2 ^ 40))
     (codes "validity") _ _ validity refl (whole_back 1 (2 ^ 40) validity h.0 h.1)))
 kind_part i name (Derived validity) initial h f =
     then _ _ _ (found_member (places.ItemMember i members.Kind) kind_form (codes "kind") _ _ _ refl refl)
     ∙ then _ (Derived validity) f (then _ validity _ (found_member (places.ItemMember i members.Validity) (whole 1
-        (2 ^ 40))
+    (2 ^ 40))
     (codes "validity") _ _ validity refl (whole_back 1 (2 ^ 40) validity h.0 h.1)))
 kind_part i name State initial h f =
     then _ _ _ (found_member (places.ItemMember i members.Kind) kind_form (codes "kind") _ _ _ refl refl)
@@ -78,13 +78,13 @@ item_back p i name decl plain new valid fits =
     then _ formed_unit _ (ap (λ (b : Bool). needed (places.Item i) (cond b (Some formed_unit) None))
     (only_members name decl.kind decl.initial))
     ∙ then _ name _ (found_member (places.ItemMember i members.Name) (new_name p) (codes "name") (item_data name decl)
-        (word name) name
+    (word name) name
     (gets_name name decl.kind decl.initial) (new_back p name plain new))
     ∙ kind_part i name decl.kind decl.initial valid _
     ∙ then _ decl.initial _ (found_or (pos 0) (places.ItemMember i members.Value) integer (codes "value")
-        (item_data name decl)
+    (item_data name decl)
     (written.integer decl.initial) decl.initial (gets_value name decl.kind decl.initial)
-        (integer_back decl.initial fits))
+    (integer_back decl.initial fits))
 
 one_item : (name : List ℕ) (d : ItemDecl) (p : Places) (ns : List (List ℕ)) (ds : List ItemDecl) → is_name name ≡ true
     → p name ≡ None → HasValidity d.kind → FitsSigned w64 d.initial
@@ -108,16 +108,16 @@ items_from (name ∷ names) (d ∷ decls) p ns ds same fresh valid fits =
     let fit : FitsSigned w64 d.initial = head (λ e. FitsSigned w64 e.initial) d decls fits in
     let fit_others : All (λ e. FitsSigned w64 e.initial) decls = tail (λ e. FitsSigned w64 e.initial) d decls fits in
     unfold_step item_step (table p ns ds) (with_item (table p ns ds) (name, d)) (item_data name d)
-        (items_data names decls) _
+    (items_data names decls) _
     (one_item name d p ns ds (fresh.plain 0 (omega arith)) (fresh.new 0 (omega arith)) first fit)
     (items_from names decls (noted p (length ns) name) (ns ++ name ∷ []) (ds ++ d ∷ []) (omega arith)
     (rest_fresh p (length ns) name names fresh) others fit_others
     ∙ ap (λ (n : ℕ). Ok (table (noted_all (noted p (length ns) name) n names) ((ns ++ name ∷ []) ++ names)
-        ((ds ++ d ∷ []) ++ decls)))
+    ((ds ++ d ∷ []) ++ decls)))
     (length-append ns (name ∷ []))
     ∙ ap (λ (ms : List (List ℕ)). Ok (table (noted_all (noted p (length ns) name) (length ns + 1) names) ms
-        ((ds ++ d ∷ []) ++ decls)))
+    ((ds ++ d ∷ []) ++ decls)))
     (append_assoc ns (name ∷ []) names)
     ∙ ap (λ (es : List ItemDecl). Ok (table (noted_all (noted p (length ns) name) (length ns + 1) names)
-        (ns ++ name ∷ names) es))
+    (ns ++ name ∷ names) es))
     (append_assoc ds (d ∷ []) decls))

@@ -51,7 +51,7 @@ all_pass p (x ∷ xs) h =
 none_passes : {A : Type 0} (p : A → Bool) (xs : List A) → All (λ x. p x ≡ false) xs → position p xs ≡ None
 none_passes p xs h = ap (λ (b : Bool). cond b (Some (position_or_len p xs)) None)
     (le-ltb (position_or_len p xs) (length xs) (let e : position_or_len p xs ≡ length xs = all_pass p xs h in omega
-        arith))
+    arith))
 
 all_known : (ids : List ItemId) → All (λ x. is_unknown x ≡ false) (map Some ids)
 all_known [] k d lt = absurd (omega arith)
@@ -70,8 +70,12 @@ none_unknown_op : (ops : List Operation) → position is_unknown_op (map known_o
 none_unknown_op ops = none_passes is_unknown_op (map known_op ops) (all_known_ops ops)
 
 none_in : (i : ℕ) (w : Written) → unknown_in i (read_txn w) ≡ None
-none_in i w = rw (none_unknown w.decl.reads, none_unknown w.decl.writes, none_unknown_op
-    (merged_ops w.program.ops)) refl
+none_in i w = rw (
+  none_unknown w.decl.reads,
+  none_unknown w.decl.writes,
+  none_unknown_op
+      (merged_ops w.program.ops),
+) refl
 
 none_from : (i : ℕ) (ws : List Written) → unknown_from i (map read_txn ws) ≡ None
 none_from i [] = refl
@@ -105,7 +109,7 @@ InOrder n ids = AllPairs (λ x y. x.0 < y.0) ids × All (λ i. i.0 < n) ids
 same_decl : (n : ℕ) (w : Written) → InOrder n w.decl.reads → InOrder n w.decl.writes → decl_of n (read_txn w) ≡ w.decl
 same_decl n w h g =
     ap (λ (ids : List ItemId). with_items w.decl ids (in_item_order n (map Some w.decl.writes)))
-        (in_order n w.decl.reads h.0 h.1)
+    (in_order n w.decl.reads h.0 h.1)
     ∙ ap (λ (ids : List ItemId). with_items w.decl w.decl.reads ids) (in_order n w.decl.writes g.0 g.1)
 
 made_txns : (n : ℕ) (ns : List (List ℕ)) (ts : List TxnDecl) (ps : List Program) (rs : List Releases)
@@ -127,7 +131,7 @@ made_txns n (m ∷ ns) (t ∷ ts) (p ∷ ps) (r ∷ rs) a b c h =
 same_program : (n : ℕ) (w : Written) → w.program.items ≡ n → program_from n (read_txn w) ≡ merged_program w.program
 same_program n w over =
     ap (λ (os : List Operation). record { ops = os; samples = w.program.samples; items = n }) (same_ops
-        (merged_ops w.program.ops))
+    (merged_ops w.program.ops))
     ∙ ap (λ (k : ℕ). record { ops = merged_ops w.program.ops; samples = w.program.samples; items = k }) (sym over)
 
 made_programs : (n : ℕ) (ns : List (List ℕ)) (ts : List TxnDecl) (ps : List Program) (rs : List Releases)
@@ -144,7 +148,7 @@ made_programs n (m ∷ ns) (t ∷ ts) (p ∷ ps) (r ∷ rs) a b c h =
     ap (λ (q : Program). q ∷ map (program_from n) (map read_txn (written ns ts ps rs)))
     (same_program n (record { name = m; decl = t; program = p; releases = r }) here)
     ∙ ap (λ (qs : List Program). merged_program p ∷ qs) (made_programs n ns ts ps rs (omega arith) (omega arith)
-        (omega arith)
+    (omega arith)
     (λ k d lt. h (suc k) d (omega arith)))
 
 made_releases : (ns : List (List ℕ)) (ts : List TxnDecl) (ps : List Program) (rs : List Releases)
@@ -191,27 +195,32 @@ module _ (s : Shown) (h : IsScenario s) where
   made_back =
       ap (λ (ms : List (List ℕ)). shown_of s.names.items ms s.items
       (map (decl_of (length s.items)) (map read_txn (all_written s))) (map (group_of (length s.items))
-          (map read_set s.together))
+      (map read_set s.together))
       (map (program_from (length s.items)) (map read_txn (all_written s))) (map (λ t. t.releases) (map read_txn
-          (all_written s))))
+      (all_written s))))
       (names_written s.names.txns s.txns s.programs s.releases h.named_txns h.scripted h.released)
       ∙ ap (λ (ts : List TxnDecl). shown_of s.names.items s.names.txns s.items ts
       (map (group_of (length s.items)) (map read_set s.together)) (map (program_from (length s.items)) (map read_txn
-          (all_written s)))
+      (all_written s)))
       (map (λ t. t.releases) (map read_txn (all_written s))))
       (made_txns (length s.items) s.names.txns s.txns s.programs s.releases h.named_txns h.scripted h.released
-      (λ k d lt. (((h.reads k d lt).rising, (h.reads k d lt).in_range), ((h.writes k d lt).rising,
-          (h.writes k d lt).in_range))))
+      (λ k d lt. (
+        ((h.reads k d lt).rising, (h.reads k d lt).in_range),
+        (
+          (h.writes k d lt).rising,
+          (h.writes k d lt).in_range,
+        ),
+      )))
       ∙ ap (λ (gs : List TogetherDecl). shown_of s.names.items s.names.txns s.items s.txns gs
       (map (program_from (length s.items)) (map read_txn (all_written s))) (map (λ t. t.releases) (map read_txn
-          (all_written s))))
+      (all_written s))))
       (made_sets (length s.items) s.together (λ k d lt. ((h.together k d lt).rising, (h.together k d lt).in_range)))
       ∙ ap (λ (ps : List Program). shown_of s.names.items s.names.txns s.items s.txns s.together ps
       (map (λ t. t.releases) (map read_txn (all_written s))))
       (made_programs (length s.items) s.names.txns s.txns s.programs s.releases h.named_txns h.scripted h.released
       (λ k d lt. (h.programs k d lt).over))
       ∙ ap (λ (rs : List Releases). shown_of s.names.items s.names.txns s.items s.txns s.together
-          (map merged_program s.programs) rs)
+      (map merged_program s.programs) rs)
       (made_releases s.names.txns s.txns s.programs s.releases h.named_txns h.scripted h.released)
 
   unknown_none : unknown_name (read_forms (is_second s) s) ≡ None
@@ -222,20 +231,20 @@ module _ (s : Shown) (h : IsScenario s) where
   judged_well =
       let m : IsScenario (merged s) = merged_is s h in
       let low_room : room_of s ≤ 2 ^ 20 = (let e : s.room ≡ room_of s = h.room in let r : s.room ≤ 2 ^ 20 =
-          h.small_room in omega arith) in
+      h.small_room in omega arith) in
       ap (λ (r : Result (Unit {0}) ScenarioError). r >>= λ scripts. judged_jobs (with_room 0 (merged s)))
       (thens (pass (option_map script_error (bad_script (merged s)))) tt (λ good. pass (option_map long_error
-          (long_script (merged s))))
+      (long_script (merged s))))
       (ap (λ (o : Option (ℕ × ℕ)). pass (option_map script_error o)) m.good_scripts)
       ∙ ap (λ (o : Option ℕ). pass (option_map long_error o)) m.short_scripts)
       ∙ thens (pass (above 65536 TooManyJobs (total_jobs s.releases))) tt _ (passes_low 65536
-          (total_jobs s.releases) TooManyJobs h.few_jobs)
+      (total_jobs s.releases) TooManyJobs h.few_jobs)
       ∙ thens (pass (option_map release_error (bad_release s))) tt _
       (ap (λ (o : Option (ℕ × ℕ × PlanRefused)). pass (option_map release_error o)) h.planned)
       ∙ thens (pass (above (2 ^ 20) RoomTooLarge (room_of s))) tt _ (passes_low (2 ^ 20)
-          (room_of s) RoomTooLarge low_room)
+      (room_of s) RoomTooLarge low_room)
       ∙ thens (pass (above (2 ^ 40) EagerTooFar (eager_end s))) tt _ (passes_low (2 ^ 40)
-          (eager_end s) EagerTooFar h.eager)
+      (eager_end s) EagerTooFar h.eager)
 
   from_forms : scenario_from (read_forms (is_second s) s) ≡ Ok (merged s)
   unfolding scenario_from
@@ -244,7 +253,7 @@ module _ (s : Shown) (h : IsScenario s) where
       (ap (λ (o : Option Place). pass (option_map UnknownName o)) unknown_none)
       ∙ ap (λ (made : Shown). judged made >>= λ room. Ok (with_room room made)) made_back
       ∙ thens (judged (with_room 0 (merged s))) (room_of s) (λ room. Ok (with_room room (with_room 0
-          (merged s)))) judged_well
+      (merged s)))) judged_well
       ∙ ap (λ (room : ℕ). Ok (with_room room (merged s))) (sym h.room)
 
   pub read_back : HasIntegers s → scenario_of (canonical s) ≡ Ok (merged s)

@@ -68,7 +68,7 @@ text_op quit p h = tt
 pub merge_text : (ops : List Operation) → All IsSome ops → steps_of ops ≤ 10000 → All IsTextOp (merged_ops ops)
 merge_text ops h short k d lt =
     let within : width (get_or (merged_ops ops) k d) ≤ steps_of (merged_ops ops) = width_within
-        (merged_ops ops) k d lt in
+    (merged_ops ops) k d lt in
     let same : steps_of (merged_ops ops) ≡ steps_of ops = merge_steps ops h in
     text_op (get_or (merged_ops ops) k d) (merge_some ops h k d lt) (omega arith)
 
@@ -103,7 +103,7 @@ alike_more xs ys us vs h g = record {
   writes = λ item. any_append (is_write_of item) xs us ∙ ap (λ (b : Bool). b || list_any (is_write_of item) us)
       (h.writes item)
       ∙ ap (λ (b : Bool). list_any (is_write_of item) ys || b) (g.writes item) ∙ sym (any_append
-          (is_write_of item) ys vs);
+      (is_write_of item) ys vs);
 }
 
 same_all : {A : Type 0} (p q : A → Bool) → ((x : A) → p x ≡ q x) → (xs : List A) → list_all p xs ≡ list_all q xs
@@ -164,14 +164,14 @@ module _ (decls : List ItemDecl) (t : TxnDecl) where
       (write i value ∷ ops) may none
   join_none before (compute m) (compute n ∷ ops) p h may none =
       let q = parts (may_stand decls t (before ++ compute m ∷ []) (compute n))
-          (bad_op_after decls t ((before ++ compute m ∷ []) ++ compute n ∷ []) ops) (length
-              (before ++ compute m ∷ [])) none in
+      (bad_op_after decls t ((before ++ compute m ∷ []) ++ compute n ∷ []) ops) (length
+      (before ++ compute m ∷ [])) none in
       stands before (compute (m + n)) ops may
       (none_alike ops (before ++ (compute m ∷ compute n ∷ [])) (before ++ compute (m + n) ∷ [])
       (alike_more before before (compute m ∷ compute n ∷ []) (compute (m + n) ∷ []) (alike before)
       (two_as_one m n p (head IsSome (compute n) ops h)))
       (ap (λ (xs : List Operation). bad_op_after decls t xs ops) (sym (append_assoc before (compute m ∷ [])
-          (compute n ∷ []))) ∙ q.1))
+      (compute n ∷ []))) ∙ q.1))
   join_none before (compute m) (commit ∷ ops) p h may none = stands before (compute m) (commit ∷ ops) may none
   join_none before (compute m) (quit ∷ ops) p h may none = stands before (compute m) (quit ∷ ops) may none
   join_none before commit ops p h may none = stands before commit ops may none

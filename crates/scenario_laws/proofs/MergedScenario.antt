@@ -61,7 +61,7 @@ mapped : (P : Program → Type 0) (ps : List Program) → ((k : ℕ) (d : Progra
     → All P (map merged_program ps)
 mapped P ps h k d lt =
     let within : k < length ps = (let e : length (map merged_program ps) ≡ length ps = length-map ps merged_program in
-        omega arith) in
+    omega arith) in
     subst P (sym (get_or-map merged_program ps k d d within)) (h k d within)
 
 module _ (s : Shown) (h : IsScenario s) where

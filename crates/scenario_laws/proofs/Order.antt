@@ -15,18 +15,21 @@ AreFrom a n (i ∷ ids) = (a ≤ i.0) × (i.0 < n) × AreFrom (i.0 + 1) n ids
 are_from : (n : ℕ) (ids : List ItemId) (a : ℕ) → AllPairs (λ x y. x.0 < y.0) ids → All (λ i. i.0 < n) ids
     → ((k : ℕ) (d : ItemId) → k < length ids → a ≤ (get_or ids k d).0) → AreFrom a n ids
 are_from n [] a rising below above = tt
-are_from n (i ∷ ids) a rising below above =
-    (above 0 i (omega arith), below 0 i (omega arith), are_from n ids (i.0 + 1)
-    (λ j k d less lt. rising (suc j) (suc k) d (omega arith) (omega arith))
-    (λ k d lt. below (suc k) d (omega arith))
-    (λ k d lt. let less : i.0 < (get_or ids k d).0 = rising 0 (suc k) d (omega arith) (omega arith) in omega arith))
+are_from n (i ∷ ids) a rising below above = (
+  above 0 i (omega arith),
+  below 0 i (omega arith),
+  are_from n ids (i.0 + 1)
+      (λ j k d less lt. rising (suc j) (suc k) d (omega arith) (omega arith))
+      (λ k d lt. below (suc k) d (omega arith))
+      (λ k d lt. let less : i.0 < (get_or ids k d).0 = rising 0 (suc k) d (omega arith) (omega arith) in omega arith),
+)
 
 same_filter : (p q : ℕ → Bool) (a m : ℕ) → ((x : ℕ) → a ≤ x → p x ≡ q x)
     → filter p (range_with_len a m) ≡ filter q (range_with_len a m)
 same_filter p q a zero h = refl
 same_filter p q a (suc m) h =
     ap (λ (b : Bool). cond b (a ∷ filter p (range_with_len (a + 1) m)) (filter p (range_with_len (a + 1) m))) (h a
-        (omega arith))
+    (omega arith))
     ∙ ap (λ (xs : List ℕ). cond (q a) (a ∷ xs) xs) (same_filter p q (a + 1) m (λ x le. h x (omega arith)))
 
 not_named : (ids : List ItemId) (n a b : ℕ) → AreFrom b n ids → a < b → is_named (map Some ids) a ≡ false
@@ -61,7 +64,7 @@ next_found : (n m a : ℕ) (i : ItemId) (ids : List ItemId) → AreFrom a n (i �
     → map item_id (filter (is_named (map Some (i ∷ ids))) (range_with_len a (suc m))) ≡ i ∷ ids
 next_found n m a i ids h (inl e) rest later =
     ap (map item_id) (takes (is_named (map Some (i ∷ ids))) a m (or_left (i.0 == a) (is_named (map Some ids) a)
-        (eq-eqb i.0 a e))
+    (eq-eqb i.0 a e))
     ∙ ap (λ (xs : List ℕ). a ∷ xs) (same_filter (is_named (map Some (i ∷ ids))) (is_named (map Some ids)) (a + 1) m
     (λ x le. past_first i ids x (omega arith))))
     ∙ ap (λ (xs : List ItemId). item_id a ∷ xs) (rest (subst (λ (k : ℕ). AreFrom (k + 1) n ids) e h.2))
@@ -70,7 +73,7 @@ next_found n m a i ids h (inr other) rest later =
     let above : a ≤ i.0 = h.0 in
     let more : a + 1 ≤ i.0 = above_more a i.0 above other in
     ap (map item_id) (leaves (is_named (map Some (i ∷ ids))) a m (not_named (i ∷ ids) n a (a + 1) (more, h.1, h.2)
-        (omega arith)))
+    (omega arith)))
     ∙ later (more, h.1, h.2)
 
 found_from : (n m a : ℕ) (ids : List ItemId) → a + m ≡ n → AreFrom a n ids

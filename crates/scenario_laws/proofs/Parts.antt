@@ -65,7 +65,7 @@ module _ {X A : Type 0} (place : ℕ → Place) (form : Data → Option A) (f : 
 pub whole_back : (low high n : ℕ) → low ≤ n → n ≤ high → fields.whole low high (canonical.whole n) ≡ Some n
 whole_back low high n above below =
     ap (λ (b : Bool). cond b (Some n) None) (ap (λ (b : Bool). b && nat_le n high) (le-leb low n above)
-        ∙ le-leb n high below)
+    ∙ le-leb n high below)
 
 pub integer_back : (z : ℤ) → FitsSigned w64 z → as_i64 (of_integer z) ≡ Some z
 integer_back (pos n) fits = ap (λ (b : Bool). cond b (Some (pos n)) None) (lt-ltb n (2 ^ 63) (omega arith))

@@ -33,13 +33,13 @@ module _ (names : List (List ℕ)) (items : Places) (placed : ArePlaced items na
   unfolding set_at
   set_back i g h =
       then _ (items_of (map (item_word names) g.items)) _ (found_member (places.SetItems i) as_array (codes "items")
-          (set_data names g)
+      (set_data names g)
       (item_words names g.items) _ refl refl)
       ∙ then _ (map Some g.items) _ (forms_back (λ j. places.SetElement i j) (named items)
-          (item_word names) Some g.items
+      (item_word names) Some g.items
       (λ k e lt. ap Some (item_back items names placed (get_or g.items k e) (h.items k e lt))))
       ∙ then _ g.within _ (found_member (places.SetWithin i) (whole 0 (2 ^ 40)) (codes "within") (set_data names g)
-          (written.whole g.within)
+      (written.whole g.within)
       g.within refl (whole_back 0 (2 ^ 40) g.within (omega arith) h.within))
 
   one_set : (acc : List Together) (g : TogetherDecl) → IsTextSet names g
@@ -72,7 +72,7 @@ module _ (names : List (List ℕ)) (items : Places) (placed : ArePlaced items na
       → AreFresh p (map (λ w. w.name) ws) → All (IsTextTxn second names) ws
       → fold_at (txn_step second items) (txn_table p ns xs) (items_of (map (txn_data second names) ws))
       ≡ Ok (txn_table (noted_all p (length ns) (map (λ w. w.name) ws)) (ns ++ map (λ w. w.name) ws)
-          (xs ++ map read_txn ws))
+      (xs ++ map read_txn ws))
   txns_from second [] p ns xs fresh h =
       unfold_end (txn_step second items) (txn_table p ns xs)
       ∙ ap (λ (ms : List (List ℕ)). Ok (txn_table p ms xs)) (sym (append-nil ns))
@@ -81,15 +81,15 @@ module _ (names : List (List ℕ)) (items : Places) (placed : ArePlaced items na
       unfold_step (txn_step second items) (txn_table p ns xs) (with_txn (txn_table p ns xs) w.name (read_txn w))
       (txn_data second names w) (map (txn_data second names) ws) _
       (one_txn second p ns xs w (head (IsTextTxn second names) w ws h) (fresh.plain 0 (omega arith)) (fresh.new 0
-          (omega arith)))
+      (omega arith)))
       (txns_from second ws (noted p (length ns) w.name) (ns ++ w.name ∷ []) (xs ++ read_txn w ∷ [])
       (rest_fresh p (length ns) w.name (map (λ u. u.name) ws) fresh) (tail (IsTextTxn second names) w ws h)
       ∙ ap (λ (n : ℕ). Ok (txn_table (noted_all (noted p (length ns) w.name) n (map (λ u. u.name) ws))
       ((ns ++ w.name ∷ []) ++ map (λ u. u.name) ws) ((xs ++ read_txn w ∷ []) ++ map read_txn ws))) (length-append ns
-          (w.name ∷ []))
+      (w.name ∷ []))
       ∙ ap (λ (ms : List (List ℕ)). Ok (txn_table (noted_all (noted p (length ns) w.name) (length ns + 1) (map
-          (λ u. u.name) ws))
+      (λ u. u.name) ws))
       ms ((xs ++ read_txn w ∷ []) ++ map read_txn ws))) (append_assoc ns (w.name ∷ []) (map (λ u. u.name) ws))
       ∙ ap (λ (ys : List Txn). Ok (txn_table (noted_all (noted p (length ns) w.name) (length ns + 1) (map
-          (λ u. u.name) ws))
+      (λ u. u.name) ws))
       (ns ++ w.name ∷ map (λ u. u.name) ws) ys)) (append_assoc xs (read_txn w ∷ []) (map read_txn ws)))

@@ -77,11 +77,11 @@ low_ticks : (index earliest period : ℕ) (ticks : List ℕ) → refused_tick in
 low_ticks index earliest period [] h k d lt = absurd (omega arith)
 low_ticks index earliest period (tick ∷ ticks) h zero d lt =
     let far : tick ≤ 2 ^ 40 = ltb-false (2 ^ 40) tick (not_far (nat_lt tick earliest) (nat_lt (2 ^ 40) tick)
-        (index, TooSoon earliest)
+    (index, TooSoon earliest)
     (index, TooFar (2 ^ 40)) (refused_tick (index + 1) (tick + period) period ticks) h).0 in omega arith
 low_ticks index earliest period (tick ∷ ticks) h (suc k) d lt =
     low_ticks (index + 1) (tick + period) period ticks (not_far (nat_lt tick earliest) (nat_lt (2 ^ 40) tick)
-        (index, TooSoon earliest)
+    (index, TooSoon earliest)
     (index, TooFar (2 ^ 40)) (refused_tick (index + 1) (tick + period) period ticks) h).1 k d (omega arith)
 
 in_range : (t : TxnDecl) (r : Releases) → refused_tick 0 0 t.period (ticks_of t r) ≡ None → jobs_of r ≤ 65536
@@ -104,7 +104,7 @@ ranges_from tx (t ∷ ts) (r ∷ rs) h few zero lt = in_range t r
     (none_parts tx (refused_tick 0 0 t.period (ticks_of t r)) (refused_from (tx + 1) ts rs) h).0 (omega arith)
 ranges_from tx (t ∷ ts) (r ∷ rs) h few (suc k) lt = ranges_from (tx + 1) ts rs
     (none_parts tx (refused_tick 0 0 t.period (ticks_of t r)) (refused_from (tx + 1) ts rs) h).1 (omega arith) k
-        (omega arith)
+    (omega arith)
 
 constants_sum : (m n : ℕ) → OpHasConstants (compute m) → OpHasConstants (compute n) → OpHasConstants (compute (m + n))
 constants_sum m n a b = tt

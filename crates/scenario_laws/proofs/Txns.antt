@@ -139,7 +139,7 @@ module _ (names : List (List ℕ)) (name : List ℕ) (t : TxnDecl) (p : Program)
       (written.whole t.quiet) t.quiet (gets_quiet true r) (whole_back 0 (2 ^ 40) t.quiet (omega arith) low)
   quiet_back i false r low none =
       absent_or 0 (places.TxnMember i members.Quiet) (whole 0 (2 ^ 40)) (codes "quiet") (datum false r)
-          (gets_quiet false r)
+      (gets_quiet false r)
       ∙ ap Ok (sym (none refl))
 
   times_back : (i : ℕ) (second : Bool) (r : Releases) → HasRanges second t r
@@ -147,19 +147,19 @@ module _ (names : List (List ℕ)) (name : List ℕ) (t : TxnDecl) (p : Program)
   unfolding times_at
   times_back i second r h =
       then _ t.prio _ (found_member (places.TxnMember i members.Priority) (whole 0 (2 ^ 31)) (codes "priority")
-          (datum second r) (written.whole t.prio) t.prio
+      (datum second r) (written.whole t.prio) t.prio
       (gets_priority second r) (whole_back 0 (2 ^ 31) t.prio (omega arith) h.times.prio))
       ∙ then _ t.period _ (found_member (places.TxnMember i members.Period) (whole 0 (2 ^ 40)) (codes "period")
-          (datum second r) (written.whole t.period) t.period
+      (datum second r) (written.whole t.period) t.period
       (gets_period second r) (whole_back 0 (2 ^ 40) t.period (omega arith) h.times.period))
       ∙ then _ t.offset _ (found_or 0 (places.TxnMember i members.Offset) (whole 0 (2 ^ 40)) (codes "offset")
-          (datum second r) (written.whole t.offset) t.offset
+      (datum second r) (written.whole t.offset) t.offset
       (gets_offset second r) (whole_back 0 (2 ^ 40) t.offset (omega arith) h.times.offset))
       ∙ then _ t.deadline _ (found_or t.period (places.TxnMember i members.Deadline) (whole 0 (2 ^ 40))
-          (codes "deadline") (datum second r) (written.whole t.deadline)
+      (codes "deadline") (datum second r) (written.whole t.deadline)
       t.deadline (gets_deadline second r) (whole_back 0 (2 ^ 40) t.deadline (omega arith) h.times.deadline))
       ∙ then _ t.steps _ (found_member (places.TxnMember i members.Steps) (whole 0 (2 ^ 40)) (codes "steps")
-          (datum second r) (written.whole t.steps) t.steps
+      (datum second r) (written.whole t.steps) t.steps
       (gets_steps second r) (whole_back 0 (2 ^ 40) t.steps (omega arith) h.times.steps))
       ∙ then _ t.quiet _ (quiet_back i second r h.times.quiet h.quiet)
 
@@ -179,7 +179,7 @@ module _ (names : List (List ℕ)) (name : List ℕ) (t : TxnDecl) (p : Program)
     unfolding samples_at
     samples_back i d found fits =
         then _ (items_of (map written.integer p.samples)) _ (found_or _ (places.TxnMember i members.Samples) as_array
-            (codes "samples") d
+        (codes "samples") d
         (array_of (map written.integer p.samples)) _ found refl)
         ∙ forms_back (λ j. places.Element i members.Samples j) integer written.integer (λ z. z) p.samples
         (λ k e lt. integer_back (get_or p.samples k e) (fits k e lt))
@@ -191,7 +191,7 @@ module _ (names : List (List ℕ)) (name : List ℕ) (t : TxnDecl) (p : Program)
     unfolding script_at
     script_back i d found good text fits =
         then _ (items_of (map (op_data names) (merged_ops p.ops))) _ (found_or _
-            (places.TxnMember i members.Script) as_array
+        (places.TxnMember i members.Script) as_array
         (codes "script") d (script_data names p.ops) _ found refl)
         ∙ forms_back (λ j. places.Element i members.Script j) (op_in items) (op_data names) known_op (merged_ops p.ops)
         (λ k e lt. op_back items names placed (get_or (merged_ops p.ops) k e) (good k e lt) (text k e lt) (fits k e lt))
@@ -204,10 +204,10 @@ module _ (names : List (List ℕ)) (name : List ℕ) (t : TxnDecl) (p : Program)
   unfolding fixed_at
   ticks_back i second ticks low found no_jobs no_eager =
       then _ (items_of (map written.whole ticks)) _ (found_or _ (places.TxnMember i members.Releases) as_array
-          (codes "releases")
+      (codes "releases")
       (datum second (At ticks)) (array_of (map written.whole ticks)) _ found refl)
       ∙ then _ ticks _ (forms_back (λ j. places.Element i members.Releases j) (whole 0 (2 ^ 53)) written.whole
-          (λ n. n) ticks
+      (λ n. n) ticks
       (λ k e lt. whole_back 0 (2 ^ 53) (get_or ticks k e) (omega arith) (low k e lt)) ∙ ap Ok (map-id ticks))
       ∙ then _ formed_unit _ no_jobs ∙ then _ formed_unit _ no_eager
 
@@ -218,7 +218,7 @@ module _ (names : List (List ℕ)) (name : List ℕ) (t : TxnDecl) (p : Program)
   unfolding counted_at
   jobs_back i second n low found no_eager =
       then _ n _ (found_member (places.TxnMember i members.Jobs) (whole 0 (2 ^ 31)) (codes "jobs") (datum second
-          (Jobs n)) (written.whole n) n
+      (Jobs n)) (written.whole n) n
       found (whole_back 0 (2 ^ 31) n (omega arith) low))
       ∙ then _ formed_unit _ no_eager
 
@@ -228,7 +228,7 @@ module _ (names : List (List ℕ)) (name : List ℕ) (t : TxnDecl) (p : Program)
   unfolding eager_at
   eager_back i second n low found =
       then _ n _ (found_member (places.TxnMember i members.Eager) (whole 0 (2 ^ 31)) (codes "eager") (datum second
-          (Eager n)) (written.whole n) n
+      (Eager n)) (written.whole n) n
       found (whole_back 0 (2 ^ 31) n (omega arith) low))
 
   releases_back : (i : ℕ) (second : Bool) (r : Releases) → InTextRange r → releases_at i (datum second r) ≡ Ok r
@@ -245,9 +245,9 @@ module _ (names : List (List ℕ)) (name : List ℕ) (t : TxnDecl) (p : Program)
   unfolding txn_name
   name_back taken i second r plain new =
       then _ formed_unit _ (ap (λ (b : Bool). needed (places.Txn i) (cond b (Some formed_unit) None))
-          (only_members second r))
+      (only_members second r))
       ∙ found_member (places.TxnMember i members.Name) (new_name taken) (codes "name") (datum second r)
-          (word name) name (gets_name second r)
+      (word name) name (gets_name second r)
       (new_back taken name plain new)
 
   pub txn_back : (items : Places) → ArePlaced items names → (i : ℕ) (second : Bool) (r : Releases)
@@ -257,10 +257,10 @@ module _ (names : List (List ℕ)) (name : List ℕ) (t : TxnDecl) (p : Program)
   txn_back items placed i second r h =
       then _ (times_of t) _ (times_back i second r h.ranges)
       ∙ then _ (map Some t.reads) _ (words_back items placed i members.Reads (codes "reads") (datum second r) t.reads
-          (gets_reads second r) h.reads)
+      (gets_reads second r) h.reads)
       ∙ then _ (map Some t.writes) _ (words_back items placed i members.Writes (codes "writes")
-          (datum second r) t.writes (gets_writes second r) h.writes)
+      (datum second r) t.writes (gets_writes second r) h.writes)
       ∙ then _ r _ (releases_back i second r h.ranges.releases)
       ∙ then _ p.samples _ (samples_back items placed i (datum second r) (gets_samples second r) h.samples)
       ∙ then _ (map known_op (merged_ops p.ops)) _ (script_back items placed i (datum second r)
-          (gets_script second r) h.good h.text h.constants)
+      (gets_script second r) h.good h.text h.constants)

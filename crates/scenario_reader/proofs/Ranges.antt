@@ -381,8 +381,14 @@ Names = List (Option ItemId)
 abbrev after_samples : Places → ℕ → Data → Times → Names → Names → Releases → List ℤ → Result Txn FormError
 after_samples items i d times read_names write_names releases samples =
     script_at items i d >>= λ script. Ok
-    (record { times = times; reads = read_names; writes = write_names; releases = releases; samples = samples;
-    script = script })
+    (record {
+      times = times;
+      reads = read_names;
+      writes = write_names;
+      releases = releases;
+      samples = samples;
+      script = script;
+    })
 
 abbrev after_releases : Places → ℕ → Data → Times → Names → Names → Releases → Result Txn FormError
 after_releases items i d times read_names write_names releases =
@@ -415,8 +421,14 @@ txn_good n places range i d =
     (after_samples places i d times read_names write_names releases)
     (λ samples samples_is. through (IsGoodTxn n) (script_at places i d)
     (λ script. Ok
-    (record { times = times; reads = read_names; writes = write_names; releases = releases; samples = samples;
-    script = script }))
+    (record {
+      times = times;
+      reads = read_names;
+      writes = write_names;
+      releases = releases;
+      samples = samples;
+      script = script;
+    }))
     (λ script script_is. record {
       times = text_times n
           (record { times = times; reads = read_names; writes = write_names; releases = releases; samples = samples; script = script })

@@ -1,7 +1,5 @@
-use Rattle.std.proofs.Common.{◌≡◌, ℕ, ◌+◌, ◌*◌, ◌++◌, List, [], ◌∷◌, map, sym, ap, ◌∙◌, arith}
-use Rattle.std.specs.List.{range_with_len}
-use Rattle.std.proofs.lemmas.List.FromFn.{map-range_with_len_more}
+use Rattle.rtdb_run.proofs.FixedMore.{next_tick}
 use Rattle.rtdb_run.proofs.ticks.periodic.Goals as goal
 
 pub loop-k-preserved : goal.loop-k-preserved
-loop-k-preserved c = ?
+loop-k-preserved c = next_tick c.args.txn.now.offset c.args.txn.now.period c.loop-k.k c.loop-k.ticks.items c.push.new.self.items c.in_ok-push.ensures.items c.loop-k.invariant

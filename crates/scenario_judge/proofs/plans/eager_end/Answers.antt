@@ -16,5 +16,9 @@ overflow_add-result c =
     ∙ ap (λ (rs : List Releases). greatest (map greatest (fixed_ticks c.args.scenario.now.txns rs)))
     c.as_slice-releases.ensures))
     (fixed_near 0 c.args.scenario.now.txns c.args.scenario.now.releases c.requires.planned) in
-    omega (arith, last, product_below c.eager_jobs.result c.longest_period.result c.eager_jobs.ensures.few
-    c.longest_period.ensures.fits)
+    omega (
+      arith,
+      last,
+      product_below c.eager_jobs.result c.longest_period.result c.eager_jobs.ensures.few
+          c.longest_period.ensures.fits,
+    )
