@@ -4,3 +4,4 @@ pub mod Compiles
 pub mod FixedTicks
 pub mod Ready
 pub mod FixedMore
+pub mod Replying

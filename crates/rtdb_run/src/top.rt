@@ -236,9 +236,15 @@ pub fn rtdb<S: Source, K: Sink>(
         → (result ≡ Status.Ok) ⊎ (result ≡ Status.OutOfMemory) }
 {
     match read_command(words) {
-        Some(Command::Ask(Question::Run { trial })) => run(
+        Some(Command::Ask(Question::Run { trial: true })) => run(
             alloc,
-            Some(Command::Ask(Question::Run { trial })),
+            Some(Command::Ask(Question::Run { trial: true })),
+            source,
+            sink,
+        ),
+        Some(Command::Ask(Question::Run { trial: false })) => run(
+            alloc,
+            Some(Command::Ask(Question::Run { trial: false })),
             source,
             sink,
         ),

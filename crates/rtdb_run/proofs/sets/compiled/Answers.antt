@@ -14,3 +14,8 @@ pub returns-in-Ok-clause-passed : goal.returns-in-Ok-clause-passed
 returns-in-Ok-clause-passed c =
     let same = c.in-Ok.ensures.set ∙ kept_from _ _ _ _ _ _ c.into_vec.ensures c.into_vec-2.ensures c.into_vec-3.ensures c.requires in
     sym (ap compile_refusal same) ∙ c.in-Ok.ensures.passed
+
+pub returns-else-wants_memory-clause-refused : goal.returns-else-wants_memory-clause-refused
+returns-else-wants_memory-clause-refused c =
+    let same = kept_from _ _ _ _ _ _ c.into_vec.ensures c.into_vec-2.ensures c.into_vec-3.ensures c.requires in
+    sym (ap compile_refusal same) ∙ is_refusal _ c.in-Err.error (sym c.wants_memory.ensures ∙ c.if-wants_memory.false) c.in-Err.ensures.refused
