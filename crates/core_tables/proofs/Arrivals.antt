@@ -1,13 +1,13 @@
 -- The loop of the releases.
-use Rattle.std.proofs.Common.{◌≡◌, ℕ, ◌<◌, List, length, Option, None, Some, refl, ap, sym, ◌∙◌, subst, arith}
+use Rattle.std.proofs.Common.{◌≡◌, ℕ, List, Option, None, Some, refl, ap, sym, ◌∙◌, subst}
 use Rattle.std.specs.List.{fold}
 use Rattle.std.specs.Prelude.{MatchOption}
 use Rattle.rt_base.specs.declared.ids.JobId.{JobId}
 use Rattle.rt_base.specs.declared.release.Release.{Release}
 use Rattle.release_calendar.specs.Agenda.{Agenda, Holds, NothingDue, IsDue, SamePlans, without, left}
-use Rattle.step_journal.specs.State.{Row, row_of}
+use Rattle.step_journal.specs.State.{Row}
 use Rattle.step_journal.specs.Instant.{with_row}
-use Rattle.pending_jobs.specs.Rows.{Facts, PendingSeen}
+use Rattle.pending_jobs.specs.Rows.{PendingSeen}
 use Rattle.core_tables.specs.Changes.{due_jobs, later}
 use Rattle.core_tables.specs.Arriving.{CanRelease, CanReleaseSome}
 use Rattle.core_tables.proofs.Releases.{one, release_rows, release_can, later_without, none_due}

@@ -1,6 +1,6 @@
 -- The events of a tick on the tables are the definition's.
-use Rattle.std.proofs.Common.{◌≡◌, ◌≢◌, ◌⊎◌, ℕ, zero, suc, ◌+◌, ◌^◌, ◌<◌, ◌≤◌, ◌==◌, Bool, true, false, cond, List, [], ◌∷◌, ◌++◌, map, length, Option, None, Some, get_or, set as with_item, refl, ap, sym, ◌∙◌, subst, inl, inr, arith, length-append, get_or-set_same, get_or-set_other}
-use Rattle.std.proofs.lemmas.Bool.{cases_lt, cases_eq, eqb-true, eq-eqb, ne_eqb}
+use Rattle.std.proofs.Common.{◌≡◌, ◌≢◌, ℕ, zero, suc, ◌+◌, ◌^◌, ◌<◌, ◌≤◌, ◌==◌, Bool, true, false, cond, List, [], ◌∷◌, ◌++◌, map, length, Option, None, Some, set as with_item, refl, ap, sym, ◌∙◌, subst, inl, inr, arith, length-append, get_or-set_same, get_or-set_other}
+use Rattle.std.proofs.lemmas.Bool.{cases_lt, cases_eq, eq-eqb, ne_eqb}
 use Rattle.std.proofs.Math.ListN.{get_or-map}
 use Rattle.std.proofs.lemmas.List.{get_or_past, length-set, length-map, append-nil}
 use Rattle.std.specs.List.{filter, fold}
@@ -10,21 +10,20 @@ use Rattle.rt_base.specs.declared.operation.End.{End}
 use Rattle.rt_base.specs.declared.operation.End.TheVariants as end
 use Rattle.rt_base.specs.declared.release.Release.{Release}
 use Rattle.release_calendar.specs.Agenda.{Agenda, Holds, SamePlans}
-use Rattle.txn_set.specs.Set.{Set, IsCompiled, txn_of}
+use Rattle.txn_set.specs.Set.{Set}
 use Rattle.step_journal.specs.declared.entry.EndedJob.{EndedJob}
 use Rattle.step_journal.specs.State.{State, Row, row_of, pending}
 use Rattle.step_journal.specs.LockRule.{in_falling_priority}
 use Rattle.step_journal.specs.Instant.{freed, is_due, with_row, with_end, with_late, with_cancellations, with_releases, arrived}
-use Rattle.history_laws.proofs.Members.{In, filter_in, in_filter, in_pending, pending_in}
-use Rattle.history_laws.proofs.Invariant.{IsPending, in_range}
-use Rattle.history_laws.proofs.Calendar.{Frame, in_sorted, sorted_in, row_none}
-use Rattle.board.specs.Answers.{ended_jobs, ended_number, last_end}
-use Rattle.pending_jobs.specs.Rows.{Facts, PendingSeen, AreRows, AreFactsOf}
+use Rattle.history_laws.proofs.Members.{In, in_filter, in_pending}
+use Rattle.history_laws.proofs.Calendar.{Frame, in_sorted, row_none}
+use Rattle.board.specs.Answers.{ended_jobs, ended_number}
+use Rattle.pending_jobs.specs.Rows.{PendingSeen, AreFactsOf}
 use Rattle.core_tables.specs.declared.tally.Tally.{Tally}
 use Rattle.core_tables.specs.Seen.{TablesSeen, no_tally, tally_of, tallies_after, counted}
 use Rattle.core_tables.specs.Tables.{AreTables, AreTallies}
 use Rattle.core_tables.specs.Changes.{rows_without, late_jobs, rows_cancelled, tallies_cancelled, tally_late, due_jobs, later}
-use Rattle.core_tables.specs.Arriving.{CanArrive, CanCancel, CanCancelSome, CanRelease, CanReleaseSome, ArrivesSome}
+use Rattle.core_tables.specs.Arriving.{CanArrive, CanCancel, CanRelease}
 
 -- one more ended job
 

@@ -1,7 +1,7 @@
 -- The highest late job ends: what is still to be cancelled, and the counts, stay as they were.
-use Rattle.std.proofs.Common.{◌≡◌, ◌≢◌, ℕ, zero, suc, ◌+◌, ◌^◌, ◌<◌, ◌≤◌, List, [], ◌∷◌, map, length, Option, None, Some, get_or, set as with_item, refl, ap, sym, ◌∙◌, subst, inl, arith}
+use Rattle.std.proofs.Common.{◌≡◌, ◌≢◌, ℕ, zero, suc, ◌+◌, ◌<◌, ◌≤◌, List, [], ◌∷◌, map, length, Option, None, Some, get_or, refl, ap, sym, ◌∙◌, subst, inl, arith}
 use Rattle.std.proofs.lemmas.List.{length-set}
-use Rattle.std.proofs.lemmas.Bool.{eq-eqb, eqb-true}
+use Rattle.std.proofs.lemmas.Bool.{eqb-true}
 use Rattle.std.specs.List.{filter, fold}
 use Rattle.std.specs.Option.{option_map}
 use Rattle.rt_base.specs.declared.ids.JobId.{JobId}
@@ -13,7 +13,7 @@ use Rattle.txn_set.specs.declared.decl.TxnDecl.{TxnDecl}
 use Rattle.step_journal.specs.State.{Row, row_of, pending}
 use Rattle.step_journal.specs.LockRule.{highest, in_falling_priority}
 use Rattle.step_journal.specs.Instant.{is_due}
-use Rattle.history_laws.proofs.Members.{In, filter_in, in_filter, in_pending, pending_in, highest_none}
+use Rattle.history_laws.proofs.Members.{In, filter_in, pending_in, highest_none}
 use Rattle.history_laws.proofs.Invariant.{in_range}
 use Rattle.history_laws.proofs.Calendar.{Frame, frame_without}
 use Rattle.pending_jobs.specs.Rows.{Facts, PendingSeen, AreFactsOf, rows_ended}

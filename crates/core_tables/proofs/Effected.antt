@@ -1,5 +1,5 @@
 -- The effect of a granted step on the tables is the definition's, and a wait.
-use Rattle.std.proofs.Common.{◌≡◌, ◌≢◌, ◌⊎◌, ℕ, zero, suc, ◌+◌, ◌^◌, ◌<◌, ◌≤◌, ◌==◌, Bool, true, false, cond, ◌&&◌, List, [], ◌∷◌, ◌++◌, map, length, Option, None, Some, get_or, set as with_item, refl, ap, sym, ◌∙◌, subst, inl, inr, arith, get_or-set_same}
+use Rattle.std.proofs.Common.{◌≡◌, ℕ, ◌+◌, ◌^◌, ◌<◌, ◌==◌, Bool, true, List, map, length, Option, None, Some, set as with_item, refl, ap, sym, ◌∙◌, subst, arith, get_or-set_same}
 use Rattle.std.proofs.lemmas.Bool.{and_parts}
 use Rattle.std.proofs.lemmas.List.{set-set, length-set}
 use Rattle.std.specs.Prelude.{nat_le}
@@ -11,26 +11,25 @@ use Rattle.rt_base.specs.declared.operation.End.{End}
 use Rattle.item_model.specs.Work.{outcome_of}
 use Rattle.item_model.specs.declared.stored.Stored.{Stored}
 use Rattle.ceiling_table.specs.Held.{HasItem}
-use Rattle.txn_set.specs.Set.{Set, IsCompiled, txn_of, names_item}
+use Rattle.txn_set.specs.Set.{Set, txn_of, names_item}
 use Rattle.step_journal.specs.State.{State, Row, row_of}
 use Rattle.step_journal.specs.Instant.{freed, with_end, is_due, arrived}
 use Rattle.step_journal.specs.LockRule.{Above, refusal, needs_lock}
-use Rattle.step_journal.specs.Step.{may_ask, lock_refusal, given, row_after, end_by, settled, after_effect, with_step, end_of, with_wait}
-use Rattle.step_journal.specs.Running.{running}
-use Rattle.history_laws.proofs.Invariant.{IsPending, in_range, running_is}
+use Rattle.step_journal.specs.Step.{may_ask, row_after, end_by, settled, after_effect, with_step, end_of, with_wait}
+use Rattle.history_laws.proofs.Invariant.{in_range}
 use Rattle.history_laws.proofs.Calendar.{named_from}
 use Rattle.history_laws.proofs.Never.{refusal_at}
 use Rattle.board.specs.Over.{over_of}
-use Rattle.pending_jobs.specs.Rows.{Facts, PendingSeen, AreRows, AreFactsOf, Accesses, IsDeclared, accesses_at, accesses_of, rows_stepped, rows_waiting}
+use Rattle.pending_jobs.specs.Rows.{PendingSeen, AreFactsOf, Accesses, IsDeclared, accesses_at, accesses_of, rows_stepped, rows_waiting}
 use Rattle.pending_jobs.specs.Waiting.{MayWait}
 use Rattle.pending_jobs.proofs.Protocols.{may_wait}
 use Rattle.core_tables.specs.declared.tally.Tally.{Tally}
 use Rattle.core_tables.specs.Seen.{TablesSeen, tally_of}
 use Rattle.core_tables.specs.Tables.{AreTables}
 use Rattle.core_tables.specs.Legal.{IsLegalState, IsGranted, IsBlocked}
-use Rattle.core_tables.specs.Changes.{rows_without, items_settled, pending_settled, tallies_settled}
+use Rattle.core_tables.specs.Changes.{items_settled, pending_settled, tallies_settled}
 use Rattle.core_tables.specs.Arriving.{CanArrive}
-use Rattle.core_tables.proofs.Facts.{Known, known, effect_arrives}
+use Rattle.core_tables.proofs.Facts.{known, effect_arrives}
 use Rattle.core_tables.proofs.Arrived.{one_ended, tallies_few}
 use Rattle.core_tables.proofs.Refusals.{accesses_are, item_of}
 

@@ -1,23 +1,22 @@
 -- What is known of the state after a legal history.
-use Rattle.std.proofs.Common.{◌≡◌, ◌≢◌, ◌⊎◌, ℕ, zero, suc, ◌+◌, ◌^◌, ◌<◌, ◌≤◌, ◌==◌, Bool, true, false, cond, List, [], ◌∷◌, ◌++◌, map, length, Option, None, Some, get_or, set as with_item, refl, ap, sym, ◌∙◌, subst, inl, inr, arith, length-append}
+use Rattle.std.proofs.Common.{◌≡◌, ℕ, ◌+◌, ◌^◌, ◌<◌, ◌≤◌, ◌==◌, Bool, true, false, cond, List, [], ◌∷◌, ◌++◌, length, Option, None, Some, get_or, refl, sym, subst, inl, inr, arith}
 use Rattle.std.proofs.lemmas.Bool.{eq-eqb, cases_lt}
-use Rattle.std.proofs.lemmas.List.{get_or_past, length-map}
-use Rattle.std.specs.List.{filter, fold}
+use Rattle.std.specs.List.{filter}
 use Rattle.rt_base.specs.declared.ids.JobId.{JobId}
 use Rattle.rt_base.specs.declared.operation.Op.{Op}
 use Rattle.rt_base.specs.declared.operation.End.{End}
 use Rattle.rt_base.specs.declared.release.Release.{Release}
-use Rattle.txn_set.specs.Set.{Set, IsCompiled, txn_of}
+use Rattle.txn_set.specs.Set.{Set, IsCompiled}
 use Rattle.step_journal.specs.declared.entry.Entry.{Entry}
 use Rattle.step_journal.specs.declared.entry.EndedJob.{EndedJob}
-use Rattle.step_journal.specs.State.{State, Row, row_of, pending}
+use Rattle.step_journal.specs.State.{State, Row, pending}
 use Rattle.step_journal.specs.Running.{running}
 use Rattle.step_journal.specs.Instant.{is_due, with_end}
-use Rattle.step_journal.specs.Step.{plans_of, row_after, end_by, settled, after_effect, with_step, end_of, lock_refusal, next_tick, earlier}
+use Rattle.step_journal.specs.Step.{plans_of, row_after, end_by, settled, after_effect, with_step, end_of, next_tick, earlier}
 use Rattle.step_journal.specs.History.{IsLegal, state_of}
-use Rattle.history_laws.proofs.Members.{In, in_pending}
+use Rattle.history_laws.proofs.Members.{In}
 use Rattle.history_laws.proofs.Invariant.{IsPending, Runs, running_is, in_range}
-use Rattle.history_laws.proofs.Calendar.{Frame, Sound, named_from, times_at, apart_due, deadline_le}
+use Rattle.history_laws.proofs.Calendar.{Sound, named_from, times_at, apart_due, deadline_le}
 use Rattle.history_laws.proofs.Histories.{settled_sound, idle_early}
 use Rattle.history_laws.proofs.Never.{legal_sound, refused_all, never_stuck}
 use Rattle.history_laws.proofs.DelayAll.{legal_delay}

@@ -1,18 +1,17 @@
 -- The jobs that are late at a tick: the highest of them ends, and the others stay in their order.
-use Rattle.std.proofs.Common.{◌≡◌, ◌≢◌, ◌⊎◌, ℕ, zero, suc, ◌+◌, ◌<◌, ◌≤◌, ◌==◌, Bool, true, false, cond, List, [], ◌∷◌, ◌++◌, map, length, Option, None, Some, get_or, set as with_item, refl, ap, sym, ◌∙◌, subst, inl, inr, arith, length-append, get_or-set_other}
-use Rattle.std.proofs.lemmas.Bool.{cases_lt, cases_order, cases_eq, lt-ltb, le-ltb, ltb-true, eq-eqb}
+use Rattle.std.proofs.Common.{◌≡◌, ◌≢◌, ℕ, zero, suc, ◌+◌, ◌<◌, ◌≤◌, Bool, true, false, cond, List, [], ◌∷◌, ◌++◌, map, length, Option, None, Some, get_or, set as with_item, refl, ap, sym, ◌∙◌, subst, inl, inr, arith, length-append, get_or-set_other}
+use Rattle.std.proofs.lemmas.Bool.{cases_lt, cases_order, cases_eq, lt-ltb, le-ltb}
 use Rattle.std.proofs.lemmas.List.Elements.{filter-append}
 use Rattle.std.specs.Prelude.{nat_lt, slice_get}
-use Rattle.std.specs.List.{filter, fold}
+use Rattle.std.specs.List.{filter}
 use Rattle.std.specs.Option.{option_map}
 use Rattle.rt_base.specs.declared.ids.JobId.{JobId}
-use Rattle.txn_set.specs.Set.{Set, IsCompiled, txn_of}
+use Rattle.txn_set.specs.Set.{Set, IsCompiled}
 use Rattle.step_journal.specs.State.{Row, row_of, pending, prio}
 use Rattle.step_journal.specs.LockRule.{placed, in_falling_priority, highest}
 use Rattle.step_journal.specs.Instant.{freed, is_due}
-use Rattle.history_laws.proofs.Members.{In, filter_in, in_filter, in_pending, pending_in, highest_is}
+use Rattle.history_laws.proofs.Members.{In, filter_in, pending_in, highest_is}
 use Rattle.history_laws.proofs.Holding.{in_left}
-use Rattle.history_laws.proofs.Invariant.{AreNamed}
 use Rattle.history_laws.proofs.Calendar.{Frame, named_from, sorted_in}
 use Rattle.core_tables.specs.Changes.{rows_without, late_jobs}
 

@@ -1,5 +1,5 @@
 -- The tables at the start.
-use Rattle.std.proofs.Common.{◌≡◌, ℕ, zero, suc, ◌<◌, ◌≤◌, ◌^◌, List, [], ◌∷◌, map, length, replicate, Option, None, Some, get_or, refl, ap, sym, ◌∙◌, subst, arith}
+use Rattle.std.proofs.Common.{◌≡◌, ℕ, zero, suc, ◌<◌, List, [], ◌∷◌, map, length, replicate, None, refl, ap, sym, ◌∙◌, subst, arith}
 use Rattle.std.proofs.Math.ListN.{get_or-map}
 use Rattle.std.proofs.lemmas.List.{length-map}
 use Rattle.std.proofs.lemmas.List.Sorted.{IsPermutation-refl}
@@ -8,16 +8,16 @@ use Rattle.rt_base.specs.declared.release.Plans.{Plans}
 use Rattle.rt_base.specs.declared.release.Release.{Release}
 use Rattle.item_model.specs.declared.stored.Stored.{Stored}
 use Rattle.item_model.specs.Kinds.{initial_of}
-use Rattle.release_calendar.specs.Agenda.{Agenda, ArePeriods, Holds, no_plans}
+use Rattle.release_calendar.specs.Agenda.{Agenda, ArePeriods, no_plans}
 use Rattle.txn_set.specs.Set.{Set, IsCompiled, no_txn}
 use Rattle.txn_set.specs.declared.decl.TxnDecl.{TxnDecl}
-use Rattle.step_journal.specs.State.{State, Row, opening}
+use Rattle.step_journal.specs.State.{opening}
 use Rattle.history_laws.proofs.Calendar.{times_at}
 use Rattle.board.specs.Answers.{most_planned}
 use Rattle.pending_jobs.specs.Rows.{PendingSeen, AreRows}
 use Rattle.core_tables.specs.declared.tally.Tally.{Tally}
-use Rattle.core_tables.specs.Seen.{TablesSeen, no_tally, tally_of}
-use Rattle.core_tables.specs.Tables.{AreTables, AreTallies}
+use Rattle.core_tables.specs.Seen.{no_tally, tally_of}
+use Rattle.core_tables.specs.Tables.{AreTables}
 
 pub are_periods : (set : Set) (periods : List ℕ) → IsCompiled set → periods ≡ map (λ (t : TxnDecl). t.period) set.txns → ArePeriods periods
 are_periods set periods ok e = subst ArePeriods (sym e) (λ tx lt.

@@ -1,16 +1,15 @@
 -- A plan: its release is noted, or takes place at once.
-use Rattle.std.proofs.Common.{◌≡◌, ◌≢◌, ◌⊎◌, ℕ, zero, suc, ◌+◌, ◌^◌, ◌<◌, ◌≤◌, ◌==◌, Bool, true, false, cond, List, [], ◌∷◌, ◌++◌, map, length, Option, None, Some, Result, Ok, Err, get_or, set as with_item, refl, ap, sym, ◌∙◌, subst, inl, inr, arith, length-append}
-use Rattle.std.proofs.lemmas.Bool.{eqb-true, eq-eqb, ne_eqb, eqb-false, and_parts, and_from}
+use Rattle.std.proofs.Common.{◌≡◌, ◌≢◌, ℕ, ◌+◌, ◌<◌, ◌≤◌, ◌==◌, Bool, true, false, cond, List, [], ◌∷◌, ◌++◌, length, Option, None, Some, Result, Ok, get_or, set as with_item, refl, ap, sym, ◌∙◌, subst, inl, inr, arith}
+use Rattle.std.proofs.lemmas.Bool.{eqb-true, eq-eqb, ne_eqb, and_parts, and_from}
 use Rattle.std.proofs.lemmas.List.{length-map}
 use Rattle.std.specs.Prelude.{MatchOption}
-use Rattle.std.specs.List.{All, Contains}
 use Rattle.rt_base.specs.declared.ids.JobId.{JobId}
 use Rattle.rt_base.specs.declared.release.Plans.{Plans}
 use Rattle.rt_base.specs.declared.release.Release.{Release}
 use Rattle.rt_base.specs.declared.release.PlanRefused.{PlanRefused}
-use Rattle.rt_base.specs.Planning.{calendar_refusal, last_tick}
+use Rattle.rt_base.specs.Planning.{calendar_refusal}
 use Rattle.release_calendar.specs.Agenda.{Agenda, Holds, IsPlanned, NothingDue, IsDue, SamePlans, refusal, plans_of as plans_by, next_job as job_by, same_release, without, left}
-use Rattle.txn_set.specs.Set.{Set, IsCompiled, txn_of}
+use Rattle.txn_set.specs.Set.{Set, txn_of}
 use Rattle.step_journal.specs.State.{State, Row, row_of}
 use Rattle.step_journal.specs.Instant.{with_row}
 use Rattle.step_journal.specs.Step.{plans_of, earliest, next_job, with_plan}
@@ -18,13 +17,13 @@ use Rattle.history_laws.proofs.Members.{In}
 use Rattle.history_laws.proofs.Holding.{in_right, append_in}
 use Rattle.history_laws.proofs.Invariant.{IsPending}
 use Rattle.history_laws.proofs.Calendar.{row_none, times_at}
-use Rattle.board.specs.Answers.{most_planned, plan_reply, plan_judged, unless_refused}
+use Rattle.board.specs.Answers.{most_planned, plan_reply, unless_refused}
 use Rattle.board.proofs.More.{Passes, passes}
-use Rattle.pending_jobs.specs.Rows.{PendingSeen, AreRows}
+use Rattle.pending_jobs.specs.Rows.{PendingSeen}
 use Rattle.core_tables.specs.Seen.{TablesSeen}
 use Rattle.core_tables.specs.Tables.{AreTables}
-use Rattle.core_tables.specs.Legal.{IsLegalState, Stand}
-use Rattle.core_tables.proofs.Facts.{Known, known}
+use Rattle.core_tables.specs.Legal.{IsLegalState}
+use Rattle.core_tables.proofs.Facts.{known}
 use Rattle.core_tables.proofs.Plans.{refusal_at, plans_at}
 use Rattle.core_tables.proofs.Releases.{due_in, all_in, one}
 

@@ -1,25 +1,22 @@
 -- The calendar's answers are those of the state, and a plan.
-use Rattle.std.proofs.Common.{◌≡◌, ◌≢◌, ◌⊎◌, ℕ, zero, suc, ◌+◌, ◌^◌, ◌<◌, ◌≤◌, ◌==◌, Bool, true, false, cond, List, [], ◌∷◌, ◌++◌, map, length, replicate, Option, None, Some, Result, Ok, Err, get_or, set as with_item, refl, ap, sym, ◌∙◌, subst, inl, inr, arith, length-append}
+use Rattle.std.proofs.Common.{◌≡◌, ℕ, ◌+◌, ◌<◌, ◌≤◌, ◌==◌, Bool, cond, List, [], ◌∷◌, length, Option, None, Some, Result, Ok, Err, get_or, refl, ap, sym, ◌∙◌}
 use Rattle.std.proofs.Math.ListN.{get_or-map}
-use Rattle.std.proofs.lemmas.List.{length-map, length-set}
 use Rattle.std.proofs.lemmas.Bool.{le-leb}
 use Rattle.board.proofs.Tests.{lt_false}
 use Rattle.std.proofs.lemmas.List.Sorted.{length_permutation}
-use Rattle.std.specs.Prelude.{nat_le, MatchOption, max}
-use Rattle.std.specs.List.{All, Contains}
+use Rattle.std.specs.Prelude.{nat_le}
 use Rattle.rt_base.specs.declared.ids.JobId.{JobId}
 use Rattle.rt_base.specs.declared.release.Plans.{Plans}
 use Rattle.rt_base.specs.declared.release.Release.{Release}
 use Rattle.rt_base.specs.declared.release.PlanRefused.{PlanRefused}
 use Rattle.rt_base.specs.declared.release.PlanRefused.TheVariants as refused
 use Rattle.rt_base.specs.Planning.{calendar_refusal}
-use Rattle.release_calendar.specs.Agenda.{Agenda, Holds, IsPlanned, NothingDue, IsDue, SamePlans, earliest as earliest_by, refusal, plans_of as plans_by, next_job as job_by, least_tick, earlier as earlier_by, without, left}
-use Rattle.txn_set.specs.Set.{Set, IsCompiled, txn_of, no_txn}
+use Rattle.release_calendar.specs.Agenda.{earliest as earliest_by, refusal, plans_of as plans_by, least_tick, earlier as earlier_by}
+use Rattle.txn_set.specs.Set.{Set, txn_of, no_txn}
 use Rattle.txn_set.specs.declared.decl.TxnDecl.{TxnDecl}
-use Rattle.step_journal.specs.State.{State, Row, row_of}
-use Rattle.step_journal.specs.Instant.{with_row}
-use Rattle.step_journal.specs.Step.{plans_of, earliest, next_job, next_tick, earlier, with_plan}
-use Rattle.board.specs.Answers.{most_planned, plan_reply, unless_refused, next_tick_for}
+use Rattle.step_journal.specs.State.{State}
+use Rattle.step_journal.specs.Step.{plans_of, earliest, next_job, next_tick, earlier}
+use Rattle.board.specs.Answers.{most_planned, plan_reply, unless_refused}
 use Rattle.core_tables.specs.Seen.{TablesSeen}
 use Rattle.core_tables.specs.Tables.{AreTables}
 

@@ -1,10 +1,10 @@
 -- The refusal that the code finds is the board's answer, and where there is none the operation is granted.
-use Rattle.std.proofs.Common.{◌≡◌, ◌≢◌, ℕ, zero, suc, ◌+◌, ◌-◌, ◌^◌, ◌<◌, ◌≤◌, ◌==◌, Bool, true, false, cond, not, ◌&&◌, ◌||◌, List, [], ◌∷◌, map, length, Option, None, Some, get_or, refl, ap, sym, ◌∙◌, subst, arith}
+use Rattle.std.proofs.Common.{◌≡◌, ℕ, suc, ◌-◌, ◌<◌, ◌==◌, Bool, true, false, cond, not, ◌&&◌, ◌||◌, List, [], ◌∷◌, length, Option, None, Some, get_or, refl, ap, sym, ◌∙◌, subst, arith}
 use Rattle.std.proofs.Math.ListN.{get_or-map}
 use Rattle.std.proofs.lemmas.Bool.{eqb-true, eq-eqb, and_from, and_parts, leb-false}
 use Rattle.std.specs.Prelude.{nat_lt, nat_le, is_some, MatchOption}
-use Rattle.std.specs.List.{AllPairs, list_any}
-use Rattle.std.specs.Option.{option_map, option_and_then}
+use Rattle.std.specs.List.{list_any}
+use Rattle.std.specs.Option.{option_map}
 use Rattle.rt_base.specs.declared.ids.ItemId.{ItemId}
 use Rattle.rt_base.specs.declared.ids.JobId.{JobId}
 use Rattle.rt_base.specs.declared.operation.Op.{Op}
@@ -13,15 +13,14 @@ use Rattle.item_model.specs.Work.{Work, outcome_of}
 use Rattle.strict_commit.specs.Jobs.{unwritten_of}
 use Rattle.ceiling_table.specs.Held.{HasItem}
 use Rattle.txn_set.specs.Set.{Set, IsCompiled, AreItemsOf, txn_of, no_txn, names_item}
-use Rattle.txn_set.specs.declared.decl.TxnDecl.{TxnDecl}
 use Rattle.step_journal.specs.State.{State, Row, row_of, same_job}
 use Rattle.step_journal.specs.LockRule.{Above}
 use Rattle.step_journal.specs.Running.{running, job_row}
 use Rattle.step_journal.specs.Step.{may_ask, lock_refusal, with_step, end_of}
-use Rattle.history_laws.proofs.Invariant.{IsPending, same_job_is}
+use Rattle.history_laws.proofs.Invariant.{same_job_is}
 use Rattle.board.specs.declared.replies.StepReply.{StepReply}
 use Rattle.board.specs.declared.replies.StepReply.TheVariants as reply
-use Rattle.board.specs.Answers.{step_reply, running_reply, asked_reply, checked, early_or, unwritten_or, unwritten, lock_reply, ended_number, last_end}
+use Rattle.board.specs.Answers.{step_reply, running_reply, asked_reply, checked, unwritten_or, unwritten, lock_reply, ended_number, last_end}
 use Rattle.board.proofs.Asks.{complete_is, job_row_here}
 use Rattle.board.proofs.Tests.{le_not_lt, lt_not_le, lt_false}
 use Rattle.pending_jobs.specs.Rows.{Facts, AreFactsOf, Accesses, accesses_at, accesses_of, head_of}
@@ -31,7 +30,7 @@ use Rattle.core_tables.specs.Tables.{AreTables}
 use Rattle.core_tables.specs.Legal.{IsLegalState, IsGranted, Refuses}
 use Rattle.core_tables.specs.Changes.{denied, access_by}
 use Rattle.core_tables.specs.Asks.{asked_by, turned_by, refused_by, first_of, blocked_by}
-use Rattle.core_tables.proofs.Facts.{Known, known}
+use Rattle.core_tables.proofs.Facts.{known}
 use Rattle.core_tables.proofs.Cancels.{row_named}
 
 -- the declared items of a transaction

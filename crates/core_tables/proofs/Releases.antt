@@ -1,16 +1,15 @@
 -- The releases of a tick take place one after another, in any order, since they are of different transactions.
-use Rattle.std.proofs.Common.{◌≡◌, ◌≢◌, ◌⊎◌, ℕ, zero, suc, ◌+◌, ◌<◌, ◌≤◌, ◌==◌, ◌&&◌, not, Bool, true, false, cond, List, [], ◌∷◌, map, length, Option, None, Some, get_or, set as with_item, refl, ap, sym, ◌∙◌, subst, inl, inr, arith, get_or-set_other}
-use Rattle.std.proofs.lemmas.Bool.{cases_eq, eqb-true, eq-eqb, ne_eqb, and_parts, and_from, eqb-false}
+use Rattle.std.proofs.Common.{◌≡◌, ◌≢◌, ◌⊎◌, ℕ, zero, suc, ◌<◌, ◌==◌, ◌&&◌, not, Bool, true, false, cond, List, [], ◌∷◌, map, length, Option, None, Some, get_or, set as with_item, refl, ap, sym, ◌∙◌, subst, inl, inr, arith, get_or-set_other}
+use Rattle.std.proofs.lemmas.Bool.{eqb-true, eq-eqb, and_parts, and_from}
 use Rattle.std.proofs.lemmas.List.{length-set}
 use Rattle.std.proofs.lemmas.List.Sorted.{length_permutation, IsPermutation-refl}
-use Rattle.std.specs.List.{filter, fold, All, Contains}
-use Rattle.std.specs.List.Sorted.{IsPermutation}
+use Rattle.std.specs.List.{filter, fold, All}
 use Rattle.rt_base.specs.declared.ids.JobId.{JobId}
 use Rattle.rt_base.specs.declared.release.Release.{Release}
 use Rattle.release_calendar.specs.Agenda.{Agenda, Holds, NothingDue, IsDue, same_release, without, left as rest_of}
 use Rattle.step_journal.specs.State.{Row, row_of, new_row}
 use Rattle.step_journal.specs.Instant.{with_row}
-use Rattle.history_laws.proofs.Members.{In, filter_in, in_filter}
+use Rattle.history_laws.proofs.Members.{In, in_filter}
 use Rattle.history_laws.proofs.Calendar.{AreApart}
 use Rattle.core_tables.specs.Changes.{due_jobs, later}
 use Rattle.core_tables.specs.Arriving.{CanRelease}

@@ -1,18 +1,17 @@
 -- What is granted, blocked or idle is a step of the definition, and what a board answers.
-use Rattle.std.proofs.Common.{◌≡◌, ℕ, ◌<◌, Bool, true, false, cond, List, [], Option, None, Some, refl, ap, sym, ◌∙◌, subst}
+use Rattle.std.proofs.Common.{◌≡◌, ℕ, Bool, true, cond, List, Option, None, Some, ap, ◌∙◌}
 use Rattle.std.proofs.lemmas.Bool.{eq-eqb, and_from}
-use Rattle.std.specs.Prelude.{is_some, nat_le}
 use Rattle.std.specs.Option.{option_map, option_and_then}
 use Rattle.rt_base.specs.declared.ids.JobId.{JobId}
 use Rattle.rt_base.specs.declared.operation.Op.{Op}
 use Rattle.txn_set.specs.Set.{Set}
 use Rattle.item_model.specs.Work.{outcome_of}
 use Rattle.step_journal.specs.declared.entry.Entry.TheVariants.{Step, Blocked, Idle}
-use Rattle.step_journal.specs.State.{State, Row, pending, same_job}
+use Rattle.step_journal.specs.State.{State, Row, same_job}
 use Rattle.step_journal.specs.LockRule.{Above}
-use Rattle.step_journal.specs.Running.{running, job_row, of_job}
+use Rattle.step_journal.specs.Running.{running, of_job}
 use Rattle.step_journal.specs.Instant.{arrived}
-use Rattle.step_journal.specs.Step.{ask, idle, step, given, asked, answered, idled, may_ask, lock_refusal, with_step, with_wait, end_of, next_tick}
+use Rattle.step_journal.specs.Step.{ask, idle, step, given, asked, answered, idled, may_ask, lock_refusal, with_step, with_wait, end_of}
 use Rattle.core_tables.specs.Legal.{IsGranted, IsBlocked, IsIdle}
 
 same_is : (a b : JobId) → a ≡ b → same_job a b ≡ true

@@ -1,9 +1,9 @@
 -- What the events of a tick rest on.
-use Rattle.std.specs.Prelude.{◌≡◌, ℕ, ◌+◌, ◌^◌, ◌<◌, ◌≤◌, ◌==◌, true, List, length, Option, None, Some}
+use Rattle.std.specs.Prelude.{◌≡◌, ℕ, ◌+◌, ◌^◌, ◌<◌, ◌==◌, true, List, length, Option, None, Some}
 use Rattle.std.specs.List.{filter}
 use Rattle.rt_base.specs.declared.release.Release.{Release}
 use Rattle.release_calendar.specs.Agenda.{Agenda, Holds}
-use Rattle.txn_set.specs.Set.{Set, txn_of}
+use Rattle.txn_set.specs.Set.{Set}
 use Rattle.step_journal.specs.State.{State, Row, row_of, pending}
 use Rattle.step_journal.specs.Instant.{is_due}
 use Rattle.board.specs.Answers.{ended_number}

@@ -1,7 +1,7 @@
 -- How the tables change where jobs end or are released, and what an operation is refused for before the room is looked at.
-use Rattle.std.specs.Prelude.{◌≡◌, ℕ, ◌+◌, ◌-◌, ◌<◌, ◌≤◌, ◌==◌, nat_lt, nat_le, not, Bool, if◌then◌else◌, List, length, map, Option, None, Some, slice_set}
+use Rattle.std.specs.Prelude.{ℕ, ◌-◌, ◌==◌, nat_lt, not, if◌then◌else◌, List, map, Option, None, Some, slice_set}
 use Rattle.std.specs.List.{filter, fold}
-use Rattle.std.specs.Option.{option_map, option_map_or}
+use Rattle.std.specs.Option.{option_map}
 use Rattle.rt_base.specs.declared.ids.JobId.{JobId}
 use Rattle.rt_base.specs.declared.ids.ItemId.{ItemId}
 use Rattle.rt_base.specs.declared.operation.Op.{Op}
@@ -12,9 +12,9 @@ use Rattle.rt_base.specs.declared.release.Release.{Release}
 use Rattle.item_model.specs.declared.stored.Stored.{Stored}
 use Rattle.item_model.specs.Work.{items_after}
 use Rattle.txn_set.specs.Set.{Set, txn_of, names_item}
-use Rattle.step_journal.specs.State.{State, Row, row_of, pending}
+use Rattle.step_journal.specs.State.{Row, pending}
 use Rattle.step_journal.specs.LockRule.{in_falling_priority}
-use Rattle.step_journal.specs.Instant.{freed, is_due, with_row}
+use Rattle.step_journal.specs.Instant.{freed, is_due}
 use Rattle.board.specs.declared.replies.StepReply.{StepReply}
 use Rattle.board.specs.declared.replies.StepReply.TheVariants as reply
 use Rattle.board.specs.Answers.{unwritten}

@@ -1,11 +1,10 @@
 -- The state after a legal history, and the steps that it can take.
-use Rattle.std.specs.Prelude.{◌≡◌, ℕ, ◌<◌, Bool, true, List, [], None, Some}
+use Rattle.std.specs.Prelude.{◌≡◌, ℕ, true, List, [], None, Some}
 use Rattle.rt_base.specs.declared.ids.JobId.{JobId}
 use Rattle.rt_base.specs.declared.operation.Op.{Op}
 use Rattle.txn_set.specs.Set.{Set, IsCompiled}
 use Rattle.step_journal.specs.declared.entry.Entry.{Entry}
 use Rattle.step_journal.specs.State.{State, Row, pending}
-use Rattle.step_journal.specs.LockRule.{Above}
 use Rattle.step_journal.specs.Running.{running}
 use Rattle.step_journal.specs.Step.{may_ask, lock_refusal, next_tick}
 use Rattle.step_journal.specs.History.{IsLegal, state_of}

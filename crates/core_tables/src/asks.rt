@@ -12,8 +12,8 @@ ghost use Rattle.core_tables.specs.Changes.{denied as denied_by, access_by};
 ghost use Rattle.core_tables.specs.Asks.{blocked_by, asked_by, refused_by, idle_by};
 
 use crate::tables::CoreTables;
-use board::{IdleReply, StepReply};
 use crate::tally::Tally;
+use board::{IdleReply, StepReply};
 use pending_jobs::{Blocker, Head, Pending};
 use rt_base::{ItemId, JobId, Op, Tick};
 use txn_set::CompiledSet;
@@ -97,12 +97,7 @@ fn no_job(tally: Tally) -> StepReply
 }
 
 /// The answer to idle, by the running job and the least planned tick.
-fn idle_answer(
-    kept: usize,
-    room: usize,
-    next: Option<Tick>,
-    running: Option<JobId>,
-) -> IdleReply
+fn idle_answer(kept: usize, room: usize, next: Option<Tick>, running: Option<JobId>) -> IdleReply
     ensures { result ≡ idle_by kept room next running }
 {
     match (running, next) {

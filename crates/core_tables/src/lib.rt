@@ -1,4 +1,7 @@
-//! The state of a board as tables.
+//! The state of a lock core as tables: the pending jobs, the calendar of releases, the items, the tallies of ended jobs, and
+//! the present tick. Each call is one part of the step of a legal history's state (the read/write priority ceiling protocol,
+//! Sha, Rajkumar, Son, Chang 1991, with deadlines, releases and commits), at the cost of the rows that it touches: no call
+//! goes over all transactions or all planned releases, and only `new` takes memory.
 #![tactic(auto)]
 
 mod arrive;

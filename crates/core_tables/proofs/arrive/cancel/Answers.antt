@@ -1,4 +1,4 @@
-use Rattle.std.proofs.Common.{◌+◌, length, ap, sym, ◌∙◌, refl, arith}
+use Rattle.std.proofs.Common.{ap, sym, ◌∙◌, refl, arith}
 use Rattle.std.specs.List.{fold}
 use Rattle.core_tables.specs.Changes.{tally_late}
 use Rattle.core_tables.proofs.Cancels.{cancelling_nothing, cancels, cancelled_all, cancelled_none, ended_late, late_in_range, late_less, facts_of, default_none}

@@ -1,4 +1,3 @@
-use Rattle.std.proofs.Common.{◌+◌, length, ap, sym, ◌∙◌, subst, arith, refl}
 use Rattle.core_tables.proofs.Releases.{less_kept, release_there, release_free}
 use Rattle.core_tables.proofs.Arrivals.{releases, released_rows, released_planned, left_some, nothing_due, stays_as}
 use Rattle.core_tables.proofs.Cancels.{default_none}

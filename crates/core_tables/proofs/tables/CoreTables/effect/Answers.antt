@@ -1,4 +1,4 @@
-use Rattle.std.proofs.Common.{◌+◌, ap, sym, ◌∙◌, subst, arith, length, List}
+use Rattle.std.proofs.Common.{ap, sym, ◌∙◌, subst, arith, length, List}
 use Rattle.std.proofs.lemmas.List.{with_items_is}
 use Rattle.step_journal.specs.Step.{row_after}
 use Rattle.pending_jobs.specs.Rows.{AreFactsOf}

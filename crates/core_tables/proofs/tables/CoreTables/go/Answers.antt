@@ -1,4 +1,4 @@
-use Rattle.std.proofs.Common.{◌+◌, ap, sym, ◌∙◌, subst, arith, length}
+use Rattle.std.proofs.Common.{ap, ◌∙◌, subst, arith}
 use Rattle.txn_set.specs.declared.decl.TxnDecl.{TxnDecl}
 use Rattle.step_journal.specs.Step.{after_effect}
 use Rattle.core_tables.specs.Tables.{AreTables}

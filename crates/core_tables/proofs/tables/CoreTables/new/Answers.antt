@@ -1,5 +1,4 @@
-use Rattle.std.proofs.Common.{ap, sym, ◌∙◌, map, length, List}
-use Rattle.item_model.specs.declared.decl.ItemDecl.{ItemDecl}
+use Rattle.std.proofs.Common.{ap, ◌∙◌, map, length, List}
 use Rattle.item_model.specs.Kinds.{initial_of}
 use Rattle.txn_set.specs.declared.decl.TxnDecl.{TxnDecl}
 use Rattle.core_tables.proofs.Opens.{are_periods, opens}

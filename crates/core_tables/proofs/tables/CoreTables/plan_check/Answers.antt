@@ -1,4 +1,3 @@
-use Rattle.std.proofs.Common.{◌∙◌}
 use Rattle.core_tables.proofs.Plans.{plan_refused, plan_full, plan_ok}
 use Rattle.core_tables.proofs.Planned.{at_view}
 use Rattle.core_tables.proofs.tables.CoreTables.plan_check.Goals as goal

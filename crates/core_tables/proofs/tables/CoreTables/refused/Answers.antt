@@ -1,4 +1,4 @@
-use Rattle.std.proofs.Common.{ap, sym, ◌∙◌, arith, length}
+use Rattle.std.proofs.Common.{ap, sym, arith}
 use Rattle.core_tables.specs.declared.tally.Tally.{Tally}
 use Rattle.core_tables.proofs.Refusals.{asked_refused}
 use Rattle.core_tables.proofs.Facts.{known}
