@@ -1,5 +1,5 @@
 -- The lock rule's blocker by what is in the list, and that two lists with the same holders have the same one.
-use Rattle.std.proofs.Common.{◌≡◌, ◌≢◌, ℕ, ◌<◌, ◌≤◌, Bool, true, false, cond, List, [], ◌∷◌, Option, None, Some, refl, sym, subst, inl, inr, arith}
+use Rattle.std.proofs.Common.{◌≡◌, ◌==◌, ◌&&◌, ℕ, ◌<◌, ◌≤◌, Bool, true, false, cond, List, [], ◌∷◌, Option, None, Some, refl, sym, subst, inl, inr, arith}
 use Rattle.std.proofs.lemmas.Bool.{cases_order, ltb-true, ltb-false, eq-eqb, lt-ltb, eqb-true, or_cases, or_left, or_right, and_parts, and_from}
 use Rattle.std.specs.Prelude.{nat_lt}
 use Rattle.rt_base.specs.LockRule.{stands_above, upper, topmost, unless_below, blocker}
@@ -26,11 +26,16 @@ not_above p c y a h = record {
 }
 
 is_above : {A : Type 0} (p c : A → ℕ) (s x : A) → stands_above p c s x ≡ true → IsNotAbove p c x s
-is_above p c s x h =
-    elim (or_cases _ _ h) [
-      | inl t ↦ (let lt : c x < c s = ltb-true (c x) (c s) t in let ne : c x ≢ c s = (λ e. omega (arith, lt, e)) in record { ceiling = omega (arith, lt); prio = λ e. absurd (ne e) })
-      | inr b ↦ (let e : c s ≡ c x = eqb-true (c s) (c x) (and_parts _ _ b).0 in let lt : p x < p s = ltb-true (p x) (p s) (and_parts _ _ b).1 in record { ceiling = omega (arith, e); prio = λ q. omega (arith, lt) })
-    ]
+is_above p c s x h = elim (or_cases (nat_lt (c x) (c s)) (c s == c x && nat_lt (p x) (p s)) h) [ inl t ↦ by_ceiling t | inr b ↦ by_prio b ] where
+  by_ceiling : nat_lt (c x) (c s) ≡ true → IsNotAbove p c x s
+  by_ceiling t = let lt : c x < c s = ltb-true (c x) (c s) t in record { ceiling = omega (arith, lt); prio = λ e. omega (arith, lt, e) }
+
+  by_prio : (c s == c x && nat_lt (p x) (p s)) ≡ true → IsNotAbove p c x s
+  by_prio b =
+      let parts = and_parts (c s == c x) (nat_lt (p x) (p s)) b in
+      let e : c s ≡ c x = eqb-true (c s) (c x) parts.0 in
+      let lt : p x < p s = ltb-true (p x) (p s) parts.1 in
+      record { ceiling = omega (arith, e); prio = λ q. omega (arith, lt) }
 
 not_above_self : {A : Type 0} (p c : A → ℕ) (a : A) → IsNotAbove p c a a
 not_above_self p c a = record { ceiling = omega arith; prio = λ e. omega arith }

@@ -11,3 +11,5 @@ pub mod Protocols
 mod Opens
 mod Calls
 mod Questions
+mod TrioCompiled
+mod TrioSteps

@@ -2,3 +2,4 @@ pub mod Rows
 pub mod Waiting
 pub mod Deadlines
 pub mod Tables
+pub mod Trio

@@ -10,3 +10,6 @@ mod ranks;
 
 pub use head::{Blocker, Head};
 pub use pending::Pending;
+
+#[cfg(test)]
+mod tests;

@@ -1,188 +1,299 @@
--- What the calendar keeps over a release more and a release less.
-use Rattle.std.proofs.Common.{◌≡◌, ℕ, zero, suc, ◌+◌, ◌^◌, ◌<◌, ◌≤◌, ◌==◌, not, Bool, true, false, cond, List, [], ◌∷◌, ◌++◌, length, get_or, set, replicate, refl, ap, sym, ◌∙◌, subst, inl, inr, arith}
-use Rattle.std.proofs.lemmas.Bool.{cases_eq, eqb-true, eq-eqb, ne_eqb, and_parts, and_from, and_left, and_right}
-use Rattle.std.proofs.lemmas.List.{get_or-set_same, get_or-set_other, length-set, length-replicate}
-use Rattle.std.proofs.lemmas.List.Elements.{All-nil, All-cons, All-head, All-tail, All-weaker}
-use Rattle.std.proofs.lemmas.List.Sorted.{IsPermutation-refl, IsPermutation-cons, IsPermutation-trans, IsPermutation-middle, IsPermutation-map, IsPermutation-push_more, length_permutation, All-permutation, sum_by-IsPermutation}
+-- What is kept of the queues over a release more and a release less.
+use Rattle.std.proofs.Common.{not, ◌≡◌, ◌≢◌, refl, ℕ, zero, suc, ◌+◌, ◌-◌, ◌<◌, ◌≤◌, ◌==◌, Bool, true, false, cond, List, [], ◌∷◌, ◌++◌, length, get_or, set, map, replicate, take, drop, ap, sym, ◌∙◌, subst, inl, inr, Option, Some, arith, Global}
+use Rattle.std.proofs.lemmas.Bool.{cases_eq, cases_lt, eq-eqb, ne_eqb}
+use Rattle.std.proofs.lemmas.List.{get_or-set_same, get_or-set_other, length-set, length-map, map-set}
+use Rattle.std.proofs.lemmas.List.Edits.{get_or-remove_below, get_or-remove_above, length-remove}
+use Rattle.std.proofs.lemmas.List.Elements.{All-nil, All-append, All-take, All-drop, All-push, All-set}
+use Rattle.std.proofs.lemmas.List.Sorted.{IsPermutation-refl, IsPermutation-sym, IsPermutation-trans, IsPermutation-cons, IsPermutation-middle, IsNonDecreasingBy-push, sum_by-IsPermutation, length_permutation, Contains-permutation}
 use Rattle.std.proofs.lemmas.List.Sums.{sum_by-cons}
-use Rattle.std.specs.List.{All, filter}
-use Rattle.std.specs.List.Sorted.{IsPermutation}
+use Rattle.std.specs.List.{All, Contains, filter, remove}
+use Rattle.std.specs.List.Sorted.{IsPermutation, IsNonDecreasingBy}
 use Rattle.std.specs.BinaryHeap.{IsHeap}
+use Rattle.std.specs.Option.{OnSome}
+use Rattle.std.specs.VecDeque.{deque_items, deque_capacity}
+use Rattle.std.specs.declared.collections.VecDeque.{VecDeque}
 use Rattle.std.specs.declared.cmp.Reverse.{Reverse}
-use Rattle.rt_base.specs.declared.release.Plans.{Plans}
-use Rattle.rt_base.specs.declared.release.Release.{Release}
 use Rattle.release_calendar.specs.declared.planned.Planned.{Planned}
-use Rattle.release_calendar.specs.Agenda.{Agenda, job_of, no_plans, ArePeriods, IsPlanned, without}
-use Rattle.release_calendar.proofs.Moves.{taken}
-use Rattle.release_calendar.specs.Heap.{release_of, releases, planned_cmp, one_if, is_job, jobs, WasPlanned, IsCalendar}
+use Rattle.release_calendar.specs.Queues.{queue_of, queued, head, head_alone, heads, heads_of, one_if, planned_cmp, IsQueue, AreLines}
+use Rattle.release_calendar.proofs.Moves.{beside}
+use Rattle.release_calendar.proofs.Splits.{all_flat, queued_put, queued_take, heads_with, heads_split, heads_same, heads_below}
 
-jobs_cons : (tx serial : ℕ) (r : Reverse Planned) (items : List (Reverse Planned)) → jobs tx serial (r ∷ items) ≡ one_if (is_job tx serial r) + jobs tx serial items
-jobs_cons tx serial r items = sum_by-cons (λ (q : Reverse Planned). one_if (is_job tx serial q)) r items
+-- ---- a queue
 
-abbrev pub agenda : List ℕ → List Plans → List (Reverse Planned) → ℕ → Agenda
-agenda periods plans items room = record { periods = periods; plans = plans; planned = releases items; room = room }
+queue_more : (tx : ℕ) (q : List Planned) (p : Planned) → IsQueue tx q → p.tx ≡ tx → All (λ r. r.tick ≤ p.tick) q → IsQueue tx (q ++ p ∷ [])
+queue_more tx q p is own below = record {
+  own = All-push (λ (r : Planned). r.tx ≡ tx) q p is.own own;
+  rising = IsNonDecreasingBy-push (λ (r : Planned). r.tick) q p is.rising (λ d some. below (length q - 1) d (omega (arith, some)));
+}
 
-plans_at : (plans : List Plans) (n tx : ℕ) → plans ≡ replicate n no_plans → get_or plans tx no_plans ≡ no_plans
-plans_at plans n tx e = ap (λ (q : List Plans). get_or q tx no_plans) e ∙ none n tx where
-  none : (n tx : ℕ) → get_or (replicate n no_plans) tx no_plans ≡ no_plans
-  none zero tx = refl
-  none (suc n) zero = refl
-  none (suc n) (suc tx) = none n tx
+rising_less : (q : List Planned) (i : ℕ) → i < length q → IsNonDecreasingBy (λ r. r.tick) q → IsNonDecreasingBy (λ r. r.tick) (remove q i)
+rising_less q i lt rising a b d le in' =
+    let long : length (remove q i) + 1 ≡ length q = length-remove q i lt in
+    elim (cases_lt b i) [
+      | inl below ↦ (
+          let x : get_or (remove q i) a d ≡ get_or q a d = get_or-remove_below q i d a (omega arith) lt in
+          let y : get_or (remove q i) b d ≡ get_or q b d = get_or-remove_below q i d b below lt in
+          let r : (get_or q a d).tick ≤ (get_or q b d).tick = rising a b d le (omega (arith, long)) in
+          omega (arith, ap (λ (p : Planned). p.tick) x, ap (λ (p : Planned). p.tick) y, r))
+      | inr above ↦ (
+          let y : get_or (remove q i) b d ≡ get_or q (b + 1) d = get_or-remove_above q i d b above lt in
+          elim (cases_lt a i) [
+            | inl first ↦ (
+                let x : get_or (remove q i) a d ≡ get_or q a d = get_or-remove_below q i d a first lt in
+                let r : (get_or q a d).tick ≤ (get_or q (b + 1) d).tick = rising a (b + 1) d (omega arith) (omega (arith, long)) in
+                omega (arith, ap (λ (p : Planned). p.tick) x, ap (λ (p : Planned). p.tick) y, r))
+            | inr second ↦ (
+                let x : get_or (remove q i) a d ≡ get_or q (a + 1) d = get_or-remove_above q i d a second lt in
+                let r : (get_or q (a + 1) d).tick ≤ (get_or q (b + 1) d).tick = rising (a + 1) (b + 1) d (omega arith) (omega (arith, long)) in
+                omega (arith, ap (λ (p : Planned). p.tick) x, ap (λ (p : Planned). p.tick) y, r))
+          ])
+    ]
 
-pub new_keeps : (periods : List ℕ) (plans : List Plans) (items : List (Reverse Planned)) (room capacity : ℕ) → ArePeriods periods → plans ≡ replicate (length periods) no_plans → items ≡ [] → IsHeap planned_cmp items → capacity ≡ room → IsCalendar (agenda periods plans items room) items capacity
-new_keeps periods plans items room capacity are p none order r =
-    let last : (tx : ℕ) → (get_or plans tx no_plans).last ≤ 2 ^ 40 = (λ tx. (let e : (get_or plans tx no_plans).last ≡ 0 = ap (λ (q : Plans). q.last) (plans_at plans (length periods) tx p) in omega (arith, e))) in
-    record {
-      size = ap length p ∙ length-replicate (length periods) no_plans;
-      periods = are;
-      last = last;
-      order = order;
-      fits = (let e : length items ≡ 0 = ap length none in omega (arith, e));
-      room = omega (arith, r);
-      planned = subst (λ (q : List (Reverse Planned)). All (WasPlanned plans) q) (sym none) (All-nil (WasPlanned plans));
-      once = λ tx serial. (let e : jobs tx serial items ≡ 0 = ap (jobs tx serial) none in omega (arith, e));
-    }
+queue_less : (tx : ℕ) (q : List Planned) (i : ℕ) → i < length q → IsQueue tx q → IsQueue tx (remove q i)
+queue_less tx q i lt is = record {
+  own = All-append (λ (r : Planned). r.tx ≡ tx) (take i q) (drop (suc i) q) (All-take (λ (r : Planned). r.tx ≡ tx) i q is.own) (All-drop (λ (r : Planned). r.tx ≡ tx) (suc i) q is.own);
+  rising = rising_less q i lt is.rising;
+}
+
+each_set : (queues : List (List Planned)) (tx : ℕ) (q : List Planned) → tx < length queues → ((k : ℕ) → IsQueue k (queue_of queues k)) → IsQueue tx q → (k : ℕ) → IsQueue k (queue_of (set queues tx q) k)
+each_set queues tx q lt each is k =
+    elim (cases_eq k tx) [
+      | inl e ↦ subst (λ (n : ℕ). IsQueue n (queue_of (set queues tx q) n)) (sym e) (subst (λ (r : List Planned). IsQueue tx r) (sym (get_or-set_same queues tx q [] lt)) is)
+      | inr ne ↦ subst (λ (r : List Planned). IsQueue k r) (sym (get_or-set_other queues tx k q [] ne)) (each k)
+    ]
 
 -- ---- a release more
 
--- no release in the heap is of a job that was not planned
-none_yet : (plans : List Plans) (tx serial : ℕ) (items : List (Reverse Planned)) → serial ≡ (get_or plans tx no_plans).number → All (WasPlanned plans) items → jobs tx serial items ≡ 0
-none_yet plans tx serial [] e a = refl
-none_yet plans tx serial (r ∷ rest) e a =
-    let was : WasPlanned plans r = All-head (WasPlanned plans) r rest a in
-    let other : is_job tx serial r ≡ false =
-    elim (cases_eq r.0.tx tx) [
-      | inl q ↦ and_right _ _ (ne_eqb _ _ (λ (s : r.0.serial ≡ serial). omega (arith, s, e, was.serial, ap (λ (k : ℕ). (get_or plans k no_plans).number) q)))
-      | inr nq ↦ and_left _ _ (ne_eqb _ _ nq)
-    ] in
-    omega (arith, jobs_cons tx serial r rest, ap one_if other, none_yet plans tx serial rest e (All-tail (WasPlanned plans) r rest a))
+put_heads : (queues : List (List Planned)) (heap heap' : List (Reverse Planned)) (tx : ℕ) (p : Planned) (q : List Planned) → tx < length queues → queue_of queues tx ≡ q → IsPermutation (heads queues) heap → IsPermutation (head_alone q p ++ heap) heap' → IsPermutation (heads (set queues tx (q ++ p ∷ []))) heap'
+put_heads queues heap heap' tx p [] lt e old new =
+    let none : heads (set queues tx []) ≡ heads queues = heads_same queues tx [] (ap head (sym e)) in
+    let with : IsPermutation (heads (set queues tx (p ∷ []))) (record { 0 = p } ∷ heads queues) = subst (λ (xs : List (Reverse Planned)). IsPermutation (heads (set queues tx (p ∷ []))) (record { 0 = p } ∷ xs)) none (heads_with queues tx p [] lt) in
+    IsPermutation-trans (heads (set queues tx (p ∷ []))) (record { 0 = p } ∷ heads queues) heap' with
+    (IsPermutation-trans (record { 0 = p } ∷ heads queues) (record { 0 = p } ∷ heap) heap' (IsPermutation-cons (record { 0 = p }) (heads queues) heap old) new)
+put_heads queues heap heap' tx p (r ∷ rest) lt e old new =
+    let same : heads (set queues tx (r ∷ (rest ++ p ∷ []))) ≡ heads queues = heads_same queues tx (r ∷ (rest ++ p ∷ [])) (ap head (sym e)) in
+    subst (λ (xs : List (Reverse Planned)). IsPermutation xs heap') (sym same) (IsPermutation-trans (heads queues) heap heap' old new)
 
-still_planned : (plans : List Plans) (tx n last : ℕ) (r : Reverse Planned) → tx < length plans → (get_or plans tx no_plans).number < n → WasPlanned plans r → WasPlanned (set plans tx (record { number = n; last = last })) r
-still_planned plans tx n last r lt more was = record {
-  tx = omega (arith, was.tx, length-set plans tx (record { number = n; last = last }));
-  serial =
-      elim (cases_eq r.0.tx tx) [
-        | inl q ↦ (
-            let there : (get_or (set plans tx (record { number = n; last = last })) r.0.tx no_plans).number ≡ n = ap (λ (k : ℕ). (get_or (set plans tx (record { number = n; last = last })) k no_plans).number) q ∙ ap (λ (p : Plans). p.number) (get_or-set_same plans tx (record { number = n; last = last }) no_plans lt) in
-            omega (arith, there, was.serial, ap (λ (k : ℕ). (get_or plans k no_plans).number) q))
-        | inr nq ↦ (
-            let there : (get_or (set plans tx (record { number = n; last = last })) r.0.tx no_plans).number ≡ (get_or plans r.0.tx no_plans).number = ap (λ (p : Plans). p.number) (get_or-set_other plans tx r.0.tx (record { number = n; last = last }) no_plans nq) in
-            omega (arith, there, was.serial))
-      ];
+pub put_keeps : (queues : List (List Planned)) (heap heap' : List (Reverse Planned)) (waiting capacity capacity' : ℕ) (p : Planned) → AreLines queues heap waiting capacity → p.tx < length queues → All (λ r. r.tick ≤ p.tick) (queue_of queues p.tx) → IsPermutation (head_alone (queue_of queues p.tx) p ++ heap) heap' → IsHeap planned_cmp heap' → capacity ≤ capacity'
+    → AreLines (set queues p.tx (queue_of queues p.tx ++ p ∷ [])) heap' (waiting + 1) capacity'
+put_keeps queues heap heap' waiting capacity capacity' p are lt below moved order more = record {
+  each = each_set queues p.tx (queue_of queues p.tx ++ p ∷ []) lt are.each (queue_more p.tx (queue_of queues p.tx) p (are.each p.tx) refl below);
+  order = order;
+  heads = put_heads queues heap heap' p.tx p (queue_of queues p.tx) lt refl are.heads moved;
+  count = omega (arith, are.count, length_permutation (p ∷ queued queues) (queued (set queues p.tx (queue_of queues p.tx ++ p ∷ []))) (queued_put queues p.tx p lt));
+  places = omega (arith, are.places, more, length-set queues p.tx (queue_of queues p.tx ++ p ∷ []));
 }
 
-pub plan_keeps : (periods : List ℕ) (plans plans' : List Plans) (items items' : List (Reverse Planned)) (room capacity capacity' tx serial tick : ℕ) → IsCalendar (agenda periods plans items room) items capacity → tx < length periods → length items < room → serial ≡ (get_or plans tx no_plans).number → tick ≤ 2 ^ 40
-    → plans' ≡ set plans tx (record { number = serial + 1; last = tick }) → IsPermutation (record { 0 = record { tick = tick; tx = tx; serial = serial } } ∷ items) items' → (IsHeap planned_cmp items → IsHeap planned_cmp items') → capacity ≤ capacity' → IsCalendar (agenda periods plans' items' room) items' capacity'
-plan_keeps periods plans plans' items items' room capacity capacity' tx serial tick c lt fits e small pe moved order more =
-    let now : Plans = record { number = serial + 1; last = tick } in
-    let item : Reverse Planned = record { 0 = record { tick = tick; tx = tx; serial = serial } } in
-    let lt' : tx < length plans = omega (arith, c.size) in
-    let here : get_or (set plans tx (record { number = serial + 1; last = tick })) tx no_plans ≡ record { number = serial + 1; last = tick } = get_or-set_same plans tx (record { number = serial + 1; last = tick }) no_plans lt' in
-    subst (λ (q : List Plans). IsCalendar (agenda periods q items' room) items' capacity') (sym pe)
-    (record {
-      size = length-set plans tx (record { number = serial + 1; last = tick }) ∙ c.size;
-      periods = c.periods;
-      last = λ t.
-          elim (cases_eq t tx) [
-            | inl q ↦ (
-                let there : (get_or (set plans tx (record { number = serial + 1; last = tick })) t no_plans).last ≡ tick = ap (λ (k : ℕ). (get_or (set plans tx (record { number = serial + 1; last = tick })) k no_plans).last) q ∙ ap (λ (p : Plans). p.last) here in
-                omega (arith, there, small))
-            | inr nq ↦ (
-                let there : (get_or (set plans tx (record { number = serial + 1; last = tick })) t no_plans).last ≡ (get_or plans t no_plans).last = ap (λ (p : Plans). p.last) (get_or-set_other plans tx t (record { number = serial + 1; last = tick }) no_plans nq) in
-                omega (arith, there, c.last t))
-          ];
-      order = order c.order;
-      fits = omega (arith, length_permutation (record { 0 = record { tick = tick; tx = tx; serial = serial } } ∷ items) items' moved);
-      room = omega (arith, c.room);
-      planned = All-permutation (WasPlanned (set plans tx (record { number = serial + 1; last = tick }))) (record { 0 = record { tick = tick; tx = tx; serial = serial } } ∷ items) items' moved
-          (All-cons (WasPlanned (set plans tx (record { number = serial + 1; last = tick }))) (record { 0 = record { tick = tick; tx = tx; serial = serial } }) items
-          (record {
-            tx = omega (arith, length-set plans tx (record { number = serial + 1; last = tick }));
-            serial = (let n : (get_or (set plans tx (record { number = serial + 1; last = tick })) tx no_plans).number ≡ serial + 1 = ap (λ (p : Plans). p.number) here in omega (arith, n));
-          })
-          (All-weaker (WasPlanned plans) (WasPlanned (set plans tx (record { number = serial + 1; last = tick }))) (λ r was. still_planned plans tx (serial + 1) tick r lt' (omega (arith, e)) was) items c.planned));
-      once = λ t s.
-          (let one : jobs t s items' ≡ one_if (is_job t s (record { 0 = record { tick = tick; tx = tx; serial = serial } })) + jobs t s items = sum_by-IsPermutation (λ r. one_if (is_job t s r)) (record { 0 = record { tick = tick; tx = tx; serial = serial } } ∷ items) items' moved ∙ jobs_cons t s (record { 0 = record { tick = tick; tx = tx; serial = serial } }) items in
-          once_more t s (is_job t s (record { 0 = record { tick = tick; tx = tx; serial = serial } })) refl one);
-    }) where
-      once_more : (t s : ℕ) (b : Bool) → is_job t s (record { 0 = record { tick = tick; tx = tx; serial = serial } }) ≡ b → jobs t s items' ≡ one_if b + jobs t s items → jobs t s items' ≤ 1
-      once_more t s true h one =
-          let parts : ((tx == t) ≡ true) × ((serial == s) ≡ true) = and_parts _ _ h in
-          let same_tx : tx ≡ t = eqb-true _ _ parts.0 in
-          let same_serial : serial ≡ s = eqb-true _ _ parts.1 in
-          let none : jobs t s items ≡ 0 = none_yet plans t s items (sym same_serial ∙ e ∙ ap (λ (k : ℕ). (get_or plans k no_plans).number) same_tx) c.planned in
-          omega (arith, one, none)
-      once_more t s false h one = omega (arith, one, c.once t s)
-
-plan_moves : (items items' : List (Reverse Planned)) (planned : List Release) (r : Reverse Planned) → IsPermutation (r ∷ items) items' → IsPermutation planned (releases items) → IsPermutation (planned ++ release_of r ∷ []) (releases items')
-plan_moves items items' planned r moved held = IsPermutation-push_more planned (releases items) (releases items') (release_of r) held (IsPermutation-map release_of (r ∷ items) items' moved)
-
-pub planned_is : (periods : List ℕ) (plans : List Plans) (items items' : List (Reverse Planned)) (room tx serial tick : ℕ) → serial ≡ (get_or plans tx no_plans).number → IsPermutation (record { 0 = record { tick = tick; tx = tx; serial = serial } } ∷ items) items'
-    → IsPlanned (agenda periods plans items room) (agenda periods (set plans tx (record { number = serial + 1; last = tick })) items' room) tx tick
-planned_is periods plans items items' room tx serial tick e moved = record {
-  periods = refl;
-  room = refl;
-  plans = ap (λ (n : ℕ). set plans tx (record { number = n + 1; last = tick })) e;
-  planned = λ planned held.
-      subst (λ (n : ℕ). IsPermutation (planned ++ record { job = record { tx = record { 0 = tx }; serial = n }; tick = tick } ∷ []) (releases items')) e
-      (plan_moves items items' planned (record { 0 = record { tick = tick; tx = tx; serial = serial } }) moved held);
-}
+-- there is a place for one more head
+pub place_left : (queues : List (List Planned)) (heap : List (Reverse Planned)) (waiting capacity tx : ℕ) → AreLines queues heap waiting capacity → tx < length queues → queue_of queues tx ≡ [] → length heap < capacity
+place_left queues heap waiting capacity tx are lt e = omega (arith, heads_below queues tx lt e, length_permutation (heads queues) heap are.heads, are.places)
 
 -- ---- a release less
 
-pub less_keeps : (periods : List ℕ) (plans : List Plans) (items items' : List (Reverse Planned)) (room capacity capacity' : ℕ) (r : Reverse Planned) → IsCalendar (agenda periods plans items room) items capacity → IsPermutation items (r ∷ items') → IsHeap planned_cmp items' → capacity' ≡ capacity → IsCalendar (agenda periods plans items' room) items' capacity'
-less_keeps periods plans items items' room capacity capacity' r c moved order same = record {
-  size = c.size;
-  periods = c.periods;
-  last = c.last;
+abbrev others : List (List Planned) → ℕ → List (Reverse Planned)
+others queues tx = heads (set queues tx [])
+
+first_of : (q : List Planned) (p : Planned) → 0 < length q → p ≡ get_or q 0 p → q ≡ p ∷ remove q 0
+first_of [] p some e = absurd (omega arith)
+first_of (r ∷ rest) p some e = ap (λ (x : Planned). x ∷ rest) (sym e)
+
+-- the heads, where this one is the head of its queue
+pub heads_apart : (queues : List (List Planned)) (tx : ℕ) (p : Planned) → tx < length queues → 0 < length (queue_of queues tx) → p ≡ get_or (queue_of queues tx) 0 p → IsPermutation (heads queues) (record { 0 = p } ∷ others queues tx)
+heads_apart queues tx p lt some e = heads_split queues tx p (remove (queue_of queues tx) 0) lt (first_of (queue_of queues tx) p some e)
+
+pub head_here : (queues : List (List Planned)) (heap : List (Reverse Planned)) (tx : ℕ) (p : Planned) → IsPermutation (heads queues) heap → tx < length queues → 0 < length (queue_of queues tx) → p ≡ get_or (queue_of queues tx) 0 p → Contains heap (record { 0 = p })
+head_here queues heap tx p old lt some e =
+    let apart : IsPermutation (heads queues) (record { 0 = p } ∷ others queues tx) = heads_apart queues tx p lt some e in
+    let here : Contains (record { 0 = p } ∷ others queues tx) (record { 0 = p }) = (0, omega arith, refl) in
+    Contains-permutation (heads queues) heap (record { 0 = p }) old (Contains-permutation (record { 0 = p } ∷ others queues tx) (heads queues) (record { 0 = p }) (IsPermutation-sym (heads queues) (record { 0 = p } ∷ others queues tx) apart) here)
+
+heads_cons : (tx : ℕ) (r : Reverse Planned) (xs : List (Reverse Planned)) → heads_of tx (r ∷ xs) ≡ one_if (r.0.tx == tx) + heads_of tx xs
+heads_cons tx r xs = sum_by-cons (λ (s : Reverse Planned). one_if (s.0.tx == tx)) r xs
+
+none_of : (tx : ℕ) (xs : List (Reverse Planned)) → All (λ r. r.0.tx ≢ tx) xs → heads_of tx xs ≡ 0
+none_of tx [] a = refl
+none_of tx (r ∷ xs) a = omega (arith, heads_cons tx r xs, ap one_if (ne_eqb r.0.tx tx (a 0 r (omega arith))), none_of tx xs (λ k d lt. a (suc k) d (omega (arith, lt))))
+
+head_own : (k : ℕ) (q : List Planned) → IsQueue k q → All (λ r. r.0.tx ≡ k) (head q)
+head_own k [] is = All-nil (λ (r : Reverse Planned). r.0.tx ≡ k)
+head_own k (p ∷ rest) is = All-push (λ (r : Reverse Planned). r.0.tx ≡ k) [] (record { 0 = p }) (All-nil (λ (r : Reverse Planned). r.0.tx ≡ k)) (is.own 0 p (omega arith))
+
+other_heads : (queues : List (List Planned)) (tx : ℕ) → tx < length queues → ((k : ℕ) → IsQueue k (queue_of queues k)) → All (λ r. r.0.tx ≢ tx) (others queues tx)
+other_heads queues tx lt each =
+    all_flat (λ (r : Reverse Planned). r.0.tx ≢ tx) head (set queues tx []) (λ k in'.
+    elim (cases_eq k tx) [
+      | inl e ↦ (
+          let none : get_or (set queues tx []) k [] ≡ [] = ap (λ (n : ℕ). get_or (set queues tx []) n []) e ∙ get_or-set_same queues tx [] [] lt in
+          subst (λ (q : List Planned). All (λ (r : Reverse Planned). r.0.tx ≢ tx) (head q)) (sym none) (All-nil (λ (r : Reverse Planned). r.0.tx ≢ tx)))
+      | inr ne ↦ (
+          let same : get_or (set queues tx []) k [] ≡ get_or queues k [] = get_or-set_other queues tx k [] [] ne in
+          subst (λ (q : List Planned). All (λ (r : Reverse Planned). r.0.tx ≢ tx) (head q)) (sym same) (λ i d below e. ne (sym (head_own k (get_or queues k []) (each k) i d below) ∙ e)))
+    ])
+
+-- a transaction has one head at most
+pub one_head : (queues : List (List Planned)) (heap : List (Reverse Planned)) (tx : ℕ) (p : Planned) → ((k : ℕ) → IsQueue k (queue_of queues k)) → IsPermutation (heads queues) heap → tx < length queues → 0 < length (queue_of queues tx) → p ≡ get_or (queue_of queues tx) 0 p → heads_of tx heap ≤ 1
+one_head queues heap tx p each old lt some e =
+    let apart : IsPermutation (heads queues) (record { 0 = p } ∷ others queues tx) = heads_apart queues tx p lt some e in
+    let here : heads_of tx heap ≡ heads_of tx (heads queues) = sum_by-IsPermutation (λ (r : Reverse Planned). one_if (r.0.tx == tx)) (heads queues) heap old in
+    let sums : heads_of tx (record { 0 = p } ∷ others queues tx) ≡ heads_of tx (heads queues) = sum_by-IsPermutation (λ (r : Reverse Planned). one_if (r.0.tx == tx)) (heads queues) (record { 0 = p } ∷ others queues tx) apart in
+    omega (arith, here, sums, heads_cons tx (record { 0 = p }) (others queues tx), none_of tx (others queues tx) (other_heads queues tx lt each), at_most (p.tx == tx)) where
+      at_most : (b : Bool) → one_if b ≤ 1
+      at_most true = omega arith
+      at_most false = omega arith
+
+take_heads : (queues : List (List Planned)) (tx : ℕ) (q : List Planned) → tx < length queues → IsPermutation (heads (set queues tx q)) (head q ++ others queues tx)
+take_heads queues tx [] lt = IsPermutation-refl (heads (set queues tx []))
+take_heads queues tx (p ∷ rest) lt = heads_with queues tx p rest lt
+
+take_keeps : (queues : List (List Planned)) (heap heap' : List (Reverse Planned)) (waiting capacity capacity' tx index : ℕ) (p : Planned) → AreLines queues heap waiting capacity → tx < length queues → index < length (queue_of queues tx) → p ≡ get_or (queue_of queues tx) index p
+    → IsPermutation (heads (set queues tx (remove (queue_of queues tx) index))) heap' → IsHeap planned_cmp heap' → capacity ≤ capacity' → AreLines (set queues tx (remove (queue_of queues tx) index)) heap' (waiting - 1) capacity'
+take_keeps queues heap heap' waiting capacity capacity' tx index p are lt in' e moved order more = record {
+  each = each_set queues tx (remove (queue_of queues tx) index) lt are.each (queue_less tx (queue_of queues tx) index in' (are.each tx));
   order = order;
-  fits = omega (arith, length_permutation items (r ∷ items') moved, c.fits);
-  room = omega (arith, c.room, same);
-  planned = All-tail (WasPlanned plans) r items' (All-permutation (WasPlanned plans) items (r ∷ items') moved c.planned);
-  once = λ tx serial. (let sums : one_if (is_job tx serial r) + jobs tx serial items' ≡ jobs tx serial items = sym (jobs_cons tx serial r items') ∙ sum_by-IsPermutation (λ q. one_if (is_job tx serial q)) items (r ∷ items') moved in omega (arith, sums, c.once tx serial));
+  heads = moved;
+  count = omega (arith, are.count, length_permutation (queued queues) (p ∷ queued (set queues tx (remove (queue_of queues tx) index))) (queued_take queues tx index p lt in' e));
+  places = omega (arith, are.places, more, length-set queues tx (remove (queue_of queues tx) index));
 }
 
--- ---- the one release of a job
+-- where the head of a queue leaves
+pub head_keeps : (queues : List (List Planned)) (heap heap' : List (Reverse Planned)) (waiting capacity capacity' tx : ℕ) (p : Planned) → AreLines queues heap waiting capacity → tx < length queues → 0 < length (queue_of queues tx) → p ≡ get_or (queue_of queues tx) 0 p
+    → ((rest : List (Reverse Planned)) → IsPermutation (record { 0 = p } ∷ rest) heap → IsPermutation (head (remove (queue_of queues tx) 0) ++ rest) heap') → IsHeap planned_cmp heap' → capacity ≤ capacity' → AreLines (set queues tx (remove (queue_of queues tx) 0)) heap' (waiting - 1) capacity'
+head_keeps queues heap heap' waiting capacity capacity' tx p are lt some e moved order more =
+    let apart : IsPermutation (heads queues) (record { 0 = p } ∷ others queues tx) = heads_apart queues tx p lt some e in
+    let old : IsPermutation (record { 0 = p } ∷ others queues tx) heap = IsPermutation-trans (record { 0 = p } ∷ others queues tx) (heads queues) heap (IsPermutation-sym (heads queues) (record { 0 = p } ∷ others queues tx) apart) are.heads in
+    take_keeps queues heap heap' waiting capacity capacity' tx 0 p are lt some e
+    (IsPermutation-trans (heads (set queues tx (remove (queue_of queues tx) 0))) (head (remove (queue_of queues tx) 0) ++ others queues tx) heap' (take_heads queues tx (remove (queue_of queues tx) 0) lt) (moved (others queues tx) old))
+    order more
 
-no_job_at : (tx serial : ℕ) (r : Reverse Planned) (rest : List (Reverse Planned)) (b : Bool) → is_job tx serial r ≡ b → one_if b + jobs tx serial rest ≡ 0 → (jobs tx serial rest ≡ 0 → filter (λ q. not (is_job tx serial q)) rest ≡ rest)
-    → cond (not b) (r ∷ filter (λ q. not (is_job tx serial q)) rest) (filter (λ q. not (is_job tx serial q)) rest) ≡ r ∷ rest
-no_job_at tx serial r rest true e k more = absurd (omega arith)
-no_job_at tx serial r rest false e k more = let none : jobs tx serial rest ≡ 0 = omega (arith, k) in ap (λ (q : List (Reverse Planned)). r ∷ q) (more none)
+later_head : (q : List Planned) (index : ℕ) → 0 < index → index < length q → head (remove q index) ≡ head q
+later_head [] index some lt = absurd (omega arith)
+later_head (p ∷ rest) zero some lt = absurd (omega arith)
+later_head (p ∷ rest) (suc index) some lt = refl
 
-no_job : (tx serial : ℕ) (items : List (Reverse Planned)) → jobs tx serial items ≡ 0 → filter (λ r. not (is_job tx serial r)) items ≡ items
-no_job tx serial [] h = refl
-no_job tx serial (r ∷ rest) h = no_job_at tx serial r rest (is_job tx serial r) refl (sym (jobs_cons tx serial r rest) ∙ h) (no_job tx serial rest)
+-- where a release behind the head leaves
+pub later_keeps : (queues : List (List Planned)) (heap : List (Reverse Planned)) (waiting capacity tx index : ℕ) (p : Planned) → AreLines queues heap waiting capacity → tx < length queues → 0 < index → index < length (queue_of queues tx) → p ≡ get_or (queue_of queues tx) index p
+    → AreLines (set queues tx (remove (queue_of queues tx) index)) heap (waiting - 1) capacity
+later_keeps queues heap waiting capacity tx index p are lt some in' e =
+    take_keeps queues heap heap waiting capacity capacity tx index p are lt in' e
+    (subst (λ (xs : List (Reverse Planned)). IsPermutation xs heap) (sym (heads_same queues tx (remove (queue_of queues tx) index) (later_head (queue_of queues tx) index some in'))) are.heads)
+    are.order (omega arith)
 
-there_is : (tx serial : ℕ) (items : List (Reverse Planned)) (k : ℕ) (d : Reverse Planned) → k < length items → is_job tx serial (get_or items k d) ≡ true → 0 < jobs tx serial items
-there_is tx serial [] k d lt h = absurd (omega arith)
-there_is tx serial (r ∷ rest) zero d lt h = omega (arith, jobs_cons tx serial r rest, ap one_if h)
-there_is tx serial (r ∷ rest) (suc k) d lt h = omega (arith, jobs_cons tx serial r rest, there_is tx serial rest k d (omega arith) h)
+-- ---- the one head of a transaction
 
--- a job that has one release leaves with it
-pub job_leaves : (next : Reverse Planned) (items : List (Reverse Planned)) (k : ℕ) → k < length items → get_or items k next ≡ next → jobs next.0.tx next.0.serial items ≤ 1 → IsPermutation items (next ∷ filter (λ r. not (is_job next.0.tx next.0.serial r)) items)
-job_leaves next [] k lt e h = absurd (omega arith)
-job_leaves next (r ∷ rest) zero lt e h =
-    let mine : is_job next.0.tx next.0.serial r ≡ true = ap (is_job next.0.tx next.0.serial) e ∙ and_from _ _ (eq-eqb next.0.tx next.0.tx refl) (eq-eqb next.0.serial next.0.serial refl) in
-    let none : jobs next.0.tx next.0.serial rest ≡ 0 = omega (arith, jobs_cons next.0.tx next.0.serial r rest, ap one_if mine, h) in
-    let left : filter (λ q. not (is_job next.0.tx next.0.serial q)) (r ∷ rest) ≡ rest = ap (λ (b : Bool). cond (not b) (r ∷ filter (λ q. not (is_job next.0.tx next.0.serial q)) rest) (filter (λ q. not (is_job next.0.tx next.0.serial q)) rest)) mine ∙ no_job next.0.tx next.0.serial rest none in
-    let same : r ∷ rest ≡ next ∷ filter (λ q. not (is_job next.0.tx next.0.serial q)) (r ∷ rest) = ap (λ (q : Reverse Planned). q ∷ rest) e ∙ ap (λ (q : List (Reverse Planned)). next ∷ q) (sym left) in
-    subst (λ (q : List (Reverse Planned)). IsPermutation (r ∷ rest) q) same (IsPermutation-refl (r ∷ rest))
-job_leaves next (r ∷ rest) (suc k) lt e h =
-    let mine : is_job next.0.tx next.0.serial (get_or rest k next) ≡ true = ap (is_job next.0.tx next.0.serial) e ∙ and_from _ _ (eq-eqb next.0.tx next.0.tx refl) (eq-eqb next.0.serial next.0.serial refl) in
-    let some : 0 < jobs next.0.tx next.0.serial rest = there_is next.0.tx next.0.serial rest k next (omega arith) mine in
-    at (is_job next.0.tx next.0.serial r) refl (job_leaves next rest k (omega arith) e (omega (arith, jobs_cons next.0.tx next.0.serial r rest, h))) (omega (arith, some, jobs_cons next.0.tx next.0.serial r rest, h)) where
-      at : (b : Bool) → is_job next.0.tx next.0.serial r ≡ b → IsPermutation rest (next ∷ filter (λ q. not (is_job next.0.tx next.0.serial q)) rest) → one_if (is_job next.0.tx next.0.serial r) ≡ 0 → IsPermutation (r ∷ rest) (next ∷ cond (not (is_job next.0.tx next.0.serial r)) (r ∷ filter (λ q. not (is_job next.0.tx next.0.serial q)) rest) (filter (λ q. not (is_job next.0.tx next.0.serial q)) rest))
-      at true b p z = absurd (let one : one_if (is_job next.0.tx next.0.serial r) ≡ 1 = ap one_if b in omega (arith, one, z))
+no_head : (tx : ℕ) (heap : List (Reverse Planned)) → heads_of tx heap ≡ 0 → filter (λ r. not (r.0.tx == tx)) heap ≡ heap
+no_head tx [] h = refl
+no_head tx (r ∷ rest) h = at (r.0.tx == tx) refl (omega (arith, h, heads_cons tx r rest)) (no_head tx rest) where
+  at : (b : Bool) → (r.0.tx == tx) ≡ b → one_if (r.0.tx == tx) + heads_of tx rest ≡ 0 → (heads_of tx rest ≡ 0 → filter (λ q. not (q.0.tx == tx)) rest ≡ rest) → cond (not (r.0.tx == tx)) (r ∷ filter (λ q. not (q.0.tx == tx)) rest) (filter (λ q. not (q.0.tx == tx)) rest) ≡ r ∷ rest
+  at true b k more = absurd (let one : one_if (r.0.tx == tx) ≡ 1 = ap one_if b in omega (arith, one, k))
+  at false b k more =
+      ap (λ (c : Bool). cond (not c) (r ∷ filter (λ q. not (q.0.tx == tx)) rest) (filter (λ q. not (q.0.tx == tx)) rest)) b ∙ ap (λ (xs : List (Reverse Planned)). r ∷ xs) (more (omega (arith, k)))
+
+there_is : (tx : ℕ) (heap : List (Reverse Planned)) (k : ℕ) (d : Reverse Planned) → k < length heap → (get_or heap k d).0.tx ≡ tx → 0 < heads_of tx heap
+there_is tx [] k d lt h = absurd (omega arith)
+there_is tx (r ∷ rest) zero d lt h = omega (arith, heads_cons tx r rest, ap one_if (eq-eqb r.0.tx tx h))
+there_is tx (r ∷ rest) (suc k) d lt h = omega (arith, heads_cons tx r rest, there_is tx rest k d (omega arith) h)
+
+-- it leaves with all of its transaction
+pub head_leaves : (h : Reverse Planned) (heap : List (Reverse Planned)) (k : ℕ) → k < length heap → get_or heap k h ≡ h → heads_of h.0.tx heap ≤ 1 → IsPermutation heap (h ∷ filter (λ r. not (r.0.tx == h.0.tx)) heap)
+head_leaves h [] k lt e once = absurd (omega arith)
+head_leaves h (r ∷ rest) zero lt e once =
+    let mine : (r.0.tx == h.0.tx) ≡ true = eq-eqb r.0.tx h.0.tx (ap (λ (x : Reverse Planned). x.0.tx) e) in
+    let none : heads_of h.0.tx rest ≡ 0 = omega (arith, heads_cons h.0.tx r rest, ap one_if mine, once) in
+    let left : filter (λ q. not (q.0.tx == h.0.tx)) (r ∷ rest) ≡ rest = ap (λ (b : Bool). cond (not b) (r ∷ filter (λ q. not (q.0.tx == h.0.tx)) rest) (filter (λ q. not (q.0.tx == h.0.tx)) rest)) mine ∙ no_head h.0.tx rest none in
+    let same : r ∷ rest ≡ h ∷ filter (λ q. not (q.0.tx == h.0.tx)) (r ∷ rest) = ap (λ (x : Reverse Planned). x ∷ rest) e ∙ ap (λ (xs : List (Reverse Planned)). h ∷ xs) (sym left) in
+    subst (λ (xs : List (Reverse Planned)). IsPermutation (r ∷ rest) xs) same (IsPermutation-refl (r ∷ rest))
+head_leaves h (r ∷ rest) (suc k) lt e once =
+    let some : 0 < heads_of h.0.tx rest = there_is h.0.tx rest k h (omega arith) (ap (λ (x : Reverse Planned). x.0.tx) e) in
+    at (r.0.tx == h.0.tx) refl (head_leaves h rest k (omega arith) e (omega (arith, heads_cons h.0.tx r rest, once))) (omega (arith, some, heads_cons h.0.tx r rest, once)) where
+      at : (b : Bool) → (r.0.tx == h.0.tx) ≡ b → IsPermutation rest (h ∷ filter (λ q. not (q.0.tx == h.0.tx)) rest) → one_if (r.0.tx == h.0.tx) ≡ 0 → IsPermutation (r ∷ rest) (h ∷ cond (not (r.0.tx == h.0.tx)) (r ∷ filter (λ q. not (q.0.tx == h.0.tx)) rest) (filter (λ q. not (q.0.tx == h.0.tx)) rest))
+      at true b p z = absurd (let one : one_if (r.0.tx == h.0.tx) ≡ 1 = ap one_if b in omega (arith, one, z))
       at false b p z =
-          let kept : List (Reverse Planned) = filter (λ q. not (is_job next.0.tx next.0.serial q)) rest in
-          let is : cond (not (is_job next.0.tx next.0.serial r)) (r ∷ filter (λ q. not (is_job next.0.tx next.0.serial q)) rest) (filter (λ q. not (is_job next.0.tx next.0.serial q)) rest) ≡ r ∷ filter (λ q. not (is_job next.0.tx next.0.serial q)) rest = ap (λ (c : Bool). cond (not c) (r ∷ filter (λ q. not (is_job next.0.tx next.0.serial q)) rest) (filter (λ q. not (is_job next.0.tx next.0.serial q)) rest)) b in
-          subst (λ (q : List (Reverse Planned)). IsPermutation (r ∷ rest) (next ∷ q)) (sym is)
-          (IsPermutation-trans (r ∷ rest) (r ∷ next ∷ filter (λ q. not (is_job next.0.tx next.0.serial q)) rest) (next ∷ r ∷ filter (λ q. not (is_job next.0.tx next.0.serial q)) rest)
-          (IsPermutation-cons r rest (next ∷ filter (λ q. not (is_job next.0.tx next.0.serial q)) rest) p)
-          (IsPermutation-middle (r ∷ []) next (filter (λ q. not (is_job next.0.tx next.0.serial q)) rest)))
+          let is : cond (not (r.0.tx == h.0.tx)) (r ∷ filter (λ q. not (q.0.tx == h.0.tx)) rest) (filter (λ q. not (q.0.tx == h.0.tx)) rest) ≡ r ∷ filter (λ q. not (q.0.tx == h.0.tx)) rest = ap (λ (c : Bool). cond (not c) (r ∷ filter (λ q. not (q.0.tx == h.0.tx)) rest) (filter (λ q. not (q.0.tx == h.0.tx)) rest)) b in
+          subst (λ (xs : List (Reverse Planned)). IsPermutation (r ∷ rest) (h ∷ xs)) (sym is)
+          (IsPermutation-trans (r ∷ rest) (r ∷ h ∷ filter (λ q. not (q.0.tx == h.0.tx)) rest) (h ∷ r ∷ filter (λ q. not (q.0.tx == h.0.tx)) rest)
+          (IsPermutation-cons r rest (h ∷ filter (λ q. not (q.0.tx == h.0.tx)) rest) p)
+          (IsPermutation-middle (r ∷ []) h (filter (λ q. not (q.0.tx == h.0.tx)) rest)))
 
-pub less_moves : (items items' : List (Reverse Planned)) (tick : ℕ) (next : Planned) (planned : List Release) → next.tick ≡ tick → IsPermutation items (record { 0 = next } ∷ items') → IsPermutation planned (releases items) → IsPermutation (without (record { job = job_of next; tick = tick }) planned) (releases items')
-less_moves items items' tick next planned e moved held =
-    subst (λ (t : ℕ). IsPermutation (without (record { job = job_of next; tick = t }) planned) (releases items')) e
-    (taken planned (releases items') (record { job = job_of next; tick = next.tick })
-    (IsPermutation-trans planned (releases items) (record { job = job_of next; tick = next.tick } ∷ releases items') held (IsPermutation-map release_of items (record { 0 = next } ∷ items') moved)))
+-- what stands beside a head that left, in any order
+rest_beside : (left : Reverse Planned) (heap rest after : List (Reverse Planned)) → IsPermutation (left ∷ rest) heap → IsPermutation heap (left ∷ after) → IsPermutation rest after
+rest_beside left heap rest after a b = beside rest after left (IsPermutation-trans (left ∷ rest) heap (left ∷ after) a b)
+
+-- ---- at the start
+
+pub none_queued_at : (queues : List (List Planned)) (n : ℕ) → queues ≡ replicate n [] → (queued queues ≡ []) × (heads queues ≡ []) × (length queues ≡ n)
+none_queued_at queues n e = subst (λ (qs : List (List Planned)). (queued qs ≡ []) × (heads qs ≡ []) × (length qs ≡ n)) (sym e) (at n) where
+  at : (n : ℕ) → (queued (replicate n []) ≡ []) × (heads (replicate n []) ≡ []) × (length (replicate {A = List Planned} n []) ≡ n)
+  at zero = (refl, refl, refl)
+  at (suc n) = ((at n).0, (at n).1, omega (arith, (at n).2))
+
+pub empty_at : (n tx : ℕ) → get_or (replicate {A = List Planned} n []) tx [] ≡ []
+empty_at zero tx = refl
+empty_at (suc n) zero = refl
+empty_at (suc n) (suc tx) = empty_at n tx
+
+pub new_keeps : (queues : List (List Planned)) (heap : List (Reverse Planned)) (n capacity : ℕ) → queues ≡ replicate n [] → heap ≡ [] → IsHeap planned_cmp heap → capacity ≡ n → AreLines queues heap 0 capacity
+new_keeps queues heap n capacity e none order c = record {
+  each = λ tx. subst (λ (q : List Planned). IsQueue tx q) (sym (ap (λ (qs : List (List Planned)). get_or qs tx []) e ∙ empty_at n tx)) (record { own = All-nil (λ (p : Planned). p.tx ≡ tx); rising = λ i j d le lt. absurd (omega arith) });
+  order = order;
+  heads = rw ((none_queued_at queues n e).1, none) (IsPermutation-refl []);
+  count = sym (ap length (none_queued_at queues n e).0);
+  places = omega (arith, (none_queued_at queues n e).2, c);
+}
+
+-- ---- the queue behind a place
+
+-- what each holds
+abbrev pub lines : List (VecDeque Planned Global) → List (List Planned)
+lines vs = map deque_items vs
+
+pub queue_at : (vs : List (VecDeque Planned Global)) (tx : ℕ) (d v : VecDeque Planned Global) → tx < length vs → v ≡ get_or vs tx d → queue_of (lines vs) tx ≡ v.items
+queue_at [] tx d v lt e = absurd (omega arith)
+queue_at (w ∷ vs) zero d v lt e = ap deque_items (sym e)
+queue_at (w ∷ vs) (suc tx) d v lt e = queue_at vs tx d v (omega arith) e
+
+-- one of them changes, by a function of what it held
+pub lines_set : (vs : List (VecDeque Planned Global)) (tx : ℕ) (v v' : VecDeque Planned Global) (f : List Planned → List Planned) → tx < length vs → v ≡ get_or vs tx v → v'.items ≡ f v.items → lines (set vs tx v') ≡ set (lines vs) tx (f (queue_of (lines vs) tx))
+lines_set vs tx v v' f lt e is = map-set deque_items vs tx v' ∙ ap (λ (q : List Planned). set (lines vs) tx q) (is ∙ ap f (sym (queue_at vs tx v v lt e)))
+
+-- a release came out of one of them
+pub record Took (vs : List (VecDeque Planned Global)) (tx index : ℕ) (v' : VecDeque Planned Global) (p : Planned) (room : ℕ) : Type 0 where
+  pub known : tx < length (lines vs)
+  pub within : index < length (queue_of (lines vs) tx)
+  pub at : p ≡ get_or (queue_of (lines vs) tx) index p
+  pub left : v'.items ≡ remove (queue_of (lines vs) tx) index
+  pub now : lines (set vs tx v') ≡ set (lines vs) tx (remove (queue_of (lines vs) tx) index)
+  pub rooms : All (λ q. room ≤ deque_capacity q) (set vs tx v')
+
+pub took : (vs : List (VecDeque Planned Global)) (tx index : ℕ) (v v' : VecDeque Planned Global) (p : Planned) (r : Option Planned) (room : ℕ) → tx < length (lines vs) → index < length (queue_of (lines vs) tx) → v ≡ get_or vs tx v → ((d : Planned) → index < v.len → r ≡ Some (get_or v.items index d)) → r ≡ Some p → OnSome r (v'.items ≡ remove v.items index)
+    → deque_capacity v' ≡ deque_capacity v → All (λ q. room ≤ deque_capacity q) vs → Took vs tx index v' p room
+took vs tx index v v' p r room known within e got is items same rooms =
+    let lt : tx < length vs = omega (arith, known, length-map vs deque_items) in
+    let here : queue_of (lines vs) tx ≡ v.items = queue_at vs tx v v lt e in
+    let some : r ≡ Some (get_or v.items index p) = got p (omega (arith, within, ap length here, v.ok)) in
+    let at : p ≡ get_or v.items index p = cc in
+    let fits : room ≤ deque_capacity v = subst (λ q. room ≤ deque_capacity q) (sym e) (rooms tx v lt) in
+    record {
+      known = known;
+      within = within;
+      at = at ∙ ap (λ (q : List Planned). get_or q index p) (sym here);
+      left = subst (λ (o : Option Planned). OnSome o (v'.items ≡ remove v.items index)) is items ∙ ap (λ (q : List Planned). remove q index) (sym here);
+      now = lines_set vs tx v v' (λ q. remove q index) lt e (subst (λ (o : Option Planned). OnSome o (v'.items ≡ remove v.items index)) is items);
+      rooms = All-set (λ q. room ≤ deque_capacity q) vs tx v' (omega (arith, fits, same)) rooms;
+    }
+
+-- ---- the next head of a queue
+
+head_is : (q : List Planned) (p : Planned) → 0 < length q → p ≡ get_or q 0 p → head q ≡ record { 0 = p } ∷ []
+head_is [] p some e = absurd (omega arith)
+head_is (r ∷ rest) p some e = ap (λ (x : Planned). record { 0 = x } ∷ []) (sym e)
+
+no_head_is : (q : List Planned) → length q ≡ 0 → head q ≡ []
+no_head_is [] e = refl
+no_head_is (p ∷ rest) e = absurd (omega (arith, e))
+
+pub next_comes : (q : List Planned) (p : Planned) (left : Reverse Planned) (heap after heap' rest : List (Reverse Planned)) → 0 < length q → p ≡ get_or q 0 p → IsPermutation heap (left ∷ after) → IsPermutation (record { 0 = p } ∷ after) heap' → IsPermutation (left ∷ rest) heap → IsPermutation (head q ++ rest) heap'
+next_comes q p left heap after heap' rest some e out in' is =
+    rw (head_is q p some e) (IsPermutation-trans (record { 0 = p } ∷ rest) (record { 0 = p } ∷ after) heap' (IsPermutation-cons (record { 0 = p }) rest after (rest_beside left heap rest after is out)) in')
+
+pub none_comes : (q : List Planned) (left : Reverse Planned) (heap after rest : List (Reverse Planned)) → length q ≡ 0 → IsPermutation heap (left ∷ after) → IsPermutation (left ∷ rest) heap → IsPermutation (head q ++ rest) after
+none_comes q left heap after rest none out is = rw (no_head_is q none) (rest_beside left heap rest after is out)

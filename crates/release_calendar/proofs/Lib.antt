@@ -1,4 +1,6 @@
 mod Heads
 mod Keeps
 mod Moves
+mod Releases
+mod Splits
 mod Ticks

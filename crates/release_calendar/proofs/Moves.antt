@@ -1,20 +1,75 @@
--- A release leaves a list: what is left is the same in each order of the list.
+-- Taking an element out of a list: what is left is the same in each order of the list.
 use Rattle.std.proofs.Common.{◌≡◌, ℕ, suc, ◌+◌, ◌<◌, ◌==◌, ◌&&◌, Bool, true, false, cond, List, [], ◌∷◌, length, get_or, refl, ap, sym, ◌∙◌, arith}
 use Rattle.std.proofs.lemmas.Bool.{eqb-true, eq-eqb, and_parts, and_from}
 use Rattle.std.proofs.lemmas.List.Sorted.{IsPermutation-refl, IsPermutation-sym, IsPermutation-cons, IsPermutation-trans, IsPermutation-remove, sum_by-IsPermutation}
 use Rattle.std.proofs.lemmas.List.Sums.{sum_by-cons}
 use Rattle.std.specs.List.{remove, sum_by}
 use Rattle.std.specs.List.Sorted.{IsPermutation}
+use Rattle.std.specs.declared.cmp.Reverse.{Reverse}
 use Rattle.rt_base.specs.declared.release.Release.{Release}
+use Rattle.release_calendar.specs.declared.planned.Planned.{Planned}
 use Rattle.release_calendar.specs.Agenda.{same_release, without}
-use Rattle.release_calendar.specs.Heap.{one_if}
+use Rattle.release_calendar.specs.Queues.{one_if}
 
--- how often a release stands in a list
-abbrev pub count : Release → List Release → ℕ
-count r xs = sum_by (λ s. one_if (same_release r s)) xs
+-- an equality by a test
+record IsSame {X : Type 0} (same : X → X → Bool) : Type 0 where
+  sound : (a b : X) → same a b ≡ true → a ≡ b
+  itself : (a : X) → same a a ≡ true
 
-count_cons : (r s : Release) (xs : List Release) → count r (s ∷ xs) ≡ one_if (same_release r s) + count r xs
-count_cons r s xs = sum_by-cons (λ (t : Release). one_if (same_release r t)) s xs
+-- the list without the first element that is r
+abbrev less : {X : Type 0} → (X → X → Bool) → X → List X → List X
+less same r [] = []
+less same r (x ∷ xs) = cond (same r x) xs (x ∷ less same r xs)
+
+module _ {X : Type 0} (same : X → X → Bool) (is : IsSame same) where
+  -- how often an element stands in a list
+  abbrev count : X → List X → ℕ
+  count r xs = sum_by (λ s. one_if (same r s)) xs
+
+  count_cons : (r s : X) (xs : List X) → count r (s ∷ xs) ≡ one_if (same r s) + count r xs
+  count_cons r s xs = sum_by-cons (λ (t : X). one_if (same r t)) s xs
+
+  count_itself : (r : X) (xs : List X) → count r (r ∷ xs) ≡ 1 + count r xs
+  count_itself r xs = count_cons r r xs ∙ ap (λ (b : Bool). one_if b + count r xs) (is.itself r)
+
+  found_at : (r s : X) (xs : List X) (b : Bool) → same r s ≡ b → 0 < one_if b + count r xs → (0 < count r xs → (i : ℕ) × (i < length xs) × (r ≡ get_or xs i r)) → (i : ℕ) × (i < suc (length xs)) × (r ≡ get_or (s ∷ xs) i r)
+  found_at r s xs true e h rest = (0, omega arith, is.sound r s e)
+  found_at r s xs false e h rest = let k : (i : ℕ) × (i < length xs) × (r ≡ get_or xs i r) = rest (omega arith) in (suc k.0, omega (arith, k.1), k.2)
+
+  found : (r : X) (xs : List X) → 0 < count r xs → (i : ℕ) × (i < length xs) × (r ≡ get_or xs i r)
+  found r [] h = absurd (omega arith)
+  found r (s ∷ xs) h = found_at r s xs (same r s) refl (omega (arith, h, count_cons r s xs)) (found r xs)
+
+  -- lists in which each element stands as often are one another in another order
+  by_counts : (xs ys : List X) → ((r : X) → count r xs ≡ count r ys) → IsPermutation xs ys
+  by_counts [] [] h = IsPermutation-refl []
+  by_counts [] (y ∷ ys) h = absurd (omega (arith, h y, count_itself y ys))
+  by_counts (x ∷ xs) ys h =
+      let at : (i : ℕ) × (i < length ys) × (x ≡ get_or ys i x) = found x ys (omega (arith, h x, count_itself x xs)) in
+      let out : IsPermutation ys (x ∷ remove ys at.0) = IsPermutation-remove ys at.0 x at.1 at.2 in
+      let rest : (r : X) → count r xs ≡ count r (remove ys at.0) = (λ r. (let e : count r (x ∷ remove ys at.0) ≡ count r ys = sum_by-IsPermutation (λ s. one_if (same r s)) ys (x ∷ remove ys at.0) out in omega (arith, e, h r, count_cons r x xs, count_cons r x (remove ys at.0)))) in
+      IsPermutation-trans (x ∷ xs) (x ∷ remove ys at.0) ys (IsPermutation-cons x xs (remove ys at.0) (by_counts xs (remove ys at.0) rest)) (IsPermutation-sym ys (x ∷ remove ys at.0) out)
+
+  less_at : (r x s : X) (xs : List X) (b : Bool) → same r x ≡ b → 0 < one_if b + count r xs → (0 < count r xs → one_if (same s r) + count s (less same r xs) ≡ count s xs)
+      → one_if (same s r) + count s (cond b xs (x ∷ less same r xs)) ≡ one_if (same s x) + count s xs
+  less_at r x s xs true e h rest = ap (λ (q : X). one_if (same s q) + count s xs) (is.sound r x e)
+  less_at r x s xs false e h rest = omega (arith, rest (omega arith), count_cons s x (less same r xs))
+
+  one_less : (r s : X) (xs : List X) → 0 < count r xs → one_if (same s r) + count s (less same r xs) ≡ count s xs
+  one_less r s [] h = absurd (omega arith)
+  one_less r s (x ∷ xs) h = less_at r x s xs (same r x) refl (omega (arith, h, count_cons r x xs)) (one_less r s xs) ∙ sym (count_cons s x xs)
+
+  -- what is left of a list without an element is what is left of each order of it
+  left : (xs rest : List X) (r : X) → IsPermutation xs (r ∷ rest) → IsPermutation (less same r xs) rest
+  left xs rest r p =
+      let counts : (s : X) → count s (r ∷ rest) ≡ count s xs = (λ s. sum_by-IsPermutation (λ x. one_if (same s x)) xs (r ∷ rest) p) in
+      let there : 0 < count r xs = omega (arith, counts r, count_itself r rest) in
+      by_counts (less same r xs) rest (λ s. omega (arith, one_less r s xs there, counts s, count_cons s r rest))
+
+  same_rest : (xs rest : List X) (r : X) → IsPermutation (r ∷ xs) (r ∷ rest) → IsPermutation xs rest
+  same_rest xs rest r p =
+      let counts : (s : X) → count s (r ∷ rest) ≡ count s (r ∷ xs) = (λ s. sum_by-IsPermutation (λ x. one_if (same s x)) (r ∷ xs) (r ∷ rest) p) in
+      by_counts xs rest (λ s. omega (arith, counts s, count_cons s r rest, count_cons s r xs))
 
 pub same-true : (a b : Release) → same_release a b ≡ true → a ≡ b
 same-true a b h =
@@ -28,39 +83,32 @@ same-true a b h =
 pub same-itself : (a : Release) → same_release a a ≡ true
 same-itself a = and_from _ _ (and_from _ _ (eq-eqb a.job.tx.0 a.job.tx.0 refl) (eq-eqb a.job.serial a.job.serial refl)) (eq-eqb a.tick a.tick refl)
 
-count_itself : (r : Release) (xs : List Release) → count r (r ∷ xs) ≡ 1 + count r xs
-count_itself r xs = count_cons r r xs ∙ ap (λ (b : Bool). one_if b + count r xs) (same-itself r)
+releases_same : IsSame same_release
+releases_same = record { sound = same-true; itself = same-itself }
 
-found_at : (r s : Release) (xs : List Release) (b : Bool) → same_release r s ≡ b → 0 < one_if b + count r xs → (0 < count r xs → (i : ℕ) × (i < length xs) × (r ≡ get_or xs i r)) → (i : ℕ) × (i < suc (length xs)) × (r ≡ get_or (s ∷ xs) i r)
-found_at r s xs true e h rest = (0, omega arith, same-true r s e)
-found_at r s xs false e h rest = let k : (i : ℕ) × (i < length xs) × (r ≡ get_or xs i r) = rest (omega arith) in (suc k.0, omega (arith, k.1), k.2)
-
-found : (r : Release) (xs : List Release) → 0 < count r xs → (i : ℕ) × (i < length xs) × (r ≡ get_or xs i r)
-found r [] h = absurd (omega arith)
-found r (s ∷ xs) h = found_at r s xs (same_release r s) refl (omega (arith, h, count_cons r s xs)) (found r xs)
-
--- lists in which each release stands as often are one another in another order
-pub by_counts : (xs ys : List Release) → ((r : Release) → count r xs ≡ count r ys) → IsPermutation xs ys
-by_counts [] [] h = IsPermutation-refl []
-by_counts [] (y ∷ ys) h = absurd (omega (arith, h y, count_itself y ys))
-by_counts (x ∷ xs) ys h =
-    let at : (i : ℕ) × (i < length ys) × (x ≡ get_or ys i x) = found x ys (omega (arith, h x, count_itself x xs)) in
-    let out : IsPermutation ys (x ∷ remove ys at.0) = IsPermutation-remove ys at.0 x at.1 at.2 in
-    let rest : (r : Release) → count r xs ≡ count r (remove ys at.0) = (λ r. (let e : count r (x ∷ remove ys at.0) ≡ count r ys = sum_by-IsPermutation (λ s. one_if (same_release r s)) ys (x ∷ remove ys at.0) out in omega (arith, e, h r, count_cons r x xs, count_cons r x (remove ys at.0)))) in
-    IsPermutation-trans (x ∷ xs) (x ∷ remove ys at.0) ys (IsPermutation-cons x xs (remove ys at.0) (by_counts xs (remove ys at.0) rest)) (IsPermutation-sym ys (x ∷ remove ys at.0) out)
-
-less_at : (r x s : Release) (xs : List Release) (b : Bool) → same_release r x ≡ b → 0 < one_if b + count r xs → (0 < count r xs → one_if (same_release s r) + count s (without r xs) ≡ count s xs)
-    → one_if (same_release s r) + count s (cond b xs (x ∷ without r xs)) ≡ one_if (same_release s x) + count s xs
-less_at r x s xs true e h rest = ap (λ (q : Release). one_if (same_release s q) + count s xs) (same-true r x e)
-less_at r x s xs false e h rest = omega (arith, rest (omega arith), count_cons s x (without r xs))
-
-less : (r s : Release) (xs : List Release) → 0 < count r xs → one_if (same_release s r) + count s (without r xs) ≡ count s xs
-less r s [] h = absurd (omega arith)
-less r s (x ∷ xs) h = less_at r x s xs (same_release r x) refl (omega (arith, h, count_cons r x xs)) (less r s xs) ∙ sym (count_cons s x xs)
+without-less : (r : Release) (xs : List Release) → without r xs ≡ less same_release r xs
+without-less r [] = refl
+without-less r (x ∷ xs) = ap (λ (q : List Release). cond (same_release r x) xs (x ∷ q)) (without-less r xs)
 
 -- what is left of a list without a release is what is left of each order of it
 pub taken : (planned rest : List Release) (r : Release) → IsPermutation planned (r ∷ rest) → IsPermutation (without r planned) rest
-taken planned rest r p =
-    let counts : (s : Release) → count s (r ∷ rest) ≡ count s planned = (λ s. sum_by-IsPermutation (λ x. one_if (same_release s x)) planned (r ∷ rest) p) in
-    let there : 0 < count r planned = omega (arith, counts r, count_itself r rest) in
-    by_counts (without r planned) rest (λ s. omega (arith, less r s planned there, counts s, count_cons s r rest))
+taken planned rest r p = rw (without-less r planned) (left same_release releases_same planned rest r p)
+
+abbrev same_head : Reverse Planned → Reverse Planned → Bool
+same_head a b = (a.0.tx == b.0.tx) && (a.0.serial == b.0.serial) && (a.0.tick == b.0.tick)
+
+heads_same : IsSame same_head
+heads_same = record {
+  sound = λ a b h.
+      (let parts : ((a.0.tx == b.0.tx && a.0.serial == b.0.serial) ≡ true) × ((a.0.tick == b.0.tick) ≡ true) = and_parts _ _ h in
+      let job : ((a.0.tx == b.0.tx) ≡ true) × ((a.0.serial == b.0.serial) ≡ true) = and_parts _ _ parts.0 in
+      let tx : a.0.tx ≡ b.0.tx = eqb-true _ _ job.0 in
+      let serial : a.0.serial ≡ b.0.serial = eqb-true _ _ job.1 in
+      let tick : a.0.tick ≡ b.0.tick = eqb-true _ _ parts.1 in
+      let q : record { 0 = record { tick = a.0.tick; tx = a.0.tx; serial = a.0.serial } } ≡ record { 0 = record { tick = b.0.tick; tx = b.0.tx; serial = b.0.serial } } = cc in q);
+  itself = λ a. and_from _ _ (and_from _ _ (eq-eqb a.0.tx a.0.tx refl) (eq-eqb a.0.serial a.0.serial refl)) (eq-eqb a.0.tick a.0.tick refl);
+}
+
+-- what stands beside a head in one order and in another
+pub beside : (xs ys : List (Reverse Planned)) (r : Reverse Planned) → IsPermutation (r ∷ xs) (r ∷ ys) → IsPermutation xs ys
+beside xs ys r p = same_rest same_head heads_same xs ys r p

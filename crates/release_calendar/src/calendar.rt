@@ -3,43 +3,39 @@ ghost use Rattle.std.specs.Prelude.{◌≡◌, ℕ, ◌+◌, ◌*◌, ◌^◌, �
 ghost use Rattle.rt_base.specs.declared.release.Release.{Release};
 ghost use Rattle.release_calendar.specs.Agenda.{Agenda, Holds, ArePeriods, no_plans, plans_of, earliest, refusal, next_for, IsPlanned, SamePlans, NothingDue, IsDue, left, least_tick, comes_later};
 
-use crate::heap::{Heap, first_at, put_in, take_out};
 use crate::planned::Planned;
+use crate::queues::Queues;
 use rt_base::{JobId, OutOfMemory, PlanRefused, Plans, Tick, TxId};
 use std::alloc::Global;
-use std::cmp::Reverse;
-use std::collections::BinaryHeap;
 use std::marker::Model;
 
 /// The latest tick for which a job may be planned.
 const LAST_TICK: Tick = 1 << 40;
 
-/// How many jobs of each transaction were planned and for which tick the last, and a heap of the planned releases that did
-/// not take place yet, the next of them first. Contracts speak of these releases as a list, whose order may be that of the
-/// plans. No call after `new` takes memory.
+/// How many jobs of each transaction were planned and for which tick the last, and the planned releases that did not take
+/// place yet: of each transaction in order, and the next of them at hand. Contracts speak of these releases as a list, whose
+/// order may be that of the plans. No call after `new` takes memory.
 #[derive(Drop)]
 pub struct Calendar {
     periods: Vec<Tick>,
     plans: Vec<Plans>,
-    planned: Heap,
-    room: usize,
+    planned: Queues,
 }
 
 impl Model for Calendar {
-    ghost use Rattle.std.specs.BinaryHeap.{heap_items, heap_capacity};
     ghost use Rattle.release_calendar.specs.Agenda.{Agenda as Kept};
-    ghost use Rattle.release_calendar.specs.Heap.{releases, IsCalendar};
+    ghost use Rattle.release_calendar.specs.Queues.{releases, IsCalendar};
 
     ghost Value = { Kept };
 
-    ghost view = { λ c. record { periods = c.periods.items; plans = c.plans.items; planned = releases (heap_items c.planned); room = c.room } };
+    ghost view = { λ c. record { periods = c.periods.items; plans = c.plans.items; planned = releases c.planned.queues; room = c.planned.room } };
 
-    ghost invariant = { λ c. IsCalendar (record { periods = c.periods.items; plans = c.plans.items; planned = releases (heap_items c.planned); room = c.room }) (heap_items c.planned) (heap_capacity c.planned) };
+    ghost invariant = { λ c. IsCalendar (record { periods = c.periods.items; plans = c.plans.items; planned = releases c.planned.queues; room = c.planned.room }) c.planned.queues };
 }
 
 impl Calendar {
-    /// Nothing planned, of transactions with these periods, each from 1 to 2^30 ticks. It reserves room for so many planned
-    /// releases.
+    /// Nothing planned, of transactions with these periods, each from 1 to 2^30 ticks. There is room for so many planned
+    /// releases in all, and that room is reserved for each transaction.
     pub fn new(alloc: Global, periods: Vec<Tick>, room: usize) -> Result<Calendar, OutOfMemory>
         requires { ArePeriods periods.items }
         ensures periods { IfOk result (λ c. c.periods ≡ periods.items) }
@@ -47,7 +43,7 @@ impl Calendar {
         ensures planned { IfOk result (λ c. c.planned ≡ []) }
         ensures room { IfOk result (λ c. c.room ≡ room) }
     {
-        let planned = BinaryHeap::with_capacity(alloc, room)?;
+        let planned = Queues::new(alloc, periods.len(), room)?;
         let mut plans = Vec::with_capacity(alloc, periods.len())?;
         for _ in 0..periods.len() {
             plans.push(Plans { number: 0, last: 0 })?;
@@ -56,7 +52,6 @@ impl Calendar {
             periods,
             plans,
             planned,
-            room,
         })
     }
 
@@ -75,8 +70,10 @@ impl Calendar {
             Err(PlanRefused::TooSoon { earliest })
         } else if LAST_TICK < tick {
             Err(PlanRefused::TooFar { limit: LAST_TICK })
-        } else if self.room <= self.planned.len() {
-            Err(PlanRefused::CalendarFull { room: self.room })
+        } else if self.planned.room() <= self.planned.waiting() {
+            Err(PlanRefused::CalendarFull {
+                room: self.planned.room(),
+            })
         } else if u32::MAX <= number {
             Err(PlanRefused::NoSerial { planned: u32::MAX })
         } else {
@@ -85,7 +82,7 @@ impl Calendar {
     }
 
     /// Plans the next job of a transaction for a tick, and answers its serial. A refusal changes nothing. It costs
-    /// logarithmic time in the number of planned releases.
+    /// logarithmic time in the number of transactions, however many releases are planned.
     pub fn plan(&mut self, tx: TxId, tick: Tick, now: Tick) -> Result<u32, PlanRefused>
         requires { tx.0 < length self.old.periods }
         ensures rule { MatchResult result (λ _. refusal self.old tx.0 tick now ≡ None) (λ refused. refusal self.old tx.0 tick now ≡ Some refused) }
@@ -126,24 +123,23 @@ impl Calendar {
     }
 
     /// Takes out one release that is planned for a tick, the one with the least transaction number; None exactly where there
-    /// is none. Where nothing is planned before that tick, it costs logarithmic time in the number of planned releases, and
-    /// one look at the head of the heap where none is due. Else it goes over the planned releases.
+    /// is none. Where nothing is planned before that tick, it costs logarithmic time in the number of transactions, and one
+    /// look where none is due. Else it goes over the planned releases.
     pub fn due(&mut self, tick: Tick) -> Option<JobId>
         ensures due { (planned : List Release) → Holds self.old planned → MatchOption result (NothingDue tick planned) (IsDue tick planned) }
         ensures left { (planned : List Release) → Holds self.old planned → Holds self.new (left tick result planned) }
         ensures rest { SamePlans self.old self.new }
     {
-        let next = first_at(&self.planned, tick)?;
-        take_out(&mut self.planned, next);
-        Some(next.job())
+        let place = self.planned.place_at(tick)?;
+        Some(self.planned.take(place).job())
     }
 
-    /// The least planned tick, by one look at the head of the heap; None exactly where nothing is planned.
+    /// The least planned tick, by one look; None exactly where nothing is planned.
     pub fn next_tick(&self) -> Option<Tick>
         ensures { (planned : List Release) → Holds self.now planned → result ≡ least_tick planned }
     {
-        match self.planned.peek() {
-            Some(Reverse(next)) => Some(next.tick),
+        match self.planned.first() {
+            Some(next) => Some(next.tick),
             None => None,
         }
     }
@@ -152,7 +148,7 @@ impl Calendar {
     pub fn waiting(&self) -> usize
         ensures { (planned : List Release) → Holds self.now planned → result ≡ length planned }
     {
-        self.planned.len()
+        self.planned.waiting()
     }
 
     fn earliest(&self, tx: TxId) -> Tick
@@ -172,6 +168,7 @@ impl Calendar {
         requires room { length self.old.planned < self.old.room }
         requires serial { serial ≡ (plans_of self.old tx.0).number }
         requires number { serial + 1 < 2 ^ 32 }
+        requires early { earliest self.old tx.0 ≤ tick }
         requires tick { tick ≤ 2 ^ 40 }
         ensures { IsPlanned self.old self.new tx.0 tick }
     {
@@ -179,6 +176,6 @@ impl Calendar {
             number: serial + 1,
             last: tick,
         };
-        put_in(&mut self.planned, Planned::of(tx, serial, tick));
+        self.planned.put(Planned::of(tx, serial, tick));
     }
 }

@@ -2,8 +2,8 @@
 #![tactic(auto)]
 
 mod calendar;
-mod heap;
 mod planned;
+mod queues;
 
 pub use calendar::Calendar;
 

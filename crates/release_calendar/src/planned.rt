@@ -1,5 +1,5 @@
-//! A release in the heap.
-ghost use Rattle.std.specs.Prelude.{◌≡◌, ◌==◌, ◌&&◌};
+//! A planned release.
+ghost use Rattle.std.specs.Prelude.{◌≡◌};
 ghost use Rattle.release_calendar.specs.Agenda.{job_of};
 
 use rt_base::{JobId, Tick, TxId};
@@ -22,13 +22,6 @@ impl Planned {
             tx: tx.0,
             serial,
         }
-    }
-
-    /// Whether it is of that one's job.
-    pub fn is_job(self, other: Planned) -> bool
-        ensures { result ≡ (self.tx == other.tx && self.serial == other.serial) }
-    {
-        self.tx == other.tx && self.serial == other.serial
     }
 
     /// The job.

@@ -1,0 +1,275 @@
+//! From lines to entries.
+ghost use Rattle.std.specs.Prelude.{◌≡◌, ◌^◌, ◌<◌, ◌&&◌, length, option_map, codes, IfSome};
+ghost use Rattle.line_fields.specs.Cuts.{next};
+ghost use Rattle.rt_base.specs.Names.{AreNames};
+ghost use Rattle.journal_text.specs.Lines.{entry_line, HasLine, IsEntryOf, IsWritable};
+ghost use Rattle.journal_text.specs.Reading.{read_of, write_of, op_form, op_of, stamp_of, got_of, outcome_of, stale_of, apart_of, end_form, end_of, over_of, plan_of, step_of, block_of, idle_of, form_of, entry_of};
+
+use line_fields::{
+    done, field, next_item, next_job, next_short, next_signed, next_tx, next_unsigned, next_word,
+    unsigned, word,
+};
+use rt_base::{End, Names, Op, Outcome};
+use step_journal::Entry;
+
+#[tactic(auto, unfolding(crate::specs::Reading::read_of))]
+fn read<'a>(names: &Names, rest: &'a [u8]) -> Option<(Op, &'a [u8])>
+    requires { length names.now.items < 2 ^ 32 }
+    ensures { option_map (λ p. (p.0, p.1.now)) result ≡ read_of names.now rest.now }
+{
+    let (item, rest) = next_item(names.items.as_slice(), rest)?;
+    Some((Op::Read(item), rest))
+}
+
+#[tactic(auto, unfolding(crate::specs::Reading::write_of))]
+fn write<'a>(names: &Names, rest: &'a [u8]) -> Option<(Op, &'a [u8])>
+    requires { length names.now.items < 2 ^ 32 }
+    ensures { option_map (λ p. (p.0, p.1.now)) result ≡ write_of names.now rest.now }
+{
+    let (item, rest) = next_item(names.items.as_slice(), rest)?;
+    let (value, rest) = next_signed(rest)?;
+    Some((Op::Write(item, value), rest))
+}
+
+#[tactic(auto, unfolding(crate::specs::Reading::op_form))]
+fn op_after<'a>(names: &Names, word: &[u8], rest: &'a [u8]) -> Option<(Op, &'a [u8])>
+    requires { length names.now.items < 2 ^ 32 }
+    ensures { option_map (λ p. (p.0, p.1.now)) result ≡ op_form names.now word.now rest.now }
+{
+    if word == b"read".as_slice() {
+        read(names, rest)
+    } else if word == b"write".as_slice() {
+        write(names, rest)
+    } else if word == b"compute".as_slice() {
+        Some((Op::Compute, rest))
+    } else if word == b"commit".as_slice() {
+        Some((Op::Commit, rest))
+    } else if word == b"quit".as_slice() {
+        Some((Op::Quit, rest))
+    } else {
+        None
+    }
+}
+
+#[tactic(auto, unfolding(crate::specs::Reading::op_of))]
+fn op<'a>(names: &Names, rest: &'a [u8]) -> Option<(Op, &'a [u8])>
+    requires { length names.now.items < 2 ^ 32 }
+    ensures { option_map (λ p. (p.0, p.1.now)) result ≡ op_of names.now rest.now }
+{
+    let (word, rest) = field(rest)?;
+    op_after(names, word, rest)
+}
+
+#[tactic(auto, unfolding(crate::specs::Reading::stamp_of))]
+fn stamp(word: &[u8]) -> Option<Option<u64>>
+    ensures { result ≡ stamp_of word.now }
+{
+    if word == b"own".as_slice() {
+        Some(None)
+    } else {
+        Some(Some(unsigned(word)?))
+    }
+}
+
+#[tactic(auto, unfolding(line_fields::specs::Cuts::next))]
+fn next_stamp(rest: &[u8]) -> Option<(Option<u64>, &[u8])>
+    ensures { option_map (λ p. (p.0, p.1.now)) result ≡ next stamp_of rest.now }
+{
+    let (word, rest) = field(rest)?;
+    let stamp = stamp(word)?;
+    Some((stamp, rest))
+}
+
+#[tactic(auto, unfolding(crate::specs::Reading::got_of))]
+fn got(rest: &[u8]) -> Option<(Outcome, &[u8])>
+    ensures { option_map (λ p. (p.0, p.1.now)) result ≡ got_of rest.now }
+{
+    let (value, rest) = next_signed(rest)?;
+    let (stamp, rest) = next_stamp(rest)?;
+    Some((Outcome::Got { value, stamp }, rest))
+}
+
+#[tactic(auto, unfolding(crate::specs::Reading::outcome_of))]
+fn outcome(op: Op, rest: &[u8]) -> Option<(Outcome, &[u8])>
+    ensures { option_map (λ p. (p.0, p.1.now)) result ≡ outcome_of op rest.now }
+{
+    match op {
+        Op::Read(_) => got(rest),
+        Op::Write(_, _) => Some((Outcome::Put, rest)),
+        Op::Compute => Some((Outcome::Computed, rest)),
+        Op::Commit => Some((Outcome::Closed, rest)),
+        Op::Quit => Some((Outcome::Closed, rest)),
+    }
+}
+
+#[tactic(auto, unfolding(crate::specs::Reading::stale_of))]
+fn stale<'a>(names: &Names, rest: &'a [u8]) -> Option<(End, &'a [u8])>
+    requires { length names.now.items < 2 ^ 32 }
+    ensures { option_map (λ p. (p.0, p.1.now)) result ≡ stale_of names.now rest.now }
+{
+    let (item, rest) = next_item(names.items.as_slice(), rest)?;
+    let (stamp, rest) = next_unsigned(rest)?;
+    Some((End::Stale { item, stamp }, rest))
+}
+
+#[tactic(auto, unfolding(crate::specs::Reading::apart_of))]
+fn apart<'a>(names: &Names, rest: &'a [u8]) -> Option<(End, &'a [u8])>
+    requires { length names.now.items < 2 ^ 32 }
+    ensures { option_map (λ p. (p.0, p.1.now)) result ≡ apart_of names.now rest.now }
+{
+    let (a, rest) = next_item(names.items.as_slice(), rest)?;
+    let (b, rest) = next_item(names.items.as_slice(), rest)?;
+    Some((End::Apart { a, b }, rest))
+}
+
+#[tactic(auto, unfolding(crate::specs::Reading::end_form))]
+fn end_after<'a>(names: &Names, word: &[u8], rest: &'a [u8]) -> Option<(End, &'a [u8])>
+    requires { length names.now.items < 2 ^ 32 }
+    ensures { option_map (λ p. (p.0, p.1.now)) result ≡ end_form names.now word.now rest.now }
+{
+    if word == b"committed".as_slice() {
+        Some((End::Committed, rest))
+    } else if word == b"overrun".as_slice() {
+        Some((End::Overrun, rest))
+    } else if word == b"late".as_slice() {
+        Some((End::Late, rest))
+    } else if word == b"stale".as_slice() {
+        stale(names, rest)
+    } else if word == b"apart".as_slice() {
+        apart(names, rest)
+    } else if word == b"quit".as_slice() {
+        Some((End::Quit, rest))
+    } else {
+        None
+    }
+}
+
+/// The end that the next fields are.
+#[tactic(auto, unfolding(crate::specs::Reading::end_of))]
+pub fn next_end<'a>(names: &Names, rest: &'a [u8]) -> Option<(End, &'a [u8])>
+    requires { length names.now.items < 2 ^ 32 }
+    ensures { option_map (λ p. (p.0, p.1.now)) result ≡ end_of names.now rest.now }
+{
+    let (word, rest) = field(rest)?;
+    end_after(names, word, rest)
+}
+
+#[tactic(auto, unfolding(crate::specs::Reading::over_of))]
+fn over(names: &Names, rest: &[u8]) -> Option<Option<End>>
+    requires { length names.now.items < 2 ^ 32 }
+    ensures { result ≡ over_of names.now rest.now }
+{
+    match rest {
+        [] => Some(None),
+        _ => {
+            let (_, rest) = next_word(b"end", rest)?;
+            let (end, rest) = next_end(names, rest)?;
+            done(rest)?;
+            Some(Some(end))
+        }
+    }
+}
+
+#[tactic(auto, unfolding(crate::specs::Reading::plan_of))]
+fn plan(names: &Names, rest: &[u8]) -> Option<Entry>
+    requires { length names.now.txns < 2 ^ 32 }
+    ensures { result ≡ plan_of names.now rest.now }
+{
+    let (tx, rest) = next_tx(names.txns.as_slice(), rest)?;
+    let (tick, rest) = next_unsigned(rest)?;
+    done(rest)?;
+    Some(Entry::Planned { tx, tick })
+}
+
+#[tactic(auto, unfolding(crate::specs::Reading::step_of))]
+fn step(names: &Names, rest: &[u8]) -> Option<Entry>
+    requires items { length names.now.items < 2 ^ 32 }
+    requires txns { length names.now.txns < 2 ^ 32 }
+    ensures { result ≡ step_of names.now rest.now }
+{
+    let (job, rest) = next_job(names.txns.as_slice(), rest)?;
+    let (tick, rest) = next_unsigned(rest)?;
+    let (op, rest) = op(names, rest)?;
+    let (outcome, rest) = outcome(op, rest)?;
+    let over = over(names, rest)?;
+    Some(Entry::Step {
+        job,
+        op,
+        outcome,
+        over,
+        tick,
+    })
+}
+
+#[tactic(auto, unfolding(crate::specs::Reading::block_of))]
+fn block(names: &Names, rest: &[u8]) -> Option<Entry>
+    requires items { length names.now.items < 2 ^ 32 }
+    requires txns { length names.now.txns < 2 ^ 32 }
+    ensures { result ≡ block_of names.now rest.now }
+{
+    let (job, rest) = next_job(names.txns.as_slice(), rest)?;
+    let (tick, rest) = next_unsigned(rest)?;
+    let (op, rest) = op(names, rest)?;
+    let (_, rest) = next_word(b"by", rest)?;
+    let (by, rest) = next_job(names.txns.as_slice(), rest)?;
+    let (ceiling, rest) = next_short(rest)?;
+    done(rest)?;
+    Some(Entry::Blocked {
+        job,
+        op,
+        by,
+        ceiling,
+        tick,
+    })
+}
+
+#[tactic(auto, unfolding(crate::specs::Reading::idle_of))]
+fn idle(rest: &[u8]) -> Option<Entry>
+    ensures { result ≡ idle_of rest.now }
+{
+    let (from, rest) = next_unsigned(rest)?;
+    let (to, rest) = next_unsigned(rest)?;
+    done(rest)?;
+    Some(Entry::Idle { from, to })
+}
+
+#[tactic(auto, unfolding(crate::specs::Reading::form_of))]
+fn form(names: &Names, word: &[u8], rest: &[u8]) -> Option<Entry>
+    requires items { length names.now.items < 2 ^ 32 }
+    requires txns { length names.now.txns < 2 ^ 32 }
+    ensures { result ≡ form_of names.now word.now rest.now }
+{
+    if word == b"plan".as_slice() {
+        plan(names, rest)
+    } else if word == b"step".as_slice() {
+        step(names, rest)
+    } else if word == b"block".as_slice() {
+        block(names, rest)
+    } else if word == b"idle".as_slice() {
+        idle(rest)
+    } else {
+        None
+    }
+}
+
+fn entry_in(names: &Names, line: &[u8]) -> Option<Entry>
+    requires items { length names.now.items < 2 ^ 32 }
+    requires txns { length names.now.txns < 2 ^ 32 }
+    ensures { result ≡ entry_of names.now line.now }
+{
+    let (word, rest) = word(line);
+    form(names, word, rest)
+}
+
+/// The entry whose line this is, without its line end. Over names that are names and differ: Some exactly where the line
+/// is an entry's, and then with that entry. It takes no memory, and compares a name with each declared one at most.
+pub fn read_entry(names: &Names, line: &[u8]) -> Option<Entry>
+    requires few_items { length names.now.items < 2 ^ 32 }
+    requires few_txns { length names.now.txns < 2 ^ 32 }
+    ensures value { result ≡ entry_of names.now line.now }
+    ensures taken { IfSome result (λ e. HasLine names.now e × (entry_line names.now e ≡ line.now)) }
+    ensures writable { IfSome result (λ e. IsWritable names.now e) }
+    ensures exact { AreNames names.now.items → AreNames names.now.txns → IsEntryOf names.now line.now result }
+{
+    entry_in(names, line)
+}

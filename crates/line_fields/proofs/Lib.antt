@@ -1,0 +1,4 @@
+pub mod CutLaws
+pub mod NumberLaws
+pub mod IdLaws
+pub mod Words

@@ -1,0 +1,108 @@
+//! Numbers in decimal digits, without leading zeros.
+ghost use Rattle.std.specs.Prelude.{◌≡◌, ℕ, ◌^◌, ◌<◌, Some, decimal, pos, nat_lt, option_map, if◌then◌else◌};
+ghost use Rattle.line_fields.specs.Cuts.{next};
+ghost use Rattle.line_fields.specs.Numbers.{unsigned_of, short_of, below_zero, signed_of};
+
+use crate::cuts::field;
+use itoa::Buffer;
+use std::str;
+
+fn number_in(text: &str) -> Option<u64>
+    ensures { (n : ℕ) → n < 2 ^ 64 → decimal n ≡ text.now → result ≡ Some n }
+{
+    match text.parse::<u64>() {
+        Ok(n) => Some(n),
+        Err(_) => None,
+    }
+}
+
+fn parsed(word: &[u8]) -> Option<u64>
+    ensures { (n : ℕ) → n < 2 ^ 64 → decimal n ≡ word.now → result ≡ Some n }
+{
+    match str::from_utf8(word) {
+        Ok(text) => number_in(text),
+        Err(_) => None,
+    }
+}
+
+/// The number below 2^64 that the word is in decimal digits, without a sign or a leading zero.
+#[tactic(auto, unfolding(crate::specs::Numbers::unsigned_of))]
+pub fn unsigned(word: &[u8]) -> Option<u64>
+    ensures { result ≡ unsigned_of word.now }
+{
+    let Some(n) = parsed(word) else {
+        return None;
+    };
+    if Buffer::new().format(n).as_bytes() == word {
+        Some(n)
+    } else {
+        None
+    }
+}
+
+/// The same below 2^32.
+#[tactic(auto, unfolding(crate::specs::Numbers::short_of))]
+pub fn short(word: &[u8]) -> Option<u32>
+    ensures { result ≡ short_of word.now }
+{
+    let n = unsigned(word)?;
+    if n < 1 << 32 { Some(n as u32) } else { None }
+}
+
+fn negative(n: u64) -> Option<i64>
+    ensures { result ≡ below_zero n }
+{
+    if n == 0 || n > 1 << 63 {
+        None
+    } else {
+        Some(-((n - 1) as i64) - 1)
+    }
+}
+
+fn positive(n: u64) -> Option<i64>
+    ensures { result ≡ (if nat_lt n (2 ^ 63) then Some (pos n) else None) }
+{
+    if n < 1 << 63 { Some(n as i64) } else { None }
+}
+
+/// The number from -2^63 to 2^63 - 1 that the word is in decimal digits, with a `-` exactly where it is below 0.
+#[tactic(auto, unfolding(crate::specs::Numbers::signed_of))]
+pub fn signed(word: &[u8]) -> Option<i64>
+    ensures { result ≡ signed_of word.now }
+{
+    match word {
+        [] => None,
+        [b'-', digits @ ..] => negative(unsigned(digits)?),
+        _ => positive(unsigned(word)?),
+    }
+}
+
+/// The unsigned number in the next field.
+#[tactic(auto, unfolding(crate::specs::Cuts::next))]
+pub fn next_unsigned(bytes: &[u8]) -> Option<(u64, &[u8])>
+    ensures { option_map (λ p. (p.0, p.1.now)) result ≡ next unsigned_of bytes.now }
+{
+    let (word, rest) = field(bytes)?;
+    let n = unsigned(word)?;
+    Some((n, rest))
+}
+
+/// The number below 2^32 in the next field.
+#[tactic(auto, unfolding(crate::specs::Cuts::next))]
+pub fn next_short(bytes: &[u8]) -> Option<(u32, &[u8])>
+    ensures { option_map (λ p. (p.0, p.1.now)) result ≡ next short_of bytes.now }
+{
+    let (word, rest) = field(bytes)?;
+    let n = short(word)?;
+    Some((n, rest))
+}
+
+/// The signed number in the next field.
+#[tactic(auto, unfolding(crate::specs::Cuts::next))]
+pub fn next_signed(bytes: &[u8]) -> Option<(i64, &[u8])>
+    ensures { option_map (λ p. (p.0, p.1.now)) result ≡ next signed_of bytes.now }
+{
+    let (word, rest) = field(bytes)?;
+    let n = signed(word)?;
+    Some((n, rest))
+}

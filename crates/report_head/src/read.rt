@@ -1,0 +1,204 @@
+//! The head of a report.
+ghost use Rattle.std.specs.Prelude.{◌≡◌, ◌^◌, ◌<◌, ◌≤◌, ◌+◌, length, IfOk, Err};
+ghost use Rattle.report_head.specs.Head.{nothing, told, told_as, line_of, head, lines_of, head_of, ended, Gives};
+ghost use Rattle.report_head.specs.IsHead.{IsHead};
+ghost use Rattle.report_head.specs.Pieces.{pieces};
+
+use crate::found::{Found, Part, declared};
+use crate::words::version;
+use item_model::ItemDecl;
+use line_fields::cut;
+use rt_base::{List, Name, Names, OutOfMemory, TogetherDecl};
+use std::alloc::Global;
+use std::marker::Model;
+use txn_set::TxnDecl;
+
+/// The declarations of a report, up to its mode line: a set that may break rules of sets, and whether it is reported as
+/// admitted.
+#[derive(Drop)]
+pub struct Head {
+    pub names: Names,
+    pub items: List<ItemDecl>,
+    pub txns: List<TxnDecl>,
+    pub together: List<TogetherDecl>,
+    pub admitted: bool,
+    /// How many lines there are up to the mode line, that one counted too.
+    pub lines: usize,
+}
+
+/// Why the declarations of a report are not read.
+#[derive(Clone, Copy, Debug, PartialEq, Eq)]
+pub enum HeadError {
+    /// The first line, counted from 1, that is no line of a declaration, has no line end, or stands out of order; also
+    /// one that names what is not declared before it, or declares a name again.
+    BadLine { n: usize },
+    /// All lines are good, and there is no mode line.
+    Unfinished,
+    OutOfMemory,
+}
+
+// What is declared so far.
+#[derive(Drop)]
+struct Growing {
+    part: Part,
+    names: Vec<Name>,
+    items: Vec<ItemDecl>,
+    txn_names: Vec<Name>,
+    txns: Vec<TxnDecl>,
+    sets: Vec<TogetherDecl>,
+}
+
+impl Model for Growing {
+    ghost use Rattle.report_head.specs.Head.{Decls};
+
+    ghost Value = { Decls };
+
+    ghost view = { λ g. record { part = g.part; names = g.names.items; items = g.items.items; txn_names = g.txn_names.items; txns = g.txns.items; sets = g.sets.items } };
+}
+
+#[derive(Clone, Copy)]
+enum Line {
+    Bad,
+    More,
+    Mode(bool),
+}
+
+impl Growing {
+    fn new(alloc: Global) -> Growing
+        ensures { result ≡ nothing }
+    {
+        Growing {
+            part: Part::Items,
+            names: Vec::new(alloc),
+            items: Vec::new(alloc),
+            txn_names: Vec::new(alloc),
+            txns: Vec::new(alloc),
+            sets: Vec::new(alloc),
+        }
+    }
+
+    fn add(&mut self, found: Found) -> Result<Line, OutOfMemory>
+        ensures told { IfOk result (λ l. told_as l self.new ≡ told self.old found) }
+        ensures names { length self.new.names ≤ length self.old.names + 1 }
+        ensures txns { length self.new.txn_names ≤ length self.old.txn_names + 1 }
+    {
+        match found {
+            Found::Item(name, decl) => {
+                if self.part != Part::Items {
+                    return Ok(Line::Bad);
+                }
+                self.names.push(name)?;
+                self.items.push(decl)?;
+                Ok(Line::More)
+            }
+            Found::Txn(name, decl) => {
+                if self.part == Part::Sets {
+                    return Ok(Line::Bad);
+                }
+                self.part = Part::Txns;
+                self.txn_names.push(name)?;
+                self.txns.push(decl)?;
+                Ok(Line::More)
+            }
+            Found::Set(set) => {
+                self.part = Part::Sets;
+                self.sets.push(set)?;
+                Ok(Line::More)
+            }
+            Found::Mode(admitted) => Ok(Line::Mode(admitted)),
+        }
+    }
+
+    #[tactic(auto, unfolding(crate::specs::Head::line_of))]
+    fn line(&mut self, alloc: Global, two: bool, line: &[u8]) -> Result<Line, OutOfMemory>
+        requires names { length self.old.names < 2 ^ 32 }
+        requires txns { length self.old.txn_names < 2 ^ 32 }
+        ensures told { IfOk result (λ l. told_as l self.new ≡ line_of two self.old line.now) }
+        ensures names { length self.new.names ≤ length self.old.names + 1 }
+        ensures txns { length self.new.txn_names ≤ length self.old.txn_names + 1 }
+    {
+        match declared(alloc, &self.names, &self.txn_names, two, line)? {
+            Some(found) => self.add(found),
+            None => Ok(Line::Bad),
+        }
+    }
+
+    fn head(self, admitted: bool, lines: usize) -> Head
+        ensures { result ≡ head self admitted lines }
+    {
+        let Growing {
+            part: _,
+            names,
+            items,
+            txn_names,
+            txns,
+            sets,
+        } = self;
+        Head {
+            names: Names {
+                items: List::of(names),
+                txns: List::of(txn_names),
+            },
+            items: List::of(items),
+            txns: List::of(txns),
+            together: List::of(sets),
+            admitted,
+            lines,
+        }
+    }
+}
+
+fn end(n: usize, rest: &[u8]) -> HeadError
+    ensures { Err result ≡ ended n rest.now }
+{
+    if rest.is_empty() {
+        HeadError::Unfinished
+    } else {
+        HeadError::BadLine { n }
+    }
+}
+
+// The head from line 2 on.
+fn lines(alloc: Global, two: bool, bytes: &[u8]) -> Result<Head, HeadError>
+    requires { length bytes.now + 1 < 2 ^ 32 }
+    ensures { Gives result (lines_of two nothing 2 (pieces 10 bytes.now).0 (pieces 10 bytes.now).1) }
+{
+    let mut growing = Growing::new(alloc);
+    let mut rest = bytes;
+    let mut n = 2;
+    while let Some((line, after)) = cut(b'\n', rest) {
+        match growing.line(alloc, two, line) {
+            Err(OutOfMemory) => return Err(HeadError::OutOfMemory),
+            Ok(Line::Bad) => return Err(HeadError::BadLine { n }),
+            Ok(Line::Mode(admitted)) => return Ok(growing.head(admitted, n)),
+            Ok(Line::More) => {}
+        }
+        rest = after;
+        n += 1;
+    }
+    Err(end(n, rest))
+}
+
+// The head of a report.
+fn head_in(alloc: Global, bytes: &[u8]) -> Result<Head, HeadError>
+    requires { length bytes.now < 2 ^ 32 }
+    ensures { Gives result (head_of bytes.now) }
+{
+    let Some((first, rest)) = cut(b'\n', bytes) else {
+        return Err(end(1, bytes));
+    };
+    match version(first) {
+        Some(two) => lines(alloc, two, rest),
+        None => Err(HeadError::BadLine { n: 1 }),
+    }
+}
+
+/// The declarations of a report. It reads up to the mode line and no further, and compares each name with those that are
+/// declared before it.
+pub fn read_head(alloc: Global, bytes: &[u8]) -> Result<Head, HeadError>
+    requires { length bytes.now < 2 ^ 32 }
+    ensures head { Gives result (head_of bytes.now) }
+    ensures good { IfOk result IsHead }
+{
+    head_in(alloc, bytes)
+}

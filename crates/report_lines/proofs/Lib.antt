@@ -1,0 +1,5 @@
+pub mod RowLaws
+pub mod Named
+pub mod ListAgain
+pub mod LineAgain
+pub mod HeadAgain

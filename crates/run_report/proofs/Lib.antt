@@ -1,0 +1,3 @@
+pub mod BoundLines
+pub mod HeadSets
+pub mod LegalLines

@@ -1,0 +1,9 @@
+use Rattle.std.proofs.Common.{◌≡◌, ◌++◌, drop}
+use Rattle.report_lines.specs.Rows.{numbered}
+use Rattle.run_report.specs.Bounds.{bounds_line}
+use Rattle.run_report.proofs.limits.add_bounds.Given as goal
+
+abbrev pub invariant-loop-i : goal.invariant-loop-i
+invariant-loop-i l =
+    l.into.items ++ numbered (bounds_line l.names l.set) l.i (drop l.i l.set.txns)
+    ≡ l.fn.into.items ++ numbered (bounds_line l.names l.set) 0 l.set.txns
