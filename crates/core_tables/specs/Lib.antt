@@ -4,3 +4,4 @@ pub mod Legal
 pub mod Changes
 pub mod Asks
 pub mod Arriving
+pub mod SoloSet

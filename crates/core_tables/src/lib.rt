@@ -13,3 +13,6 @@ mod tally;
 
 pub use tables::CoreTables;
 pub use tally::Tally;
+
+#[cfg(test)]
+mod tests;
