@@ -1,0 +1,11 @@
+//! Where a run's entries go, piece by piece, while it goes on.
+#![tactic(auto)]
+
+mod kept;
+mod out;
+
+pub use kept::KeptEntries;
+pub use out::{EntryOut, Stopped};
+
+#[cfg(test)]
+mod tests;

@@ -1,0 +1,11 @@
+pub mod Places
+pub mod Numbers
+pub mod Releasing
+pub mod Delayed
+pub mod Shown
+pub mod Moved
+pub mod Named
+pub mod Stepping
+pub mod Going
+pub mod Needs
+pub mod Opens

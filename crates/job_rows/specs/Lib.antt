@@ -1,0 +1,5 @@
+pub mod Rows
+pub mod Lists
+pub mod Releases
+pub mod Upkeep
+pub mod Changes

@@ -1,0 +1,5 @@
+mod Outside
+mod Same
+mod Agains
+mod Replayed
+mod TestSets
