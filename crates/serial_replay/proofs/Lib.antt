@@ -1,5 +1,0 @@
-mod Outside
-mod Same
-mod Agains
-mod Replayed
-mod TestSets
