@@ -18,7 +18,7 @@ use crate::status::Status;
 use io_edge::{ReadError, Sink, Source, read_all, write_all};
 use rt_base::{List, Names, OutOfMemory};
 use scenario::Scenario;
-use scenario_forms::{FormError, Forms, ItemTable, TxnTable, read_forms, read_value};
+use scenario_forms::{FormError, Forms, ItemTable, TextError, TxnTable, read_forms, read_value};
 use scenario_reader::{ScenarioError, read_scenario};
 use scenario_writer::{generated, write_scenario};
 use std::alloc::{AllocError, Global};
@@ -57,13 +57,13 @@ fn names(alloc: Global, input: &[u8]) -> Result<Names, OutOfMemory>
 {
     let value = match read_value(alloc, input) {
         Ok(value) => value,
-        Err(FormError::OutOfMemory) => return Err(OutOfMemory),
-        Err(_) => return Ok(no_names(alloc)),
+        Err(TextError::OutOfMemory) => return Err(OutOfMemory),
+        Err(TextError::NotJson) => return Ok(no_names(alloc)),
     };
     match read_forms(alloc, &value) {
         Ok(forms) => Ok(names_of(forms)),
         Err(FormError::OutOfMemory) => Err(OutOfMemory),
-        Err(_) => Ok(no_names(alloc)),
+        Err(FormError::BadField { .. }) => Ok(no_names(alloc)),
     }
 }
 

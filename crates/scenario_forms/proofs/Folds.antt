@@ -6,19 +6,17 @@ use Rattle.serde_json.specs.View.{view, items_view}
 use Rattle.serde_json.specs.declared.value.Value.{Value}
 use Rattle.scenario_forms.specs.declared.error.Place.{Place}
 use Rattle.scenario_forms.specs.declared.error.FormError.{FormError}
-use Rattle.scenario_forms.specs.declared.error.FormError.TheVariants.{NotJson, BadField, OutOfMemory}
+use Rattle.scenario_forms.specs.declared.error.FormError.TheVariants.{BadField, OutOfMemory}
 use Rattle.scenario_forms.specs.Reading.{◌>>=◌, Fails, needed, fold_at, form_step}
 
 -- what fails goes on failing
 pub fails_with : {A B : Type 0} (e : FormError) (r : Result A FormError) (f : A → Result B FormError) → Fails e r
     → Fails e (r >>= f)
 fails_with {A = A} OutOfMemory r f h = tt
-fails_with {A = A} NotJson r f h = ap (λ (s : Result A FormError). s >>= f) h
 fails_with {A = A} (BadField place) r f h = ap (λ (s : Result A FormError). s >>= f) h
 
 pub fails_along : {B : Type 0} (e : FormError) (r s : Result B FormError) → r ≡ s → Fails e r → Fails e s
 fails_along OutOfMemory r s same h = tt
-fails_along NotJson r s same h = sym same ∙ h
 fails_along (BadField place) r s same h = sym same ∙ h
 
 module _ {A : Type 0} (step : A → Data → Result A FormError) where
@@ -58,7 +56,6 @@ module _ {A : Type 0} (step : A → Data → Result A FormError) where
 
 pub fails_from : {A : Type 0} (e : FormError) (r : Result A FormError) → Err e ≡ r → Fails e r
 fails_from OutOfMemory r h = tt
-fails_from NotJson r h = sym h
 fails_from (BadField place) r h = sym h
 
 -- the same by forms

@@ -6,7 +6,7 @@ use Rattle.serde_json.specs.Read.{read}
 use Rattle.serde_json.specs.Find.{get, as_array}
 use Rattle.scenario_forms.specs.declared.error.Place.{Place}
 use Rattle.scenario_forms.specs.declared.error.FormError.{FormError}
-use Rattle.scenario_forms.specs.declared.error.FormError.TheVariants.{NotJson, BadField, OutOfMemory}
+use Rattle.scenario_forms.specs.declared.error.FormError.TheVariants.{BadField, OutOfMemory}
 
 infixl 10 ◌>>=◌
 abbrev pub ◌>>=◌ : {A B : Type 0} → Result A FormError → (A → Result B FormError) → Result B FormError
@@ -64,10 +64,3 @@ all_at place form ds = fold_at (form_step place form) [] ds
 -- the value of a JSON text
 abbrev pub data_of : List ℕ → Option Data
 data_of bytes = if is_utf8 bytes then read bytes else None
-
-abbrev pub found_json : Option Data → Result Data FormError
-found_json None = Err NotJson
-found_json (Some d) = Ok d
-
-abbrev pub json_at : List ℕ → Result Data FormError
-json_at bytes = found_json (data_of bytes)

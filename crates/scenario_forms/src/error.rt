@@ -75,11 +75,17 @@ pub enum Place {
     },
 }
 
+/// Why the value of a text was not read.
+#[derive(Clone, Copy, Debug, PartialEq, Eq)]
+pub enum TextError {
+    /// The bytes are no UTF-8, or the text has no reading as a JSON value.
+    NotJson,
+    OutOfMemory,
+}
+
 /// Why the forms of a scenario were not read.
 #[derive(Clone, Copy, Debug, PartialEq, Eq)]
 pub enum FormError {
-    /// The bytes have no reading as a JSON value.
-    NotJson,
     /// A member is missing or not of its form: the first place in reading order.
     BadField { place: Place },
     OutOfMemory,

@@ -15,7 +15,7 @@ mod sets;
 mod shape;
 mod txn;
 
-pub use error::{FormError, ItemMember, Place, TxnMember};
+pub use error::{FormError, ItemMember, Place, TextError, TxnMember};
 pub use item::ItemTable;
 pub use ops::ReadOp;
 pub use root::{Forms, read_forms, read_value};

@@ -1,17 +1,17 @@
 //! The root object.
-ghost use Rattle.std.specs.Prelude.{◌≡◌, codes, string_bytes, is_some, option_and_then, map};
+ghost use Rattle.std.specs.Prelude.{◌≡◌, codes, string_bytes, is_some, option_and_then, map, Some, None, IfOk, IsErrOf};
 ghost use Rattle.std.specs.List.{list_all};
 ghost use Rattle.std.specs.BTreeMap.{keys, get_by_text};
 ghost use Rattle.serde_json.specs.View.{view};
 ghost use Rattle.serde_json.specs.Find.{get};
-ghost use Rattle.scenario_forms.specs.Reading.{GivesBy, json_at};
+ghost use Rattle.scenario_forms.specs.Reading.{GivesBy, data_of};
 ghost use Rattle.scenario_forms.specs.Fields.{whole, no_others};
 ghost use Rattle.scenario_forms.specs.Root.{is_root_member, is_second, forms_view, head_at, items_at, txns_at, sets_at, forms_at};
 ghost use Rattle.scenario_forms.specs.Items.{table_view};
 ghost use Rattle.scenario_forms.specs.Txns.{txns_view};
 ghost use Rattle.scenario_forms.specs.Sets.{set_view};
 
-use crate::error::{FormError, Place};
+use crate::error::{FormError, Place, TextError};
 use crate::fields::{array, array_or, need, number, whole_number};
 use crate::item::{ItemTable, items};
 use crate::sets::{ReadSet, sets};
@@ -128,16 +128,17 @@ pub fn read_forms(alloc: Global, value: &Value) -> Result<Forms, FormError>
 }
 
 /// The value of a JSON text. NotJson comes exactly where the bytes are no UTF-8 or the text has no reading.
-pub fn read_value(alloc: Global, bytes: &[u8]) -> Result<Value, FormError>
-    ensures { GivesBy view result (json_at bytes.now) }
+pub fn read_value(alloc: Global, bytes: &[u8]) -> Result<Value, TextError>
+    ensures value { IfOk result (λ v. data_of bytes.now ≡ Some (view v)) }
+    ensures none { IsErrOf result TextError.NotJson → data_of bytes.now ≡ None }
 {
     match Value::from_slice(alloc, bytes) {
         Ok(value) => Ok(value),
         Err(e) => {
             if e.is_memory() {
-                return Err(FormError::OutOfMemory);
+                return Err(TextError::OutOfMemory);
             }
-            Err(FormError::NotJson)
+            Err(TextError::NotJson)
         }
     }
 }

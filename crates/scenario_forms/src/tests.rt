@@ -1,5 +1,5 @@
 //! What no clause says: outside examples of texts and of the place that is refused.
-use crate::{FormError, ItemMember, Place, TxnMember, read_forms, read_value};
+use crate::{FormError, ItemMember, Place, TextError, TxnMember, read_forms, read_value};
 use std::alloc::Global;
 use std::test::Fail;
 
@@ -15,12 +15,12 @@ fn element(member: TxnMember, j: usize) -> Place {
 }
 
 // The place that is refused, if any.
-fn refused(alloc: Global, text: &[u8]) -> Result<Option<Place>, FormError> {
+fn refused(alloc: Global, text: &[u8]) -> Result<Option<Place>, TextError> {
     let value = read_value(alloc, text)?;
     match read_forms(alloc, &value) {
         Ok(_) => Ok(None),
         Err(FormError::BadField { place }) => Ok(Some(place)),
-        Err(e) => Err(e),
+        Err(FormError::OutOfMemory) => Err(TextError::OutOfMemory),
     }
 }
 
@@ -120,7 +120,7 @@ fn whole_texts(rt: HostRuntime) -> Result<(), Fail> {
     }
     for text in ["", "{", "{\"version\":1,", "1e999"] {
         assert!(rt;
-            refused(alloc, text.as_bytes()) == Err(FormError::NotJson),
+            refused(alloc, text.as_bytes()) == Err(TextError::NotJson),
             "at {text}"
         );
     }

@@ -1,5 +1,7 @@
 -- Judging in order, with the first refusal that is met.
 use Rattle.std.specs.Prelude.{◌≡◌, ℕ, nat_lt, if◌then◌else◌, Option, Some, None, Result, Ok, Err}
+use Rattle.scenario_forms.specs.declared.error.TextError.{TextError}
+use Rattle.scenario_forms.specs.declared.error.TextError.TheVariants as texts
 use Rattle.scenario_forms.specs.declared.error.FormError.{FormError}
 use Rattle.scenario_forms.specs.declared.error.FormError.TheVariants as forms
 use Rattle.scenario_reader.specs.declared.error.ScenarioError.{ScenarioError}
@@ -33,9 +35,13 @@ pass (Some e) = Err e
 abbrev pub above : ℕ → (ℕ → ScenarioError) → ℕ → Option ScenarioError
 above most error n = if nat_lt most n then Some (error n) else None
 
+-- a refusal of a text
+abbrev pub error_of_text : TextError → ScenarioError
+error_of_text texts.NotJson = NotJson
+error_of_text texts.OutOfMemory = OutOfMemory
+
 -- a refusal of a form
 abbrev pub error_of : FormError → ScenarioError
-error_of forms.NotJson = NotJson
 error_of (forms.BadField place) = BadField place
 error_of forms.OutOfMemory = OutOfMemory
 

@@ -1,10 +1,10 @@
 //! Why a scenario is refused.
 ghost use Rattle.std.specs.Prelude.{◌≡◌};
 ghost use Rattle.scenario_reader.specs.declared.error.ScenarioError.TheVariants.{OutOfMemory as WantOfMemory};
-ghost use Rattle.scenario_reader.specs.Refusals.{error_of};
+ghost use Rattle.scenario_reader.specs.Refusals.{error_of, error_of_text};
 
 use rt_base::{OutOfMemory, PlanRefused, TxId};
-use scenario_forms::{FormError, Place};
+use scenario_forms::{FormError, Place, TextError};
 use thiserror::Error;
 
 /// Why a scenario is refused. The refusals are judged in this order over the whole text, but for OutOfMemory, which may
@@ -71,12 +71,22 @@ impl From<OutOfMemory> for ScenarioError {
     }
 }
 
+impl From<TextError> for ScenarioError {
+    ghost from_gives = { λ t e. e ≡ error_of_text t };
+
+    fn from(e: TextError) -> ScenarioError {
+        match e {
+            TextError::NotJson => ScenarioError::NotJson,
+            TextError::OutOfMemory => ScenarioError::OutOfMemory,
+        }
+    }
+}
+
 impl From<FormError> for ScenarioError {
     ghost from_gives = { λ f e. e ≡ error_of f };
 
     fn from(e: FormError) -> ScenarioError {
         match e {
-            FormError::NotJson => ScenarioError::NotJson,
             FormError::BadField { place } => ScenarioError::BadField { place },
             FormError::OutOfMemory => ScenarioError::OutOfMemory,
         }

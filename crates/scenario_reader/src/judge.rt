@@ -1,5 +1,5 @@
 //! The judgement of a scenario, in order.
-ghost use Rattle.std.specs.Prelude.{◌≡◌, ◌≤◌, ◌<◌, ◌^◌, IfOk, None, length};
+ghost use Rattle.std.specs.Prelude.{◌≡◌, ◌≤◌, ◌<◌, ◌^◌, IfOk, IsErrOf, None, length};
 ghost use Rattle.std.specs.List.{All};
 ghost use Rattle.scenario.specs.Shown.{shown};
 ghost use Rattle.scenario.specs.Scenarios.{HasTextTimes, IsProgramOver};
@@ -34,7 +34,8 @@ fn tx_id(place: usize) -> Result<TxId, OutOfMemory>
 fn judge_scripts(alloc: Global, scenario: &Scenario) -> Result<(), ScenarioError>
     requires each { length scenario.now.scripts ≡ length scenario.now.txns }
     requires good { All (IsProgramOver (length scenario.now.items)) (shown scenario.now).programs }
-    ensures { Gives result (judged_scripts (shown scenario.now)) }
+    ensures judged { Gives result (judged_scripts (shown scenario.now)) }
+    ensures json { IsErrOf result ScenarioError.NotJson → ⊥ }
 {
     if let Some((tx, op)) = bad_script(alloc, scenario)? {
         return Err(ScenarioError::BadScript { tx: tx_id(tx)?, op });
@@ -50,7 +51,8 @@ fn judge_scripts(alloc: Global, scenario: &Scenario) -> Result<(), ScenarioError
 fn judge_jobs(scenario: &Scenario) -> Result<usize, ScenarioError>
     requires each { length scenario.now.releases ≡ length scenario.now.txns }
     requires times { All HasTextTimes scenario.now.txns }
-    ensures { Gives result (judged_jobs (shown scenario.now)) }
+    ensures judged { Gives result (judged_jobs (shown scenario.now)) }
+    ensures json { IsErrOf result ScenarioError.NotJson → ⊥ }
 {
     let count = total_jobs(scenario.releases.as_slice())?;
     if MOST_JOBS < count {
@@ -79,7 +81,8 @@ pub(crate) fn judge(alloc: Global, scenario: &Scenario) -> Result<usize, Scenari
     requires released { length scenario.now.releases ≡ length scenario.now.txns }
     requires good { All (IsProgramOver (length scenario.now.items)) (shown scenario.now).programs }
     requires times { All HasTextTimes scenario.now.txns }
-    ensures { Gives result (judged (shown scenario.now)) }
+    ensures judged { Gives result (judged (shown scenario.now)) }
+    ensures json { IsErrOf result ScenarioError.NotJson → ⊥ }
 {
     judge_scripts(alloc, scenario)?;
     judge_jobs(scenario)

@@ -1,5 +1,5 @@
 //! Reading a scenario.
-ghost use Rattle.std.specs.Prelude.{◌≡◌, ◌<◌, ◌^◌, [], length, IfOk};
+ghost use Rattle.std.specs.Prelude.{◌≡◌, ◌<◌, ◌^◌, [], length, None, IfOk, IsErrOf};
 ghost use Rattle.std.specs.List.{All};
 ghost use Rattle.serde_json.specs.View.{view};
 ghost use Rattle.step_script.specs.Scripts.{IsTold};
@@ -25,6 +25,7 @@ fn of_forms(alloc: Global, forms: Forms) -> Result<Scenario, ScenarioError>
     requires { All (IsGoodTxn (length (forms_view forms).items.decls)) (forms_view forms).txns.txns }
     ensures read { GivesBy shown result (scenario_from (forms_view forms)) }
     ensures begun { IfOk result IsBegun }
+    ensures json { IsErrOf result ScenarioError.NotJson → ⊥ }
 {
     if let Some(place) = unknown_name(&forms) {
         return Err(ScenarioError::UnknownName { place });
@@ -40,17 +41,18 @@ fn of_forms(alloc: Global, forms: Forms) -> Result<Scenario, ScenarioError>
 fn of_value(alloc: Global, value: &Value) -> Result<Scenario, ScenarioError>
     ensures read { GivesBy shown result (scenario_of (view value.now)) }
     ensures begun { IfOk result IsBegun }
+    ensures json { IsErrOf result ScenarioError.NotJson → ⊥ }
 {
     let forms = read_forms(alloc, value)?;
     of_forms(alloc, forms)
 }
 
 /// The scenario of a JSON text in UTF-8, or the first refusal in the order of ScenarioError. It is linear in the text, but
-/// for the maps of names and the sorts of reads, writes and relative sets; a compute is never expanded. For each
-/// transaction it takes a place for each item.
+/// for the maps of names and the sorts of reads, writes and relative sets; a compute is never expanded.
 pub fn read_scenario(alloc: Global, bytes: &[u8]) -> Result<Scenario, ScenarioError>
     requires { length bytes.now < 2 ^ 32 }
     ensures read { GivesBy shown result (scenario_in (data_of bytes.now)) }
+    ensures not_json { IsErrOf result ScenarioError.NotJson → data_of bytes.now ≡ None }
     ensures good { IfOk result (λ s. IsScenario (shown s)) }
     ensures begun { IfOk result (λ s. All (λ script. IsTold script 0 []) s.scripts) }
 {
