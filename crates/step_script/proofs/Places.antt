@@ -1,11 +1,11 @@
 -- Places in a script, and what was told.
-use Rattle.std.proofs.Common.{◌≡◌, ℕ, zero, suc, ◌+◌, ◌-◌, ◌<◌, ◌≤◌, Bool, cond, List, [], ◌∷◌, ◌++◌, length, map, drop, Option, Some, None, ℤ, pos, refl, sym, ap, subst, ◌∙◌, arith, zero-add, length-append, length-set, replicate}
+use Rattle.std.proofs.Common.{◌≡◌, ℕ, zero, suc, ◌+◌, ◌-◌, ◌<◌, ◌≤◌, Bool, cond, List, [], ◌∷◌, ◌++◌, length, map, drop, Option, Some, None, ℤ, pos, refl, sym, ap, subst, ◌∙◌, arith, zero-add, length-append}
 use Rattle.std.specs.List.{slice_get}
 use Rattle.std.proofs.lemmas.Bool.{lt-ltb, le-ltb}
 use Rattle.rt_base.specs.declared.operation.Outcome.{Outcome}
-use Rattle.rt_base.specs.declared.operation.Outcome.TheVariants.{Got, Put, Computed, Closed}
 use Rattle.step_script.specs.declared.script.ScriptOp.{ScriptOp}
 use Rattle.step_script.specs.declared.script.Script.{Script}
+use Rattle.step_script.specs.Rows.{last_in}
 use Rattle.step_script.specs.Values.{Known, Tree, value_in}
 use Rattle.step_script.specs.Scripts.{Operation, read, write, compute, commit, quit, operation, width, op_at, noted, noted_at, lasts_after, lasts_of, IsWithin, program_of, IsTold, sample_of, asked_by, next_of}
 
@@ -16,7 +16,7 @@ plus_none : (n : ℕ) → n ≡ n + 0
 plus_none n = omega arith
 
 -- one more outcome
-pub lasts_more : (ops : List Operation) (n : ℕ) (lasts : List ℤ) (os : List Outcome) (o : Outcome)
+pub lasts_more : (ops : List Operation) (n : ℕ) (lasts : ℕ → ℤ) (os : List Outcome) (o : Outcome)
     → lasts_after ops n lasts (os ++ o ∷ []) ≡ noted_at (op_at ops (n + length os)) o (lasts_after ops n lasts os)
 lasts_more ops n lasts [] o = ap (λ (k : ℕ). noted_at (op_at ops k) o lasts) (plus_none n)
 lasts_more ops n lasts (x ∷ os) o =
@@ -24,7 +24,7 @@ lasts_more ops n lasts (x ∷ os) o =
     ∙ ap (λ (k : ℕ). noted_at (op_at ops k) o (lasts_after ops (n + 1) (noted_at (op_at ops n) x lasts) os))
     (shift n (length os))
 
-lasts_one : (ops : List Operation) (lasts : List ℤ) (os : List Outcome) (o : Outcome)
+lasts_one : (ops : List Operation) (lasts : ℕ → ℤ) (os : List Outcome) (o : Outcome)
     → lasts_after ops 0 lasts (os ++ o ∷ []) ≡ noted_at (op_at ops (length os)) o (lasts_after ops 0 lasts os)
 lasts_one ops lasts os o = lasts_more ops 0 lasts os o
     ∙ ap (λ (k : ℕ). noted_at (op_at ops k) o (lasts_after ops 0 lasts os)) (zero-add (length os))
@@ -62,16 +62,6 @@ within_none : (ops : List Operation) → IsWithin ops 0
 within_none [] = refl
 within_none (op ∷ ops) = width_pos op
 
-pub length_noted : (op : Operation) (o : Outcome) (lasts : List ℤ) → length (noted op o lasts) ≡ length lasts
-length_noted (read item) (Got value stamp) lasts = length-set lasts item.0 value
-length_noted (read item) Put lasts = refl
-length_noted (read item) Computed lasts = refl
-length_noted (read item) Closed lasts = refl
-length_noted (write item value) o lasts = refl
-length_noted (compute n) o lasts = refl
-length_noted commit o lasts = refl
-length_noted quit o lasts = refl
-
 abbrev rest_of : Script → List Operation
 rest_of s = drop s.place (map operation s.ops.items)
 
@@ -93,14 +83,14 @@ pub none_in_hand : (s : Script) → slice_get s.ops.items s.place ≡ None → o
 none_in_hand s is = ap (λ (r : List Operation). op_at r s.done) (ended s.ops.items s.place is)
 
 abbrev known : Script → Known
-known s = record { sample = sample_of s.samples.items s.serial; serial = pos s.serial; lasts = s.lasts.items }
+known s = record { sample = sample_of s.samples.items s.serial; serial = pos s.serial; lasts = last_in s.lasts.items }
 
 asks : (s : Script) (serial : ℕ) (os : List Outcome) (o : Option Operation) → IsTold s serial os
     → op_at (rest_of s) s.done ≡ o → asked_by (known s) o ≡ next_of (program_of s) serial os
 asks s serial os o h is =
-    ap (λ (n : ℕ). asked_by (record { sample = sample_of s.samples.items n; serial = pos n; lasts = s.lasts.items })
+    ap (λ (n : ℕ). asked_by (record { sample = sample_of s.samples.items n; serial = pos n; lasts = last_in s.lasts.items })
     o) h.begun
-    ∙ ap (λ (l : List ℤ). asked_by (record {
+    ∙ ap (λ (l : ℕ → ℤ). asked_by (record {
       sample = sample_of s.samples.items serial;
       serial = pos serial;
       lasts =
@@ -138,23 +128,20 @@ told_none s o is serial os h = record {
 }
 
 lasts_told : (s s' : Script) (o : Outcome) (op : ScriptOp) → slice_get s.ops.items s.place ≡ Some op → s'.ops ≡ s.ops
-    → s'.lasts.items ≡ noted (operation op) o s.lasts.items → (serial : ℕ) (os : List Outcome) → IsTold s serial os
-    → s'.lasts.items ≡ lasts_of (program_of s') (os ++ o ∷ [])
+    → last_in s'.lasts.items ≡ noted (operation op) o (last_in s.lasts.items) → (serial : ℕ) (os : List Outcome)
+    → IsTold s serial os → last_in s'.lasts.items ≡ lasts_of (program_of s') (os ++ o ∷ [])
 lasts_told s s' o op is ops lasts serial os h =
     lasts
     ∙ ap (noted (operation op) o) h.lasts
     ∙ ap (λ (p : Option Operation). noted_at p o (lasts_of (program_of s) os)) (sym (stands_at s serial os h
     ∙ in_hand s op is h.within))
     ∙ sym (lasts_one (program_of s).ops _ os o)
-    ∙ ap (λ (n : ℕ). lasts_after (program_of s).ops 0 (replicate n (pos 0)) (os ++ o ∷ [])) (sym (ap length lasts
-    ∙ length_noted (operation op) o s.lasts.items))
-    ∙ ap (λ v. lasts_after (map operation v.items) 0 (replicate (length s'.lasts.items) (pos 0)) (os ++ o ∷ []))
-    (sym ops)
+    ∙ ap (λ v. lasts_after (map operation v.items) 0 (λ i. pos 0) (os ++ o ∷ [])) (sym ops)
 
 -- once more
 pub told_again : (s s' : Script) (o : Outcome) (op : ScriptOp) → slice_get s.ops.items s.place ≡ Some op
     → s'.ops ≡ s.ops → s'.serial ≡ s.serial → s'.place ≡ s.place → s'.done ≡ s.done + 1
-    → s'.lasts.items ≡ noted (operation op) o s.lasts.items → s.done + 1 < width (operation op)
+    → last_in s'.lasts.items ≡ noted (operation op) o (last_in s.lasts.items) → s.done + 1 < width (operation op)
     → (serial : ℕ) (os : List Outcome) → IsTold s serial os → IsTold s' serial (os ++ o ∷ [])
 told_again s s' o op is ops same_serial place done lasts lt serial os h =
     let same : rest_of s' ≡ rest_of s = cc in
@@ -173,7 +160,7 @@ told_again s s' o op is ops same_serial place done lasts lt serial os h =
 -- on to the next operation
 pub told_next : (s s' : Script) (o : Outcome) (op : ScriptOp) → slice_get s.ops.items s.place ≡ Some op
     → s'.ops ≡ s.ops → s'.serial ≡ s.serial → s'.place ≡ s.place + 1 → s'.done ≡ 0
-    → s'.lasts.items ≡ noted (operation op) o s.lasts.items → width (operation op) ≤ s.done + 1
+    → last_in s'.lasts.items ≡ noted (operation op) o (last_in s.lasts.items) → width (operation op) ≤ s.done + 1
     → (serial : ℕ) (os : List Outcome) → IsTold s serial os → IsTold s' serial (os ++ o ∷ [])
 told_next s s' o op is ops same_serial place done lasts le serial os h =
     let e = split s.ops.items s.place op is in
@@ -191,13 +178,13 @@ told_next s s' o op is ops same_serial place done lasts le serial os h =
           ∙ ap (op_at (rest_of s')) (sym (ap (λ (k : ℕ). k + m) done ∙ zero-add m));
     }
 
-pub same_known : (t : Tree) (a a' b b' : ℤ) (l l' : List ℤ) → a ≡ a' → b ≡ b' → l ≡ l'
+pub same_known : (t : Tree) (a a' b b' : ℤ) (l l' : ℕ → ℤ) → a ≡ a' → b ≡ b' → l ≡ l'
     → value_in (record { sample = a; serial = b; lasts = l }) t ≡ value_in
     (record { sample = a'; serial = b'; lasts = l' }) t
 same_known t a a' b b' l l' p q r =
     ap (λ (x : ℤ). value_in (record { sample = x; serial = b; lasts = l }) t) p
     ∙ ap (λ (x : ℤ). value_in (record { sample = a'; serial = x; lasts = l }) t) q
-    ∙ ap (λ (x : List ℤ). value_in (record { sample = a'; serial = b'; lasts = x }) t) r
+    ∙ ap (λ (x : ℕ → ℤ). value_in (record { sample = a'; serial = b'; lasts = x }) t) r
 
 -- what was found at a place of a list, as the list that it is a part of
 pub found : (xs ys : List ScriptOp) (place : ℕ) (o : Option ScriptOp) (r : Option ScriptOp) → xs ≡ ys

@@ -1,5 +1,5 @@
 -- Scripts as functions of a serial number and outcomes.
-use Rattle.std.specs.Prelude.{◌≡◌, ℕ, ◌+◌, ◌-◌, ◌<◌, max, ℤ, pos, List, [], ◌∷◌, length, map, drop, replicate, slice_get, slice_set, nat_lt, nat_le, ◌&&◌, Bool, true, if◌then◌else◌, Option, Some, None, unwrap_or}
+use Rattle.std.specs.Prelude.{◌≡◌, ℕ, ◌+◌, ◌-◌, ◌<◌, max, ℤ, pos, List, [], ◌∷◌, length, map, drop, slice_get, nat_lt, nat_le, ◌==◌, ◌&&◌, Bool, true, if◌then◌else◌, Option, Some, None, unwrap_or}
 use Rattle.rt_base.specs.declared.ids.ItemId.{ItemId}
 use Rattle.rt_base.specs.declared.operation.Op.{Op}
 use Rattle.rt_base.specs.declared.operation.Op.TheVariants as asked
@@ -8,6 +8,7 @@ use Rattle.rt_base.specs.declared.operation.Outcome.TheVariants.{Got, Put, Compu
 use Rattle.step_script.specs.declared.script.ScriptOp.{ScriptOp}
 use Rattle.step_script.specs.declared.script.ScriptOp.TheVariants.{Read, Write, Compute, Commit, Quit}
 use Rattle.step_script.specs.declared.script.Script.{Script}
+use Rattle.step_script.specs.Rows.{last_in}
 use Rattle.step_script.specs.Values.{Tree, leaf_const, leaf_sample, leaf_serial, leaf_last, node, tree, value_in, Known}
 
 -- an operation without the places in memory of its expression
@@ -44,9 +45,9 @@ abbrev pub op_at : List Operation → ℕ → Option Operation
 op_at [] n = None
 op_at (op ∷ ops) n = if nat_lt n (width op) then Some op else op_at ops (n - width op)
 
--- the values last read, after the outcome of an operation
-abbrev pub noted : Operation → Outcome → List ℤ → List ℤ
-noted (read item) (Got value stamp) lasts = slice_set lasts item.0 value
+-- the value last read of each item, after the outcome of an operation
+abbrev pub noted : Operation → Outcome → (ℕ → ℤ) → ℕ → ℤ
+noted (read item) (Got value stamp) lasts = λ i. if i == item.0 then value else lasts i
 noted (read item) Put lasts = lasts
 noted (read item) Computed lasts = lasts
 noted (read item) Closed lasts = lasts
@@ -55,17 +56,18 @@ noted (compute n) outcome lasts = lasts
 noted commit outcome lasts = lasts
 noted quit outcome lasts = lasts
 
-abbrev pub noted_at : Option Operation → Outcome → List ℤ → List ℤ
+abbrev pub noted_at : Option Operation → Outcome → (ℕ → ℤ) → ℕ → ℤ
 noted_at None outcome lasts = lasts
 noted_at (Some op) outcome lasts = noted op outcome lasts
 
 -- the same after the outcomes of the operations from a place on
-abbrev pub lasts_after : List Operation → ℕ → List ℤ → List Outcome → List ℤ
+abbrev pub lasts_after : List Operation → ℕ → (ℕ → ℤ) → List Outcome → ℕ → ℤ
 lasts_after ops n lasts [] = lasts
 lasts_after ops n lasts (o ∷ os) = lasts_after ops (n + 1) (noted_at (op_at ops n) o lasts) os
 
-abbrev pub lasts_of : Program → List Outcome → List ℤ
-lasts_of p outcomes = lasts_after p.ops 0 (replicate p.items (pos 0)) outcomes
+-- 0 where nothing was read
+abbrev pub lasts_of : Program → List Outcome → ℕ → ℤ
+lasts_of p outcomes = lasts_after p.ops 0 (λ i. pos 0) outcomes
 
 -- the sample of a job: past the end the last one, and 0 where there are none
 abbrev pub sample_of : List ℤ → ℕ → ℤ
@@ -112,7 +114,7 @@ is_good items commit = true
 is_good items quit = true
 
 abbrev pub program_of : Script → Program
-program_of s = record { ops = map operation s.ops.items; samples = s.samples.items; items = length s.lasts.items }
+program_of s = record { ops = map operation s.ops.items; samples = s.samples.items; items = s.items }
 
 -- the operation in hand is not over
 abbrev pub IsWithin : List Operation → ℕ → Type 0
@@ -122,7 +124,7 @@ IsWithin (op ∷ ops) done = done < width op
 -- A script that has begun with this serial and was told these outcomes: how its own fields stand for them.
 pub record IsTold (s : Script) (serial : ℕ) (outcomes : List Outcome) : Type 0 where
   pub begun : s.serial ≡ serial
-  pub lasts : s.lasts.items ≡ lasts_of (program_of s) outcomes
+  pub lasts : last_in s.lasts.items ≡ lasts_of (program_of s) outcomes
   pub within : IsWithin (drop s.place (map operation s.ops.items)) s.done
   pub left : (m : ℕ) → op_at (map operation s.ops.items) (length outcomes + m) ≡ op_at
       (drop s.place (map operation s.ops.items)) (s.done + m)

@@ -1,5 +1,5 @@
 -- Expressions and their values.
-use Rattle.std.specs.Prelude.{zero, ℤ, pos, ◌+ℤ◌, ◌-ℤ◌, ◌*ℤ◌, List, slice_index_or}
+use Rattle.std.specs.Prelude.{ℕ, zero, ℤ, pos, ◌+ℤ◌, ◌-ℤ◌, ◌*ℤ◌}
 use Rattle.std.specs.Int.{saturate_to_bits, int_min, int_max}
 use Rattle.std.specs.Int.RustNames.{int_div}
 use Rattle.rt_base.specs.declared.ids.ItemId.{ItemId}
@@ -47,15 +47,15 @@ exact Max a b = int_max a b
 abbrev pub bin_value : BinOp → ℤ → ℤ → ℤ
 bin_value op a b = clamped (exact op a b)
 
--- what an expression is computed from
+-- what an expression is computed from: besides the sample and the serial, the value last read of each item
 pub record Known : Type 0 where
   pub sample : ℤ
   pub serial : ℤ
-  pub lasts : List ℤ
+  pub lasts : ℕ → ℤ
 
 abbrev pub value_in : Known → Tree → ℤ
 value_in known (leaf_const n) = n
 value_in known leaf_sample = known.sample
 value_in known leaf_serial = known.serial
-value_in known (leaf_last item) = slice_index_or known.lasts item.0 (pos 0)
+value_in known (leaf_last item) = known.lasts item.0
 value_in known (node op a b) = bin_value op (value_in known a) (value_in known b)

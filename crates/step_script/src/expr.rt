@@ -1,7 +1,10 @@
 //! Expressions and their values.
-ghost use Rattle.std.specs.Prelude.{◌≡◌, slice_index_or, pos};
+ghost use Rattle.std.specs.Prelude.{◌≡◌};
+ghost use Rattle.std.specs.List.Sorted.{IsStrictlyIncreasing};
 ghost use Rattle.step_script.specs.Values.{tree, value_in, bin_value};
+ghost use Rattle.step_script.specs.Rows.{row_items, last_in};
 
+use crate::lasts::{LastRead, last_of};
 use rt_base::{ItemId, Value};
 
 /// How two values are joined. The exact value is clamped to the range of i64.
@@ -56,19 +59,10 @@ fn divided(a: Value, b: Value) -> Value
     }
 }
 
-// The value last read of an item.
-fn last_of(lasts: &[Value], item: ItemId) -> Value
-    ensures { result ≡ slice_index_or lasts.now item.0 (pos 0) }
-{
-    match lasts.get(item.0 as usize) {
-        Some(value) => *value,
-        None => 0,
-    }
-}
-
-// The value of an expression, by one step for each of its parts.
-pub(crate) fn value_of(expr: &Expr, sample: Value, serial: Value, lasts: &[Value]) -> Value
-    ensures { result ≡ value_in (record { sample = sample; serial = serial; lasts = lasts.now }) (tree expr.now) }
+// The value of an expression, by one step for each of its parts, and a binary search for each read item that it names.
+pub(crate) fn value_of(expr: &Expr, sample: Value, serial: Value, lasts: &[LastRead]) -> Value
+    requires { IsStrictlyIncreasing (row_items lasts.now) }
+    ensures { result ≡ value_in (record { sample = sample; serial = serial; lasts = last_in lasts.now }) (tree expr.now) }
 {
     match expr {
         Expr::Const(n) => *n,

@@ -4,6 +4,7 @@
 
 mod body;
 mod expr;
+mod lasts;
 mod script;
 
 pub use body::Body;

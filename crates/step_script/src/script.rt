@@ -1,10 +1,11 @@
 //! Scripts as bodies.
-ghost use Rattle.std.specs.Prelude.{◌≡◌, ◌+◌, ◌<◌, ◌^◌, ℕ, List, [], ◌∷◌, ◌++◌, IfOk, IsTrue, nat_lt, map, replicate, length, pos, slice_set, slice_get, option_map};
-ghost use Rattle.std.specs.List.{list_all};
-ghost use Rattle.step_script.specs.Scripts.{program_of, operation, width, is_good, next_of, noted, IsTold, sample_of};
+ghost use Rattle.std.specs.Prelude.{◌≡◌, slice_get};
+ghost use Rattle.std.specs.Option.{option_map};
+ghost use Rattle.step_script.specs.Rows.{AreReadItems, row_items};
 
 use crate::body::Body;
 use crate::expr::{Expr, value_of};
+use crate::lasts::{LastRead, clear, note, rows_of};
 use rt_base::{ItemId, Op, OutOfMemory, Outcome, Value};
 use std::alloc::Global;
 
@@ -25,22 +26,30 @@ pub enum ScriptOp {
 pub struct Script {
     ops: Vec<ScriptOp>,
     samples: Vec<Value>,
-    // the values last read, by item
-    lasts: Vec<Value>,
+    // over so many items
+    items: usize,
+    // the values last read, a row for each item that is read
+    lasts: Vec<LastRead>,
     serial: u32,
     // the operation to be asked for next, and how many times it was done
     place: usize,
     done: u32,
+    ghost rows: { AreReadItems ops.items (row_items lasts.items) },
 }
 
-// Whether the operation is to be done again after this many times and one.
-fn goes_on(op: &ScriptOp, done: u32) -> bool
-    ensures is { result ≡ nat_lt (done + 1) (width (operation op.now)) }
-    ensures fits { IsTrue result → done + 1 < 2 ^ 32 }
-{
-    match op {
-        ScriptOp::Compute(n) => done < n.saturating_sub(1),
-        _ => false,
+impl ScriptOp {
+    ghost use Rattle.std.specs.Prelude.{◌≡◌, ◌+◌, ◌<◌, ◌^◌, IsTrue, nat_lt};
+    ghost use Rattle.step_script.specs.Scripts.{operation, width};
+
+    // Whether the operation is to be done again after this many times and one.
+    fn goes_on(&self, done: u32) -> bool
+        ensures is { result ≡ nat_lt (done + 1) (width (operation self.now)) }
+        ensures fits { IsTrue result → done + 1 < 2 ^ 32 }
+    {
+        match self {
+            ScriptOp::Compute(n) => done < n.saturating_sub(1),
+            _ => false,
+        }
     }
 }
 
@@ -51,42 +60,15 @@ fn op_in(ops: &[ScriptOp], place: usize) -> Option<&ScriptOp>
     ops.get(place)
 }
 
-// Notes the value of a read.
-fn note(op: &ScriptOp, outcome: Outcome, lasts: &mut [Value])
-    ensures { lasts.new ≡ noted (operation op.now) outcome lasts.old }
-{
-    if let (ScriptOp::Read(item), Outcome::Got { value, .. }) = (op, outcome) {
-        let at = item.0 as usize;
-        if at < lasts.len() {
-            lasts[at] = value;
-        }
-    }
-}
-
-fn clear(lasts: &mut [Value])
-    ensures { lasts.new ≡ replicate (length lasts.old) (pos 0) }
-{
-    for value in lasts.iter_mut() {
-        *value = 0;
-    }
-}
-
-fn sample(samples: &[Value], serial: u32) -> Value
-    ensures { result ≡ sample_of samples.now serial }
-{
-    match samples.get(serial as usize) {
-        Some(value) => *value,
-        None => match samples.last() {
-            Some(value) => *value,
-            None => 0,
-        },
-    }
-}
-
 impl Script {
-    /// The script of these operations and samples, over so many items. It reserves a place for each item, so that its
-    /// calls as a body take no memory: `next` costs a step for each part of the expression that it computes, `begin`
-    /// one for each item, `told` a constant.
+    ghost use Rattle.std.specs.Prelude.{◌≡◌, IfOk, IsTrue, [], map};
+    ghost use Rattle.std.specs.List.{list_all};
+    ghost use Rattle.step_script.specs.Scripts.{program_of, operation, is_good, IsTold, sample_of};
+
+    /// The script of these operations and samples, over so many items. It costs a sort of the items that the
+    /// operations read, and takes a place for each of these and for no other item. Its calls as a body take no memory:
+    /// `begin` costs a step for each item that is read, `told` a look-up of the item that was read, and `next` a step
+    /// for each part of the expression that it computes and a look-up for each item that this names.
     pub fn new(
         alloc: Global,
         ops: Vec<ScriptOp>,
@@ -98,10 +80,11 @@ impl Script {
             record { ops = map operation ops.items; samples = samples.items; items = items }) }
         ensures begun { IfOk result (λ s. IsTold s 0 []) }
     {
-        let lasts = vec![in alloc; 0; items]?;
+        let lasts = rows_of(alloc, &ops)?;
         Ok(Script {
             ops,
             samples,
+            items,
             lasts,
             serial: 0,
             place: 0,
@@ -122,9 +105,24 @@ impl Script {
     {
         &self.samples
     }
+
+    // The sample of the job in hand.
+    fn sample(&self) -> Value
+        ensures { result ≡ sample_of self.now.samples.items self.now.serial }
+    {
+        match self.samples.get(self.serial as usize) {
+            Some(value) => *value,
+            None => match self.samples.last() {
+                Some(value) => *value,
+                None => 0,
+            },
+        }
+    }
 }
 
 impl Body for Script {
+    ghost use Rattle.step_script.specs.Scripts.{program_of, next_of, IsTold};
+
     ghost gives = { λ s. next_of (program_of s) };
 
     ghost stands = { IsTold };
@@ -143,11 +141,8 @@ impl Body for Script {
         match op {
             ScriptOp::Read(item) => Op::Read(*item),
             ScriptOp::Write(item, value) => {
-                let sample = sample(&self.samples, self.serial);
-                Op::Write(
-                    *item,
-                    value_of(value, sample, i64::from(self.serial), &self.lasts),
-                )
+                let serial = i64::from(self.serial);
+                Op::Write(*item, value_of(value, self.sample(), serial, &self.lasts))
             }
             ScriptOp::Compute(_) => Op::Compute,
             ScriptOp::Commit => Op::Commit,
@@ -160,7 +155,7 @@ impl Body for Script {
             return;
         };
         note(op, outcome, &mut self.lasts);
-        if goes_on(op, self.done) {
+        if op.goes_on(self.done) {
             self.done += 1;
         } else {
             self.place += 1;

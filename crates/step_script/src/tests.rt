@@ -1,4 +1,5 @@
-//! What no clause says: outside examples of values, and a script's operations from its first call on.
+//! What no clause says: outside examples of values, a script's operations from its first call on, and a script over more
+//! items than memory has places.
 use crate::{BinOp, Body, Expr, Script, ScriptOp};
 use rt_base::{ItemId, Op, Outcome};
 use std::test::Fail;
@@ -70,5 +71,32 @@ fn operations(rt: HostRuntime) -> Result<(), Fail> {
     }
     assert_eq!(rt; script.ops().len(), 5);
     assert_eq!(rt; script.samples(), [5, 7].as_slice());
+    Ok(())
+}
+
+// The items that are read count, in whatever order and however often, and not those that there are.
+#[test]
+fn many_items(rt: HostRuntime) -> Result<(), Fail> {
+    let alloc = rt.alloc();
+    let last = u32::MAX;
+    let ops = vec![in alloc;
+        ScriptOp::Read(ItemId(last)),
+        ScriptOp::Read(ItemId(3)),
+        ScriptOp::Read(ItemId(last)),
+        ScriptOp::Write(ItemId(0), Expr::Last(ItemId(last))),
+        ScriptOp::Write(ItemId(0), Expr::Last(ItemId(3))),
+        ScriptOp::Write(ItemId(0), Expr::Last(ItemId(4))),
+    ]?;
+    let mut script = Script::new(alloc, ops, Vec::new(alloc), usize::MAX)
+        .ok()
+        .ok_or("memory")?;
+    for value in [5, 6, 7] {
+        script.told(Outcome::Got { value, stamp: None });
+    }
+    for want in [7, 6, 0] {
+        assert_eq!(rt; script.next(), Op::Write(ItemId(0), want));
+        script.told(Outcome::Put);
+    }
+    assert_eq!(rt; script.next(), Op::Compute);
     Ok(())
 }

@@ -1,10 +1,10 @@
-use Rattle.std.proofs.Common.{◌≡◌, List, ℤ, Some, None, ap, ◌∙◌, refl, w64}
+use Rattle.std.proofs.Common.{◌≡◌, Some, None, ap, ◌∙◌, refl, w64}
 use Rattle.std.specs.List.{slice_get}
 use Rattle.std.proofs.lemmas.Int.{to_z-of_z}
 use Rattle.rt_base.specs.declared.operation.Op.TheVariants as asked
 use Rattle.step_script.specs.declared.script.ScriptOp.TheVariants.{Read, Write, Compute, Commit, Quit}
 use Rattle.step_script.specs.Values.{tree}
-use Rattle.step_script.specs.Scripts.{sample_of}
+use Rattle.step_script.specs.Rows.{last_in}
 use Rattle.step_script.proofs.Places.{asks_op, asks_none, same_known, found}
 use Rattle.step_script.proofs.script.ScriptBody.next.Goals as goal
 
@@ -26,10 +26,9 @@ returns-in-Write c =
     to_z-of_z w64 c.value_of.result (record { sfits = c.value_of.type_inv })
     ∙ c.value_of.ensures
     ∙ same_known (tree c.in-Write.value) _ _ _ _ _ _
-    (to_z-of_z w64 c.sample-sample.result (record { sfits = c.sample-sample.type_inv }) ∙ c.sample-sample.ensures
-    ∙ ap (λ (xs : List ℤ). sample_of xs c.args.self.now.serial) c.deref-in-Write.ensures.value)
-    (to_z-of_z w64 c.from.result (record { sfits = c.from.type_inv }) ∙ c.from.ensures)
-    c.deref-in-Write-2.ensures.value in
+    (to_z-of_z w64 c.sample.result (record { sfits = c.sample.type_inv }) ∙ c.sample.ensures)
+    (to_z-of_z w64 c.from-serial.result (record { sfits = c.from-serial.type_inv }) ∙ c.from-serial.ensures)
+    (ap last_in c.deref-in-Write.ensures.value) in
     λ serial os h. ap (asked.Write c.in-Write.item) value ∙ asks_op c.args.self.now _ is serial os h
 
 pub returns-in-Compute : goal.returns-in-Compute
