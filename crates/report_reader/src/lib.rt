@@ -1,0 +1,13 @@
+//! A report read as a document: whether each line is a line of a report and stands in order, and what is declared and
+//! which entries stand in it.
+#![tactic(auto)]
+
+mod document;
+mod forms;
+mod parts;
+
+pub use document::{Document, DocumentError, read_document};
+pub use forms::{Kind, Section, final_item};
+
+#[cfg(test)]
+mod tests;
