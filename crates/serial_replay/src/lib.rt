@@ -7,3 +7,6 @@ mod serial;
 
 pub use job_rows::{Delay, JobRow};
 pub use serial::{ReplayError, SerialResult, replay};
+
+#[cfg(test)]
+mod tests;
