@@ -18,7 +18,7 @@ use Rattle.step_journal.specs.declared.entry.Entry.{Entry}
 use Rattle.line_fields.specs.Cuts.{field}
 use Rattle.line_fields.specs.Ids.{name_at, job_text}
 use Rattle.journal_text.specs.Lines.{◌⊕◌, end_text, entry_line, KnownEnd}
-use Rattle.report_lines.specs.declared.rows.JobRow.{JobRow}
+use Rattle.job_rows.specs.declared.row.JobRow.{JobRow}
 use Rattle.report_lines.specs.Rows.{numbered}
 
 abbrev pub line_end : List ℕ

@@ -6,8 +6,8 @@ ghost use Rattle.line_fields.specs.Cuts.{field};
 ghost use Rattle.journal_text.specs.Lines.{IsWritable};
 ghost use Rattle.report_lines.specs.Texts.{whole_entry_line, entries_text, by_text, close_text, job_line, jobs_text, final_line, finals_text, KnownBy, KnownClose, KnownRow};
 
-use crate::rows::JobRow;
 use item_model::Stored;
+use job_rows::JobRow;
 use journal_text::{put_end, write_entry};
 use line_fields::{put, put_job, put_name, put_signed, put_unsigned};
 use rt_base::{End, JobId, Names, OutOfMemory, Tick};

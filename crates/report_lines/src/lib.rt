@@ -8,12 +8,10 @@ mod closing;
 mod declared;
 mod limits;
 mod lists;
-mod rows;
 
 pub use closing::{add_entries, add_finals, add_jobs, put_job_line};
 pub use declared::add_declarations;
 pub use limits::{add_age, add_bound, add_ceilings};
-pub use rows::JobRow;
 
 /// The declarations of a set, written as a report begins, are read back as they are, whatever follows them.
 pub fn head_is_read_back()

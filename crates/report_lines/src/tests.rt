@@ -3,6 +3,7 @@ ghost use Rattle.std.specs.Prelude.{◌≡◌, IfOk, length};
 
 use super::*;
 use item_model::Stored;
+use job_rows::JobRow;
 use rt_base::{End, ItemId, JobId, List, Name, Names, OutOfMemory, Tick, TxId};
 use std::alloc::Global;
 

@@ -46,14 +46,16 @@ parts false b e = absurd cc
 
 -- ---- items that are declared
 
-declared_in : (set : Set) (ids : List ItemId) (j : ℕ) → AreItemsOf set ids → names_item ids j ≡ true → j < length set.items
+declared_in : (set : Set) (ids : List ItemId) (j : ℕ) → AreItemsOf set ids → names_item ids j ≡ true
+    → j < length set.items
 declared_in set ids j are h =
     let found = any_in (λ i. i.0 == j) ids h in
     let lt : found.0.0 < length set.items = all_at (λ i. i.0 < length set.items) ids found.0 are.in_range found.1 in
     let same : found.0.0 ≡ j = eqb-true found.0.0 j found.2 in
     omega (arith, lt, same)
 
-op_known : (names : Names) (set : Set) (x : Row) (op : Op) → NamesSet names set → IsCompiled set → x.job.tx.0 < length set.txns
+op_known : (names : Names) (set : Set) (x : Row) (op : Op) → NamesSet names set → IsCompiled set
+    → x.job.tx.0 < length set.txns
     → may_ask set x op ≡ true → KnownOp names op
 op_known names set x (Read item) one ok lt may =
     omega (arith, declared_in set (txn_of set x.job.tx.0).reads item.0 (ok.reads x.job.tx.0 no_txn lt) (parts _ _ may).0, one.items)
@@ -77,7 +79,8 @@ answers items work Quit = tt
 -- ---- ends
 
 -- what was read of these items
-read_in : (set : Set) (work : Work) (ids : List ItemId) (r : OutsideRead) → AreItemsOf set ids → In r (reads_of work ids)
+read_in : (set : Set) (work : Work) (ids : List ItemId) (r : OutsideRead) → AreItemsOf set ids
+    → In r (reads_of work ids)
     → r.item.0 < length set.items
 read_in set work ids r are h =
     let from = filter_map_in (λ i. read_of work i.0) r ids h in
@@ -114,7 +117,8 @@ newest_in (r ∷ rs) a e =
 
 parted_at : (a b : OutsideRead) (test : Bool) (p : OutsideRead × OutsideRead) → cond test (Some (a, b)) None ≡ Some p
     → (Some a ≡ Some p.0) × (Some b ≡ Some p.1)
-parted_at a b true p e = let same : (a, b) ≡ p = cc in (ap (λ (q : OutsideRead × OutsideRead). Some q.0) same, ap (λ (q : OutsideRead × OutsideRead). Some q.1) same)
+parted_at a b true p e =
+    let same : (a, b) ≡ p = cc in (ap (λ (q : OutsideRead × OutsideRead). Some q.0) same, ap (λ (q : OutsideRead × OutsideRead). Some q.1) same)
 parted_at a b false p e = absurd cc
 
 parted_is : (within : ℕ) (a b : Option OutsideRead) (p : OutsideRead × OutsideRead) → parted within a b ≡ Some p
@@ -134,7 +138,8 @@ apart_at set work group p are e =
       read_in set work group.items p.1 are (newest_in (reads_of work group.items) p.1 both.1),
     )
 
-first_at : (set : Set) (a b : Option (OutsideRead × OutsideRead)) (p : OutsideRead × OutsideRead) → first_of_both a b ≡ Some p
+first_at : (set : Set) (a b : Option (OutsideRead × OutsideRead)) (p : OutsideRead × OutsideRead)
+    → first_of_both a b ≡ Some p
     → (a ≡ Some p → InSet set p) → (b ≡ Some p → InSet set p) → InSet set p
 first_at set None b p e one other = other e
 first_at set (Some q) b p e one other = one e
@@ -154,7 +159,8 @@ judged_known names (Some r) apart a b = a r refl
 judged_known names None (Some p) a b = b p refl
 judged_known names None None a b = tt
 
-verdict_known : (names : Names) (set : Set) (ids : List ItemId) (work : Work) (tick : ℕ) → NamesSet names set → IsCompiled set
+verdict_known : (names : Names) (set : Set) (ids : List ItemId) (work : Work) (tick : ℕ) → NamesSet names set
+    → IsCompiled set
     → AreItemsOf set ids → KnownEnd names (verdict set.items set.together ids work tick)
 unfolding verdict
 verdict_known names set ids work tick one ok are =
@@ -169,7 +175,8 @@ steps_known names false e is = absurd cc
 end_known : (names : Names) (set : Set) (x : Row) (tick : ℕ) (op : Op) (e : End) → NamesSet names set → IsCompiled set
     → x.job.tx.0 < length set.txns → end_by set x tick op ≡ Some e → KnownEnd names e
 end_known names set x tick (Read item) e one ok lt is = steps_known names (x.used == (txn_of set x.job.tx.0).steps) e is
-end_known names set x tick (Write item value) e one ok lt is = steps_known names (x.used == (txn_of set x.job.tx.0).steps) e is
+end_known names set x tick (Write item value) e one ok lt is =
+    steps_known names (x.used == (txn_of set x.job.tx.0).steps) e is
 end_known names set x tick Compute e one ok lt is = steps_known names (x.used == (txn_of set x.job.tx.0).steps) e is
 end_known names set x tick Commit e one ok lt is =
     let same : verdict set.items set.together (txn_of set x.job.tx.0).reads x.work tick ≡ e = cc in
@@ -186,7 +193,8 @@ AreKnown names ended = (e : EndedJob) → In e ended → KnownEnd names e.end ×
 abbrev one_end : Row → End → ℕ → EndedJob
 one_end x e tick = record { job = x.job; release = x.release; end = e; tick = tick }
 
-one_more : (names : Names) (ended : List EndedJob) (x : Row) (e : End) (tick : ℕ) → AreKnown names ended → KnownEnd names e
+one_more : (names : Names) (ended : List EndedJob) (x : Row) (e : End) (tick : ℕ) → AreKnown names ended
+    → KnownEnd names e
     → x.release ≤ tick → AreKnown names (ended ++ one_end x e tick ∷ [])
 one_more names ended x e tick known good le d i =
     elim (append_in d ended (one_end x e tick ∷ []) i) [
@@ -213,7 +221,8 @@ lates_known names t [] s known le = known
 lates_known names t (r ∷ rs) s known le =
     lates_known names t rs (with_late t s r) (one_more names s.ended r end.Late t known tt (le r (inl refl))) (λ q i. le q (inr i))
 
-arrived_known : (names : Names) (set : Set) (t : ℕ) (s : State) → AreKnown names s.ended → AreKnown names (arrived set t s).ended
+arrived_known : (names : Names) (set : Set) (t : ℕ) (s : State) → AreKnown names s.ended
+    → AreKnown names (arrived set t s).ended
 unfolding arrived with_releases with_cancellations
 arrived_known names set t s known =
     lates_known names t (gone_at set t s) (record s { now = t }) known (λ r i.
@@ -263,7 +272,8 @@ module _ (names : Names) (set : Set) (es : List Entry) (one : NamesSet names set
   unfolding with_wait
   waiting x on = known
 
-  goes_answered : (x : Row) (op : Op) (o : Option Above) → IsPending s.rows x → may_ask set x op ≡ true → lock_refusal set s x op ≡ o
+  goes_answered : (x : Row) (op : Op) (o : Option Above) → IsPending s.rows x → may_ask set x op ≡ true
+      → lock_refusal set s x op ≡ o
       → Goes names (Some (answered set s x op o))
   goes_answered x op None here may e =
       let next : State = with_step set s x op in
@@ -280,7 +290,8 @@ module _ (names : Names) (set : Set) (es : List Entry) (one : NamesSet names set
         waiting x above.holder,
       )
 
-  goes_asked_at : (op : Op) (x : Row) (b : Bool) → IsPending s.rows x → Goes names (option_and_then (asked set s op) (cond b (Some x) None))
+  goes_asked_at : (op : Op) (x : Row) (b : Bool) → IsPending s.rows x
+      → Goes names (option_and_then (asked set s op) (cond b (Some x) None))
   goes_asked_at op x true here =
       goes_given names (may_ask set x op) (answered set s x op (lock_refusal set s x op))
       (λ may. goes_answered x op (lock_refusal set s x op) here may refl)
@@ -320,7 +331,8 @@ module _ (names : Names) (set : Set) (es : List Entry) (one : NamesSet names set
 abbrev Given : Names → State → Entry → Option (Entry × State) → Type 0
 Given names s e o = (next : State) × (o ≡ Some (e, next)) × IsWritable names e × AreKnown names next.ended
 
-given_is : (names : Names) (s : State) (e : Entry) (o : Option (Entry × State)) → Goes names o → entry_given o ≡ Some e → Given names s e o
+given_is : (names : Names) (s : State) (e : Entry) (o : Option (Entry × State)) → Goes names o → entry_given o ≡ Some e
+    → Given names s e o
 given_is names s e None g h = absurd cc
 given_is names s e (Some p) g h =
     let same : p.0 ≡ e = cc in
@@ -350,7 +362,8 @@ none_ended : (names : Names) (set : Set) → AreKnown names (opening set).ended
 unfolding opening
 none_ended names set e i = absurd i
 
-pub legal_told : (names : Names) (set : Set) (entries : List Entry) → NamesSet names set → IsCompiled set → IsLegal set entries
+pub legal_told : (names : Names) (set : Set) (entries : List Entry) → NamesSet names set → IsCompiled set
+    → IsLegal set entries
     → Told names set [] entries
 legal_told names set entries one ok legal = along names set [] entries one ok tt (none_ended names set) legal
 

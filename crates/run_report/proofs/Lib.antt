@@ -1,3 +1,5 @@
 pub mod BoundLines
 pub mod HeadSets
 pub mod LegalLines
+pub mod LegalRows
+pub mod Writing

@@ -50,7 +50,11 @@ fn add_ages(into: &mut Vec<u8>, names: &Names, set: &AdmittedSet) -> Result<(), 
 }
 
 /// Adds the bounds and ages of an admitted set.
-fn add_limits(into: &mut Vec<u8>, names: &Names, set: &AdmittedSet) -> Result<(), OutOfMemory>
+pub(crate) fn add_limits(
+    into: &mut Vec<u8>,
+    names: &Names,
+    set: &AdmittedSet,
+) -> Result<(), OutOfMemory>
     requires { NamesSet names.now set.now }
     ensures { OnOk result (into.new.items ≡ into.old.items ++ limits_of names.now set.now) }
 {

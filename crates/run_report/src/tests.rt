@@ -3,6 +3,7 @@ ghost use Rattle.std.specs.Prelude.{◌≡◌, IfOk, true};
 ghost use Rattle.report_lines.specs.Texts.{NamesSet};
 
 use super::*;
+use item_model::Items;
 use report_head::read_head;
 use report_lines::add_declarations;
 use rt_base::{Names, OutOfMemory};
@@ -101,5 +102,35 @@ age temp 17
 admitted
 ";
     assert!(rt; base.as_slice() == want.as_bytes());
+    Ok(())
+}
+
+// The report of a set before its first entry.
+fn before(alloc: Global, text: &str) -> Result<Vec<u8>, OutOfMemory> {
+    let (names, set) = declared(alloc, text)?;
+    let mut out = Vec::new(alloc);
+    let writer = ReportWriter::begin(alloc, &names, &set, None, 4, &mut out)?;
+    let items = Items::new(alloc, set.items())?;
+    writer.finish(&names, &items, &mut out)?;
+    Ok(out)
+}
+
+#[test]
+fn nothing_ran(rt: HostRuntime) -> Result<(), OutOfMemory> {
+    let text = before(rt.alloc(), BASE)?;
+    let want = "rtdb report 1
+item temp sensor 20 0
+item valve state - 0
+txn sample 3 10 0 10 2 reads - writes temp
+txn control 2 20 0 20 4 reads temp writes valve
+txn logger 1 40 0 40 6 reads temp,valve writes -
+mode trial
+ceiling temp 3 3
+ceiling valve 2 2
+final temp 0 0
+final valve 0 0
+end
+";
+    assert!(rt; text.as_slice() == want.as_bytes());
     Ok(())
 }

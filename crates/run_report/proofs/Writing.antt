@@ -1,0 +1,53 @@
+-- What the writer of a report asks for.
+use Rattle.std.proofs.Common.{◌≡◌, ℕ, ◌+◌, ◌<◌, ◌≤◌, List, [], ◌∷◌, ◌++◌, map, length, get_or, refl, sym, ap, subst, ◌∙◌, arith, length-append}
+use Rattle.std.specs.List.{All}
+use Rattle.std.proofs.lemmas.List.{length-map}
+use Rattle.rt_base.specs.declared.name.Names.{Names}
+use Rattle.item_model.specs.declared.stored.Stored.{Stored}
+use Rattle.item_model.specs.Kinds.{initial_of}
+use Rattle.txn_set.specs.Set.{Set}
+use Rattle.step_journal.specs.declared.entry.Entry.{Entry}
+use Rattle.step_journal.specs.State.{opening}
+use Rattle.job_rows.specs.declared.row.JobRow.{JobRow}
+use Rattle.job_rows.specs.Rows.{job_rows}
+use Rattle.job_rows.specs.Upkeep.{RowsSeen, Follows}
+use Rattle.journal_text.specs.Lines.{IsWritable}
+use Rattle.report_lines.specs.Texts.{KnownRow, NamesSet}
+use Rattle.run_report.specs.Report.{Writes, Closes}
+use Rattle.run_report.proofs.LegalLines.{legal_lines}
+use Rattle.run_report.proofs.LegalRows.{legal_rows}
+
+at_end : {A : Type 0} (xs : List A) (x d : A) → get_or (xs ++ x ∷ []) (length xs) d ≡ x
+at_end [] x d = refl
+at_end (y ∷ xs) x d = at_end xs x d
+
+pub writes_line : (names : Names) (rows : RowsSeen) (entry : Entry) → Writes names rows entry → IsWritable names entry
+writes_line names rows entry w =
+    let story = w.goes.story in
+    let all = legal_lines names w.goes.set (story ++ entry ∷ []) w.one_each w.goes.follows.compiled w.goes.legal in
+    subst (IsWritable names) (at_end story entry entry)
+    (all (length story) entry (omega (arith, length-append story (entry ∷ []))))
+
+pub closes_rows : (names : Names) (rows : RowsSeen) (items : List Stored) (c : Closes names rows items)
+    → All (KnownRow names) (job_rows c.set c.story)
+closes_rows names rows items c = legal_rows names c.set c.story c.one_each c.follows.compiled c.follows.legal
+
+pub closes_few : (names : Names) (rows : RowsSeen) (items : List Stored) → Closes names rows items → length items ≤ 256
+closes_few names rows items c = omega (arith, c.each, c.follows.compiled.few_items)
+
+pub closes_each : (names : Names) (rows : RowsSeen) (items : List Stored) → Closes names rows items
+    → length items ≤ length names.items
+closes_each names rows items c = omega (arith, c.each, c.one_each.items)
+
+-- before the first entry
+pub opens : (names : Names) (set : Set) (rows : RowsSeen) (items : List Stored) → NamesSet names set → Follows set rows []
+    → items ≡ map initial_of set.items → Closes names rows items
+unfolding opening
+opens names set rows items one follows is = record {
+  set = set;
+  story = [];
+  follows = follows;
+  one_each = one;
+  last = is;
+  each = ap length is ∙ length-map set.items initial_of;
+}
