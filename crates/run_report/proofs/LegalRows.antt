@@ -1,7 +1,7 @@
 -- The rows of a legal history's jobs can be written.
-use Rattle.std.proofs.Common.{◌≡◌, ◌⊎◌, ℕ, suc, ◌+◌, ◌<◌, ◌≤◌, ◌==◌, Bool, true, false, cond, inl, inr, List, [], ◌∷◌, ◌++◌, map, length, get_or, Option, Some, None, refl, sym, ap, subst, ◌∙◌, arith, zero}
-use Rattle.std.specs.List.{All, filter_map}
-use Rattle.std.specs.Prelude.{slice_get, ◌&&◌, nat_le, nat_lt, ◌-◌}
+use Rattle.std.proofs.Common.{◌≡◌, ℕ, suc, ◌<◌, ◌≤◌, Bool, true, false, cond, inl, inr, List, [], ◌∷◌, map, length, get_or, Option, Some, None, refl, ap, subst, arith, zero}
+use Rattle.std.specs.List.{All}
+use Rattle.std.specs.Prelude.{slice_get, ◌&&◌, nat_le, nat_lt}
 use Rattle.std.proofs.lemmas.List.Elements.{All-append, All-cons, All-nil}
 use Rattle.rt_base.specs.declared.ids.JobId.{JobId}
 use Rattle.rt_base.specs.declared.release.Plans.{Plans}
@@ -11,23 +11,21 @@ use Rattle.txn_set.specs.Set.{Set, IsCompiled}
 use Rattle.step_journal.specs.declared.entry.Entry.{Entry}
 use Rattle.step_journal.specs.declared.entry.Entry.TheVariants.{Planned, Step, Blocked, Idle}
 use Rattle.step_journal.specs.declared.entry.EndedJob.{EndedJob}
-use Rattle.step_journal.specs.State.{State, Row, pending, prio_of}
+use Rattle.step_journal.specs.State.{Row, pending, prio_of}
 use Rattle.step_journal.specs.LockRule.{in_falling_priority}
-use Rattle.step_journal.specs.Step.{plans_of}
 use Rattle.step_journal.specs.Timing.{Span, span_of, delayer_in, delayers_within, delayers}
 use Rattle.step_journal.specs.History.{IsLegal, state_of}
 use Rattle.history_laws.proofs.Members.{In, in_at, pending_in}
-use Rattle.history_laws.proofs.Lists.{all_from, all_at, filter_map_in}
+use Rattle.history_laws.proofs.Lists.{all_at, filter_map_in}
 use Rattle.history_laws.proofs.Invariant.{in_range}
 use Rattle.history_laws.proofs.Calendar.{sorted_in}
 use Rattle.history_laws.proofs.Never.{legal_sound}
 use Rattle.history_laws.proofs.SerialAll.{legal_serial}
-use Rattle.job_rows.specs.declared.row.JobRow.{JobRow}
-use Rattle.job_rows.specs.Rows.{delay_of, with_delay, ended_row, pending_row, job_rows}
-use Rattle.journal_text.specs.Lines.{IsWritable, KnownEnd}
+use Rattle.job_rows.specs.Rows.{delay_of, with_delay, ended_row, pending_row}
+use Rattle.journal_text.specs.Lines.{IsWritable}
 use Rattle.report_lines.specs.Texts.{NamesSet, KnownBy, KnownClose, KnownRow}
 use Rattle.run_report.specs.Legal.{LegalHasRows}
-use Rattle.run_report.proofs.LegalLines.{AreKnown, legal_told}
+use Rattle.run_report.proofs.LegalLines.{legal_told}
 
 -- ---- who delayed
 

@@ -1,4 +1,5 @@
 pub mod BoundLines
+pub mod Fronts
 pub mod HeadSets
 pub mod LegalLines
 pub mod LegalRows

@@ -1,14 +1,13 @@
 -- What the writer of a report asks for.
-use Rattle.std.proofs.Common.{◌≡◌, ℕ, ◌+◌, ◌<◌, ◌≤◌, List, [], ◌∷◌, ◌++◌, map, length, get_or, refl, sym, ap, subst, ◌∙◌, arith, length-append}
+use Rattle.std.proofs.Common.{◌≡◌, ◌≤◌, List, [], ◌∷◌, ◌++◌, map, length, get_or, refl, ap, subst, ◌∙◌, arith, length-append}
 use Rattle.std.specs.List.{All}
-use Rattle.std.proofs.lemmas.List.{length-map}
 use Rattle.rt_base.specs.declared.name.Names.{Names}
 use Rattle.item_model.specs.declared.stored.Stored.{Stored}
 use Rattle.item_model.specs.Kinds.{initial_of}
 use Rattle.txn_set.specs.Set.{Set}
 use Rattle.step_journal.specs.declared.entry.Entry.{Entry}
 use Rattle.step_journal.specs.State.{opening}
-use Rattle.job_rows.specs.declared.row.JobRow.{JobRow}
+use Rattle.board.proofs.Counts.{items_count}
 use Rattle.job_rows.specs.Rows.{job_rows}
 use Rattle.job_rows.specs.Upkeep.{RowsSeen, Follows}
 use Rattle.journal_text.specs.Lines.{IsWritable}
@@ -32,12 +31,16 @@ pub closes_rows : (names : Names) (rows : RowsSeen) (items : List Stored) (c : C
     → All (KnownRow names) (job_rows c.set c.story)
 closes_rows names rows items c = legal_rows names c.set c.story c.one_each c.follows.compiled c.follows.legal
 
+closes_count : (names : Names) (rows : RowsSeen) (items : List Stored) (c : Closes names rows items)
+    → length items ≡ length c.set.items
+closes_count names rows items c = ap length c.last ∙ items_count c.set c.story
+
 pub closes_few : (names : Names) (rows : RowsSeen) (items : List Stored) → Closes names rows items → length items ≤ 256
-closes_few names rows items c = omega (arith, c.each, c.follows.compiled.few_items)
+closes_few names rows items c = omega (arith, closes_count names rows items c, c.follows.compiled.few_items)
 
 pub closes_each : (names : Names) (rows : RowsSeen) (items : List Stored) → Closes names rows items
     → length items ≤ length names.items
-closes_each names rows items c = omega (arith, c.each, c.one_each.items)
+closes_each names rows items c = omega (arith, closes_count names rows items c, c.one_each.items)
 
 -- before the first entry
 pub opens : (names : Names) (set : Set) (rows : RowsSeen) (items : List Stored) → NamesSet names set → Follows set rows []
@@ -49,5 +52,4 @@ opens names set rows items one follows is = record {
   follows = follows;
   one_each = one;
   last = is;
-  each = ap length is ∙ length-map set.items initial_of;
 }

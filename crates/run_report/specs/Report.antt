@@ -1,5 +1,5 @@
 -- The report of a set, its mode and its entries.
-use Rattle.std.specs.Prelude.{◌≡◌, ℕ, Bool, List, [], length, codes, if◌then◌else◌}
+use Rattle.std.specs.Prelude.{◌≡◌, ℕ, Bool, List, [], codes, if◌then◌else◌}
 use Rattle.rt_base.specs.declared.name.Names.{Names}
 use Rattle.item_model.specs.declared.stored.Stored.{Stored}
 use Rattle.txn_set.specs.Set.{Set}
@@ -43,4 +43,3 @@ pub record Closes (names : Names) (rows : RowsSeen) (items : List Stored) : Type
   pub follows : Follows set rows story
   pub one_each : NamesSet names set
   pub last : items ≡ (state_of set story).items
-  pub each : length items ≡ length set.items

@@ -1,0 +1,14 @@
+use Rattle.std.proofs.Common.{◌≡◌, ◌++◌, take, drop}
+use Rattle.job_rows.specs.Upkeep.{Follows, planned_jobs}
+use Rattle.report_lines.specs.Rows.{numbered}
+use Rattle.report_lines.specs.Texts.{whole_entry_line, entries_text}
+use Rattle.run_report.specs.Report.{opening_text}
+use Rattle.std.specs.Prelude.{is_some}
+use Rattle.run_report.proofs.whole.report_with_items.Given as goal
+
+abbrev pub invariant-loop-i : goal.invariant-loop-i
+invariant-loop-i l = record {
+  so_far : l.text.items ++ numbered (whole_entry_line l.names) l.i (drop l.i l.entries) ≡ opening_text l.names l.set (is_some l.bounds) ++ entries_text l.names l.entries;
+  follows : Follows l.set l.writer (take l.i l.entries);
+  places : l.writer.room ≡ planned_jobs l.entries;
+}

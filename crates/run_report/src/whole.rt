@@ -1,0 +1,70 @@
+//! The report of a whole history.
+ghost use Rattle.std.specs.Prelude.{◌≡◌, ◌≤◌, ◌++◌, ◌∷◌, [], List as Many, is_some, IfSome, IfOk, OnOk};
+ghost use Rattle.txn_set.specs.Set.{Set};
+ghost use Rattle.step_journal.specs.declared.entry.Entry.{Entry as Noted};
+ghost use Rattle.step_journal.specs.History.{IsLegal, state_of};
+ghost use Rattle.job_rows.specs.Upkeep.{Follows, planned_jobs};
+ghost use Rattle.report_lines.specs.Texts.{NamesSet, whole_entry_line};
+ghost use Rattle.run_report.specs.Report.{Writes, report_of};
+
+use crate::writer::ReportWriter;
+use item_model::Items;
+use rt_base::{Names, OutOfMemory};
+use set_admission::AdmittedSet;
+use std::alloc::Global;
+use step_journal::Entry;
+use txn_set::CompiledSet;
+
+// How many jobs the entries plan.
+pub(crate) fn planned(entries: &[Entry]) -> usize
+    ensures { result ≡ planned_jobs entries.now }
+{
+    let mut count = 0;
+    for entry in entries {
+        if let Entry::Planned { .. } = *entry {
+            count += 1;
+        }
+    }
+    count
+}
+
+fn add_next(
+    writer: &mut ReportWriter,
+    names: &Names,
+    entry: Entry,
+    into: &mut Vec<u8>,
+) -> Result<(), OutOfMemory>
+    requires { Writes names.now writer.old entry }
+    ensures text { OnOk result (into.new.items ≡ into.old.items ++ whole_entry_line names.now 0 entry) }
+    ensures places { writer.new.room ≡ writer.old.room }
+    ensures follows { OnOk result ((set : Set) (story : Many Noted) → Follows set writer.old story → IsLegal set (story ++ entry ∷ []) → Follows set writer.new (story ++ entry ∷ [])) }
+{
+    into.reserve(256)?;
+    writer.push(names, entry, into);
+    Ok(())
+}
+
+/// The report of a legal history of a set, whose last items are given: as admitted where there are bounds, and else as a
+/// trial. Each entry is gone through once.
+pub fn report_with_items(
+    alloc: Global,
+    names: &Names,
+    set: &CompiledSet,
+    bounds: Option<&AdmittedSet>,
+    entries: &[Entry],
+    items: &Items,
+) -> Result<Vec<u8>, OutOfMemory>
+    requires names { NamesSet names.now set.now }
+    requires same { IfSome bounds (λ b. b.now ≡ set.now) }
+    requires legal { IsLegal set.now entries.now }
+    requires last { items.now ≡ (state_of set.now entries.now).items }
+    ensures { IfOk result (λ text. text.items ≡ report_of names.now set.now (is_some bounds.entry) entries.now) }
+{
+    let mut text = Vec::new(alloc);
+    let mut writer = ReportWriter::begin(alloc, names, set, bounds, planned(entries), &mut text)?;
+    for i in 0..entries.len() {
+        add_next(&mut writer, names, entries[i], &mut text)?;
+    }
+    writer.finish(names, items, &mut text)?;
+    Ok(text)
+}
