@@ -1,0 +1,4 @@
+mod Outside
+mod Same
+mod Agains
+mod Replayed

@@ -1,0 +1,92 @@
+//! Replay: whether entries are a legal history, and what its jobs come to.
+ghost use Rattle.std.specs.Prelude.{◌≡◌, ◌<◌, [], IfOk, IfErr, vec_capacity};
+ghost use Rattle.lock_core.specs.Stands.{Stands};
+ghost use Rattle.serial_replay.specs.Replays.{IsReplayed, Explains};
+
+use crate::again::{again, planned};
+use board::Board;
+use fresh_laws::freshness;
+use history_laws::{one_delay, pending_replies, serial_replies};
+use item_model::Items;
+use job_rows::{JobRow, JobRows};
+use lock_core::Core;
+use rt_base::{List, OutOfMemory};
+use std::alloc::Global;
+use step_journal::Entry;
+use txn_set::CompiledSet;
+
+/// What a legal history comes to: its last items, which are those of its ended jobs run alone in order of ending, and the
+/// rows of its jobs: the ended ones in order of ending, those late at one instant in falling priority, and then the pending
+/// ones in falling priority.
+#[derive(Drop)]
+pub struct SerialResult {
+    pub items: Items,
+    pub jobs: List<JobRow>,
+}
+
+/// Why entries are not replayed.
+#[derive(Clone, Copy, PartialEq, Eq, Debug)]
+pub enum ReplayError {
+    /// The entry at this index is no legal step after those before it, the first such.
+    NotLegal { index: usize },
+    /// A growth was refused for want of memory.
+    OutOfMemory,
+}
+
+impl From<OutOfMemory> for ReplayError {
+    ghost use Rattle.serial_replay.specs.declared.serial.ReplayError.TheVariants as error;
+
+    ghost from_gives = { λ _ e. e ≡ error.OutOfMemory };
+
+    fn from(_e: OutOfMemory) -> ReplayError {
+        ReplayError::OutOfMemory
+    }
+}
+
+/// Replays entries, any: it makes each call again on a board of its own, so that it costs what the run did. Ok comes exactly
+/// where they are a legal history of the set, but for want of memory.
+pub fn replay(
+    alloc: Global,
+    set: &CompiledSet,
+    entries: &[Entry],
+) -> Result<SerialResult, ReplayError>
+    ensures ok { IfOk result (λ r. IsReplayed set.now entries.now r.items r.jobs) }
+    ensures err { IfErr result (Explains set.now entries.now) }
+{
+    set.is_compiled();
+    let mut rows = JobRows::with_room(alloc, set, planned(entries))?;
+    let mut spare = one_place(alloc)?;
+    let mut board = new_board(alloc, set)?;
+    match again(&mut board, &mut rows, entries, &mut spare) {
+        Some(index) => Err(ReplayError::NotLegal { index }),
+        None => {
+            serial_replies();
+            pending_replies();
+            one_delay();
+            freshness();
+            let (items, _) = board.into_parts();
+            Ok(SerialResult {
+                items,
+                jobs: rows.into_rows(),
+            })
+        }
+    }
+}
+
+// A board of the set at the opening state.
+fn new_board(alloc: Global, set: &CompiledSet) -> Result<Core, OutOfMemory>
+    ensures { IfOk result (λ b. (b.set ≡ set.now) × (b.journal.room ≡ 1) × Stands b []) }
+{
+    let set = set.copy(alloc)?;
+    match Core::new(alloc, set, 1) {
+        Ok(board) => Ok(board),
+        Err((_, e)) => Err(e),
+    }
+}
+
+// No entries, with a place for one.
+fn one_place(alloc: Global) -> Result<Vec<Entry>, OutOfMemory>
+    ensures { IfOk result (λ v. 0 < vec_capacity v) }
+{
+    Ok(Vec::with_capacity(alloc, 1)?)
+}
