@@ -1,5 +1,5 @@
 -- One step of the running job: what the board answers, and that the body follows.
-use Rattle.std.proofs.Common.{◌≡◌, ◌≢◌, ℕ, ◌<◌, ◌≤◌, Bool, true, false, cond, List, [], ◌∷◌, ◌++◌, length, Option, None, Some, drop, refl, ap, sym, ◌∙◌, subst, inl, inr, arith}
+use Rattle.std.proofs.Common.{◌≡◌, ◌≢◌, ℕ, ◌<◌, ◌≤◌, Bool, true, false, cond, List, [], ◌∷◌, ◌++◌, length, Option, None, Some, refl, ap, sym, ◌∙◌, subst, inl, inr, arith}
 use Rattle.std.proofs.lemmas.Bool.{cases_eq, eq-eqb, and_from, false_from_ne_true}
 use Rattle.std.proofs.lemmas.List.{append-nil}
 use Rattle.std.specs.Option.{option_map, option_and_then}
@@ -25,7 +25,7 @@ use Rattle.history_laws.proofs.Calendar.{named_from}
 use Rattle.history_laws.proofs.Never.{legal_sound, refused_all}
 use Rattle.history_laws.proofs.Alone.{outcomes_more_in}
 use Rattle.sim_history.specs.Sim.{Body}
-use Rattle.sim_run.specs.Turns.{IsReached, IsFollowing, MayAsk, job_of}
+use Rattle.sim_run.specs.Turns.{IsReached, IsFollowing, MayAsk, CanAsk, HasAsked, job_of}
 use Rattle.sim_run.proofs.Behind.{behind_after, behind_running, running_past}
 use Rattle.sim_run.proofs.Histories.{state_next}
 
@@ -96,12 +96,12 @@ pub asked_legal : (set : Set) (s : State) (job : JobId) (op : Op) (a : Asked set
 asked_legal set s job op a = ap (λ (v : Event). entry_given (step set s v)) a.event ∙ a.gives
 
 -- the answer has that entry
-pub answer_entry : (set : Set) (room first : ℕ) (story : List Entry) (job : JobId) (op : Op) (r : StepReply)
-    → IsStory set room first story story → length story < room
-    → r ≡ step_answer set story (length story) room job op → (a : Asked set (state_of set story) job op)
+pub answer_entry : (set : Set) (room first : ℕ) (kept story : List Entry) (job : JobId) (op : Op) (r : StepReply)
+    → IsStory set room first kept story → length kept < room
+    → r ≡ step_answer set story (length kept) room job op → (a : Asked set (state_of set story) job op)
     → step_entry (now_of set story) job op r ≡ Some a.entry
-answer_entry set room first story job op r is fits e a =
-    ap (step_entry (now_of set story) job op) e ∙ (steps_are_steps set story (length story) room job op is.compiled is.legal fits ∙ a.gives)
+answer_entry set room first kept story job op r is fits e a =
+    ap (step_entry (now_of set story) job op) e ∙ (steps_are_steps set story (length kept) room job op is.compiled is.legal fits ∙ a.gives)
 
 -- so it is Done or Blocked
 pub answer_stands : (now : ℕ) (job : JobId) (op : Op) (r : StepReply) (entry : Entry)
@@ -116,11 +116,6 @@ answer_stands now job op (reply.Unwritten item) entry h b d = cc
 answer_stands now job op (reply.Full room) entry h b d = cc
 answer_stands now job op (reply.Blocked by ceiling) entry h b d = b by ceiling refl
 answer_stands now job op (reply.Done outcome over) entry h b d = d outcome over refl
-
--- a board that keeps its whole history keeps the new entry
-pub kept_more : (set : Set) (room first : ℕ) (kept story : List Entry) (o : Option Entry) (e : Entry) → o ≡ Some e
-    → first ≡ 0 → IsStory set room first kept (noted story o) → kept ≡ story ++ e ∷ []
-kept_more set room first kept story o e is zero s = s.rest ∙ (ap (λ (n : ℕ). drop n (noted story o)) zero ∙ ap (noted story) is)
 
 -- the body after it began
 
@@ -215,17 +210,17 @@ pub record Turn (set : Set) (story : List Entry) (job : JobId) (op : Op) (r : St
   pub legal : IsLegalEntry set (state_of set story) entry
   pub is : step_entry (now_of set story) job op r ≡ Some entry
 
-pub turn_of : (set : Set) (room first : ℕ) (story : List Entry) (job : JobId) (op : Op) (gives : Body) (r : StepReply)
-    → IsStory set room first story story → running_of set story ≡ Some job → MayAsk set story gives
-    → op ≡ gives job.serial (outcomes_of story job) → length story < room
-    → r ≡ step_answer set story (length story) room job op → Turn set story job op r
-turn_of set room first story job op gives r is run may same fits e =
+pub turn_of : (set : Set) (room first : ℕ) (kept story : List Entry) (job : JobId) (op : Op) (gives : Body)
+    (r : StepReply) → IsStory set room first kept story → running_of set story ≡ Some job → MayAsk set story gives
+    → op ≡ gives job.serial (outcomes_of story job) → length kept < room
+    → r ≡ step_answer set story (length kept) room job op → Turn set story job op r
+turn_of set room first kept story job op gives r is run may same fits e =
     let w = running_row set story job run in
     let a = asked_entry set story job op run (λ row runs.
     let one : Some row ≡ Some w.row = sym runs ∙ w.runs in
     let j : row.job ≡ job = some_job row w.row one ∙ w.is in
     ap (may_ask set row) (same ∙ ap (λ (k : JobId). gives k.serial (outcomes_of story k)) (sym j)) ∙ may row runs) in
-    record { entry = a.entry; event = a.event; legal = asked_legal set (state_of set story) job op a; is = answer_entry set room first story job op r is fits e a } where
+    record { entry = a.entry; event = a.event; legal = asked_legal set (state_of set story) job op a; is = answer_entry set room first kept story job op r is fits e a } where
       some_job : (x y : Row) → Some x ≡ Some y → x.job ≡ y.job
       some_job x y e = let same : x ≡ y = cc in ap (λ (q : Row). q.job) same
 
@@ -277,17 +272,49 @@ pub record After (stands : ℕ → List Outcome → Type 0) (gives : Body) (set 
   pub turn : Turn set story job op r
   pub asked : event_of turn.entry ≡ ask job (gives job.serial (outcomes_of story job))
 
-pub after_answer : (stands stands' : ℕ → List Outcome → Type 0) (gives gives' : Body) (set : Set) (room first : ℕ)
-    (story : List Entry) (job : JobId) (op : Op) (r : StepReply) (serial : ℕ)
-    → IsStory set room first story story → running_of set story ≡ Some job → MayAsk set story gives
-    → IsFollowing stands set story job.tx.0 serial → length story < room
+pub after_answer : (board : List Entry → Type 0) (stands stands' : ℕ → List Outcome → Type 0) (gives gives' : Body)
+    (set : Set) (room first : ℕ) (kept story : List Entry) (job : JobId) (op : Op) (r : StepReply) (serial : ℕ)
+    → CanAsk board stands gives set job serial story → IsStory set room first kept story → length kept < room
     → (serial ≡ job.serial → stands job.serial (outcomes_of story job) → stands' job.serial (outcomes_of story job))
     → (serial ≢ job.serial → stands' job.serial [])
     → gives' ≡ gives → ((k : ℕ) (os : List Outcome) → stands' k os → op ≡ gives' k os)
-    → r ≡ step_answer set story (length story) room job op
+    → r ≡ step_answer set story (length kept) room job op
     → After stands' gives set story job op r
-after_answer stands stands' gives gives' set room first story job op r serial is run may f fits kept begun same next e =
-    let f' = follows_new stands stands' set story job serial is.compiled is.legal run f kept begun in
+after_answer board stands stands' gives gives' set room first kept story job op r serial can is fits kept_told begun same next e =
+    let f' = follows_new stands stands' set story job serial is.compiled is.legal can.running can.follows kept_told begun in
     let op_is : op ≡ gives job.serial (outcomes_of story job) = next job.serial (outcomes_of story job) f'.told ∙ ap (λ (h : Body). h job.serial (outcomes_of story job)) same in
-    let t = turn_of set room first story job op gives r is run may op_is fits e in
+    let t = turn_of set room first kept story job op gives r is can.running can.may op_is fits e in
     record { compiled = is.compiled; legal = is.legal; follows = f'; turn = t; asked = t.event ∙ ap (ask job) op_is }
+
+-- what the asked operation leaves
+
+pub entry_noted : (set : Set) (story : List Entry) (job : JobId) (op : Op) (r : StepReply) (t : Turn set story job op r)
+    → noted story (step_entry (now_of set story) job op r) ≡ story ++ t.entry ∷ []
+entry_noted set story job op r t = ap (noted story) t.is
+
+pub has_done : (board : List Entry → Type 0) (stands stands' : ℕ → List Outcome → Type 0) (gives : Body) (set : Set)
+    (story : List Entry) (job : JobId) (op : Op) (r : StepReply) (outcome : Outcome) (over : Option End) (serial : ℕ)
+    → (a : After stands gives set story job op r) → r ≡ reply.Done outcome over → serial ≡ job.serial
+    → board (noted story (step_entry (now_of set story) job op r))
+    → ((os : List Outcome) → stands job.serial os → stands' job.serial (os ++ outcome ∷ []))
+    → HasAsked board stands' set (ask job (gives job.serial (outcomes_of story job))) job.tx.0 serial story
+has_done board stands stands' gives set story job op r outcome over serial a e same new told = record {
+  after = story ++ a.turn.entry ∷ [];
+  noted = (a.turn.entry, a.asked, refl);
+  stands = subst board (entry_noted set story job op r a.turn) new;
+  follows = subst (IsFollowing stands' set (story ++ a.turn.entry ∷ []) job.tx.0) (sym same)
+      (turn_done_follows stands stands' set story (story ++ a.turn.entry ∷ []) job op r outcome over a.compiled a.legal a.turn e refl a.follows told);
+}
+
+pub has_blocked : (board : List Entry → Type 0) (stands : ℕ → List Outcome → Type 0) (gives : Body) (set : Set)
+    (story : List Entry) (job : JobId) (op : Op) (r : StepReply) (by : JobId) (ceiling : ℕ) (serial : ℕ)
+    → (a : After stands gives set story job op r) → r ≡ reply.Blocked by ceiling → serial ≡ job.serial
+    → board (noted story (step_entry (now_of set story) job op r))
+    → HasAsked board stands set (ask job (gives job.serial (outcomes_of story job))) job.tx.0 serial story
+has_blocked board stands gives set story job op r by ceiling serial a e same new = record {
+  after = story ++ a.turn.entry ∷ [];
+  noted = (a.turn.entry, a.asked, refl);
+  stands = subst board (entry_noted set story job op r a.turn) new;
+  follows = subst (IsFollowing stands set (story ++ a.turn.entry ∷ []) job.tx.0) (sym same)
+      (turn_blocked_follows stands set story (story ++ a.turn.entry ∷ []) job op r by ceiling a.compiled a.legal a.turn e refl a.follows);
+}

@@ -4,3 +4,7 @@ pub mod Asks
 pub mod Turns
 pub mod Planning
 pub mod Runs
+pub mod Handing
+pub mod Exist
+pub mod Whole
+pub mod Steady

@@ -15,7 +15,7 @@ use Rattle.step_journal.specs.declared.entry.Entry.TheVariants.{Planned}
 use Rattle.step_journal.specs.State.{State, opening}
 use Rattle.step_journal.specs.Step.{plan, given, plans_of, earliest, may_plan, next_job, with_plan, step}
 use Rattle.step_journal.specs.History.{state_given, entry_given, state_after, states_after, IsLegalFrom, IsLegal, state_of}
-use Rattle.board.specs.Stories.{plan_entry, plan_answer}
+use Rattle.board.specs.Stories.{noted, plan_entry, plan_answer}
 use Rattle.board.proofs.Plans.{plans_are_steps}
 use Rattle.sim_history.specs.Sim.{plans_from}
 use Rattle.sim_run.specs.Workloads.{AreSpaced, AreAccepted}
@@ -28,18 +28,18 @@ entry_ok : (tx : TxId) (tick : ℕ) (r : Result JobId PlanRefused) (entry : Entr
 entry_ok tx tick (Ok job) entry h none = none job refl
 entry_ok tx tick (Err e) entry h none = cc
 
-pub plan_ok : (set : Set) (room : ℕ) (story : List Entry) (tx : TxId) (tick : ℕ) (rest : List Entry)
+pub plan_ok : (set : Set) (kept room : ℕ) (story : List Entry) (tx : TxId) (tick : ℕ) (rest : List Entry)
     (r : Result JobId PlanRefused) → tx.0 < length set.txns → IsLegal set (story ++ Planned tx tick ∷ rest)
-    → length story < room
-    → r ≡ plan_answer set story (length story) room tx.0 tick → plan_entry tx tick r ≡ Some (Planned tx tick)
-plan_ok set room story tx tick rest r in_set legal lt e =
-    ap (plan_entry tx tick) e ∙ (plans_are_steps set (state_of set story) (length story) room tx tick lt in_set ∙ (legal_parts set story (Planned tx tick) rest legal).1)
+    → kept < room
+    → r ≡ plan_answer set story kept room tx.0 tick → plan_entry tx tick r ≡ Some (Planned tx tick)
+plan_ok set kept room story tx tick rest r in_set legal lt e =
+    ap (plan_entry tx tick) e ∙ (plans_are_steps set (state_of set story) kept room tx tick lt in_set ∙ (legal_parts set story (Planned tx tick) rest legal).1)
 
-pub plan_stands : (set : Set) (room : ℕ) (story : List Entry) (tx : TxId) (tick : ℕ) (rest : List Entry)
+pub plan_stands : (set : Set) (kept room : ℕ) (story : List Entry) (tx : TxId) (tick : ℕ) (rest : List Entry)
     (r : Result JobId PlanRefused) → tx.0 < length set.txns → IsLegal set (story ++ Planned tx tick ∷ rest)
-    → length story < room
-    → r ≡ plan_answer set story (length story) room tx.0 tick → ((job : JobId) → r ≡ Ok job → ⊥) → ⊥
-plan_stands set room story tx tick rest r in_set legal lt e none = entry_ok tx tick r (Planned tx tick) (plan_ok set room story tx tick rest r in_set legal lt e) none
+    → kept < room
+    → r ≡ plan_answer set story kept room tx.0 tick → ((job : JobId) → r ≡ Ok job → ⊥) → ⊥
+plan_stands set kept room story tx tick rest r in_set legal lt e none = entry_ok tx tick r (Planned tx tick) (plan_ok set kept room story tx tick rest r in_set legal lt e) none
 
 -- the ticks from a place on
 
@@ -60,13 +60,25 @@ pub ticks_rest : (tx : TxId) (ticks : List ℕ) (n d : ℕ) (story whole : List 
     → story ++ Planned tx (get_or ticks n d) ∷ map (Planned tx) (drop (suc n) ticks) ≡ whole
 ticks_rest tx ticks n d story whole lt e = ap (λ (ts : List ℕ). story ++ map (Planned tx) ts) (sym (drop_here ticks n d lt)) ∙ e
 
-pub ticks_fit : (tx : TxId) (ticks : List ℕ) (n d room : ℕ) (story start : List Entry) → n < length ticks
-    → story ++ map (Planned tx) (drop n ticks) ≡ start ++ map (Planned tx) ticks → length start + length ticks ≤ room
-    → length story < room
-ticks_fit tx ticks n d room story start lt e le =
-    let here = ticks_rest tx ticks n d story _ lt e in
-    let l : length story + suc (length (map (Planned tx) (drop (suc n) ticks))) ≡ length (start ++ map (Planned tx) ticks) = sym (length-append story (Planned tx (get_or ticks n d) ∷ map (Planned tx) (drop (suc n) ticks))) ∙ ap length here in
-    omega (arith, l, length-append start (map (Planned tx) ticks), length-map ticks (Planned tx))
+pub ticks_next : (tx : TxId) (ticks : List ℕ) (n d : ℕ) (story : List Entry) → n < length ticks
+    → story ++ map (Planned tx) (drop n ticks) ≡ (story ++ Planned tx (get_or ticks n d) ∷ []) ++ map (Planned tx)
+    (drop (suc n) ticks)
+ticks_next tx ticks n d story lt =
+    ap (λ (ts : List ℕ). story ++ map (Planned tx) ts) (drop_here ticks n d lt)
+    ∙ sym (append_assoc story (Planned tx (get_or ticks n d) ∷ []) (map (Planned tx) (drop (suc n) ticks)))
+
+-- the entries of a list and the plans that are left, after one more plan
+pub each_left : (tx : TxId) (ticks : List ℕ) (n d next : ℕ) (kept kept' : List Entry) → n < length ticks → next ≡ suc n
+    → kept' ≡ kept ++ Planned tx (get_or ticks n d) ∷ []
+    → kept ++ map (Planned tx) (drop n ticks) ≡ kept' ++ map (Planned tx) (drop next ticks)
+each_left tx ticks n d next kept kept' lt one e =
+    ticks_next tx ticks n d kept lt
+    ∙ (ap (λ (l : List Entry). l ++ map (Planned tx) (drop (suc n) ticks)) (sym e)
+    ∙ ap (λ (m : ℕ). kept' ++ map (Planned tx) (drop m ticks)) (sym one))
+
+pub plan_noted : (story : List Entry) (tx : TxId) (tick : ℕ) (r : Result JobId PlanRefused) (job : JobId) → r ≡ Ok job
+    → noted story (plan_entry tx tick r) ≡ story ++ Planned tx tick ∷ []
+plan_noted story tx tick r job e = ap (λ (q : Result JobId PlanRefused). noted story (plan_entry tx tick q)) e
 
 -- the rest of all plans
 pub plans_rest : (releases : List (List ℕ)) (n : ℕ) (d : List ℕ) (story whole : List Entry) → n < length releases
@@ -83,45 +95,35 @@ pub plans_legal : (set : Set) (releases : List (List ℕ)) (n : ℕ) (d : List �
 plans_legal set releases n d story whole lt e legal =
     (legal_split set (opening set) (story ++ map (Planned (record { 0 = n })) (get_or releases n d)) (plans_from (n + 1) (drop (suc n) releases)) (subst (IsLegal set) (sym (plans_rest releases n d story whole lt e)) legal)).0
 
-pub plans_fit : (releases : List (List ℕ)) (n room : ℕ) (d : List ℕ) (story start : List Entry) → n < length releases
-    → story ++ plans_from n (drop n releases) ≡ start ++ plans_from 0 releases
-    → length start + length (plans_from 0 releases) ≤ room
-    → length story + length (get_or releases n d) ≤ room
-plans_fit releases n room d story start lt e le =
-    let here = plans_rest releases n d story _ lt e in
-    let ticks = map (Planned (record { 0 = n })) (get_or releases n d) in
-    let rest = plans_from (n + 1) (drop (suc n) releases) in
-    let l : length (story ++ ticks) + length rest ≡ length (start ++ plans_from 0 releases) = sym (length-append (story ++ ticks) rest) ∙ ap length here in
-    omega (arith, l, length-append story ticks, length-map (get_or releases n d) (Planned (record { 0 = n })), length-append start (plans_from 0 releases))
-
 -- amid the plans of one transaction the answer is Ok
-pub each_stands : (set set' : Set) (room room' : ℕ) (story start : List Entry) (tx : TxId) (ticks : List ℕ) (n : ℕ)
-    (r : Result JobId PlanRefused) → n < length ticks
-    → story ++ map (Planned tx) (drop n ticks) ≡ start ++ map (Planned tx) ticks → set ≡ set' → room ≡ room'
-    → tx.0 < length set'.txns → IsLegal set' (start ++ map (Planned tx) ticks)
-    → length start + length ticks ≤ room' → r ≡ plan_answer set story (length story) room tx.0 (get_or ticks n 0)
+pub each_answers : (set set' : Set) (kept room : ℕ) (story whole : List Entry) (tx : TxId) (ticks : List ℕ) (n : ℕ)
+    (r : Result JobId PlanRefused) → n < length ticks → story ++ map (Planned tx) (drop n ticks) ≡ whole → set ≡ set'
+    → tx.0 < length set'.txns → IsLegal set' whole → kept < room
+    → r ≡ plan_answer set story kept room tx.0 (get_or ticks n 0)
     → ((job : JobId) → r ≡ Ok job → ⊥) → ⊥
-each_stands set set' room room' story start tx ticks n r lt planned es er in_set legal le answer none =
-    let rest = ticks_rest tx ticks n 0 story (start ++ map (Planned tx) ticks) lt planned in
-    let l : IsLegal set (story ++ Planned tx (get_or ticks n 0) ∷ map (Planned tx) (drop (suc n) ticks)) = subst (IsLegal set) (sym rest) (subst (λ (q : Set). IsLegal q (start ++ map (Planned tx) ticks)) (sym es) legal) in
-    let fits : length story < room' = ticks_fit tx ticks n 0 room' story start lt planned le in
-    plan_stands set room story tx (get_or ticks n 0) (map (Planned tx) (drop (suc n) ticks)) r (subst (λ (q : Set). tx.0 < length q.txns) (sym es) in_set) l (omega (arith, fits, er)) answer none
+each_answers set set' kept room story whole tx ticks n r lt planned es in_set legal fits answer none =
+    let l : IsLegal set (story ++ Planned tx (get_or ticks n 0) ∷ map (Planned tx) (drop (suc n) ticks)) = subst (IsLegal set) (sym (ticks_rest tx ticks n 0 story whole lt planned)) (subst (λ (q : Set). IsLegal q whole) (sym es) legal) in
+    plan_stands set kept room story tx (get_or ticks n 0) (map (Planned tx) (drop (suc n) ticks)) r (subst (λ (q : Set). tx.0 < length q.txns) (sym es) in_set) l fits answer none
 
--- amid all plans those of the next transaction are legal, and there is room for them
-pub all_go_on : (set set' : Set) (releases : List (List ℕ)) (n : ℕ) (d ticks : List ℕ) (story start : List Entry)
-    → n < length releases → story ++ plans_from n (drop n releases) ≡ start ++ plans_from 0 releases → set ≡ set'
-    → IsLegal set' (start ++ plans_from 0 releases) → ticks ≡ get_or releases n d
+-- amid all plans those of the next transaction are legal
+pub all_go_on : (set set' : Set) (releases : List (List ℕ)) (n : ℕ) (d ticks : List ℕ) (story whole : List Entry)
+    → n < length releases → story ++ plans_from n (drop n releases) ≡ whole → set ≡ set' → IsLegal set' whole
+    → ticks ≡ get_or releases n d
     → IsLegal set (story ++ map (Planned (record { 0 = n })) ticks)
-all_go_on set set' releases n d ticks story start lt planned es legal is =
+all_go_on set set' releases n d ticks story whole lt planned es legal is =
     subst (λ (ts : List ℕ). IsLegal set (story ++ map (Planned (record { 0 = n })) ts)) (sym is)
-    (plans_legal set releases n d story (start ++ plans_from 0 releases) lt planned (subst (λ (q : Set). IsLegal q (start ++ plans_from 0 releases)) (sym es) legal))
+    (plans_legal set releases n d story whole lt planned (subst (λ (q : Set). IsLegal q whole) (sym es) legal))
 
-pub all_fit : (releases : List (List ℕ)) (n room room' : ℕ) (d ticks : List ℕ) (story start : List Entry)
-    → n < length releases → story ++ plans_from n (drop n releases) ≡ start ++ plans_from 0 releases → room ≡ room'
-    → length start + length (plans_from 0 releases) ≤ room' → ticks ≡ get_or releases n d
-    → length story + length ticks ≤ room
-all_fit releases n room room' d ticks story start lt planned er le is =
-    omega (arith, plans_fit releases n room' d story start lt planned le, er, ap (λ (l : List ℕ). length l) is)
+-- the entries of a list and the plans that are left, after those of one more transaction
+pub all_left : (releases : List (List ℕ)) (n next : ℕ) (d ticks : List ℕ) (kept : List Entry) → n < length releases
+    → next ≡ suc n → ticks ≡ get_or releases n d
+    → kept ++ plans_from n (drop n releases) ≡ (kept ++ map (Planned (record { 0 = n })) ticks) ++ plans_from next
+    (drop next releases)
+all_left releases n next d ticks kept lt one is =
+    sym (plans_rest releases n d kept _ lt refl)
+    ∙ (ap (λ (ts : List ℕ). (kept ++ map (Planned (record { 0 = n })) ts) ++ plans_from (n + 1) (drop (suc n) releases)) (sym is)
+    ∙ (ap (λ (m : ℕ). (kept ++ map (Planned (record { 0 = n })) ticks) ++ plans_from m (drop (suc n) releases)) (omega (arith, one))
+    ∙ ap (λ (m : ℕ). (kept ++ map (Planned (record { 0 = n })) ticks) ++ plans_from next (drop m releases)) (sym one)))
 
 -- Every plan is legal: at tick 0 with a tick that is late enough, and with few planned.
 

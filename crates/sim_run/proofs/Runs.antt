@@ -1,5 +1,5 @@
 -- A run under way: how it begins, goes on by a turn, fits into the room, and ends.
-use Rattle.std.proofs.Common.{◌≡◌, ◌≢◌, ◌⊎◌, ℕ, zero, suc, ◌+◌, ◌<◌, ◌≤◌, Bool, true, false, cond, List, [], ◌∷◌, ◌++◌, length, map, Option, None, Some, get_or, refl, ap, sym, ◌∙◌, subst, inl, inr, arith, append_assoc, length-append}
+use Rattle.std.proofs.Common.{◌≡◌, ◌≢◌, ◌⊎◌, ℕ, zero, suc, ◌+◌, ◌<◌, ◌≤◌, Bool, true, false, cond, List, [], ◌∷◌, ◌++◌, length, map, Option, None, Some, get_or, refl, ap, sym, ◌∙◌, subst, inl, inr, arith, append_assoc}
 use Rattle.std.proofs.lemmas.List.{append-nil}
 use Rattle.std.proofs.lemmas.Bool.{eq-eqb, ne_eqb}
 use Rattle.std.specs.Option.{option_map}
@@ -24,7 +24,6 @@ use Rattle.history_laws.proofs.Never.{never_stuck}
 use Rattle.sim_history.specs.Sim.{Body, Workload, IsAsked, IsScriptRun, IsFixed, IsSim, plans, plans_from, next_event, event_for, event_in, op_asked}
 use Rattle.sim_run.specs.Workloads.{ticks_of, workload, ObeysAt}
 use Rattle.sim_run.specs.Turns.{IsFollowing, IsUnderWay, IsTurned, job_of}
-use Rattle.sim_run.proofs.Histories.{legal_next}
 use Rattle.sim_run.proofs.Asks.{asked_entry, asked_legal}
 use Rattle.sim_run.proofs.Behind.{behind_zero}
 
@@ -76,26 +75,18 @@ pub nothing_kept : (set : Set) (room first : ℕ) (kept : List Entry) → IsStor
 nothing_kept set room first [] is = refl
 nothing_kept set room first (e ∷ es) is = absurd (let c : first + length (e ∷ es) ≡ 0 = is.counted in omega arith)
 
-pub first_zero : (set : Set) (room first : ℕ) (kept : List Entry) → IsStory set room first kept [] → first ≡ 0
-first_zero set room first kept is = let c : first + length kept ≡ 0 = is.counted in omega arith
+pub begins : (w : Workload) → IsUnderWay w (plans w)
+begins w = record { script_run = plans_run w; rest = []; begins = sym (append-nil (plans w)); fixed = tt }
 
-pub begins : (w : Workload) (story start : List Entry) → story ≡ start ++ plans_from 0 w.releases → start ≡ []
-    → IsUnderWay w story
-begins w story start h none =
-    let is : story ≡ plans w = h ∙ ap (λ (l : List Entry). l ++ plans_from 0 w.releases) none in
-    record { script_run = subst (IsScriptRun w) (sym is) (plans_run w); rest = []; begins = is ∙ sym (append-nil (plans w)); fixed = tt }
-
-pub follows_first : (stands : ℕ → List Outcome → Type 0) (set : Set) (story start : List Entry)
-    (releases : List (List ℕ)) (tx serial : ℕ) → story ≡ start ++ plans_from 0 releases → start ≡ [] → serial ≡ 0
-    → stands 0 []
-    → IsFollowing stands set story tx serial
-follows_first stands set story start releases tx serial h none first begun =
-    let is : story ≡ plans_from 0 releases = h ∙ ap (λ (l : List Entry). l ++ plans_from 0 releases) none in
-    let out : (k : ℕ) → outcomes_of story (job_of tx k) ≡ [] = λ k. ap (λ (l : List Entry). outcomes_of l (job_of tx k)) is ∙ no_outcomes (plans_from 0 releases) (job_of tx k) (all_plans 0 releases) in
-    subst (IsFollowing stands set story tx) (sym first) (record {
+pub follows_first : (stands : ℕ → List Outcome → Type 0) (set : Set) (releases : List (List ℕ)) (tx serial : ℕ)
+    → serial ≡ 0 → stands 0 []
+    → IsFollowing stands set (plans_from 0 releases) tx serial
+follows_first stands set releases tx serial first begun =
+    let out : (k : ℕ) → outcomes_of (plans_from 0 releases) (job_of tx k) ≡ [] = λ k. no_outcomes (plans_from 0 releases) (job_of tx k) (all_plans 0 releases) in
+    subst (IsFollowing stands set (plans_from 0 releases) tx) (sym first) (record {
       told = subst (stands 0) (sym (out 0)) begun;
       later = λ k lt. out k;
-      reached = behind_zero (state_of set story) tx;
+      reached = behind_zero (state_of set (plans_from 0 releases)) tx;
     })
 
 -- how a run goes on
@@ -252,7 +243,7 @@ idle_entry_for set story (r ∷ rs) event none is h = subst (HasEntry set story)
 job_same : (x y : Row) → Some x ≡ Some y → x.job ≡ y.job
 job_same x y e = let same : x ≡ y = cc in ap (λ (q : Row). q.job) same
 
-entry_for : (w : Workload) (story : List Entry) (o : Option Row) (event : Event) → IsCompiled w.set
+pub entry_for : (w : Workload) (story : List Entry) (o : Option Row) (event : Event) → IsCompiled w.set
     → IsLegal w.set story → ObeysAt w story → running w.set (state_of w.set story).rows ≡ o
     → event_for w story (state_of w.set story) o ≡ Some event → HasEntry w.set story event
 entry_for w story (Some row) event ok legal obeys runs h =
@@ -261,35 +252,6 @@ entry_for w story (Some row) event ok legal obeys runs h =
     ap (λ (j : JobId). may_ask w.set x (op_asked w story j)) (job_same row x (sym runs ∙ is)) ∙ obeys x is) in
     subst (HasEntry w.set story) (some_event (ask row.job op) event h) (record { entry = a.entry; is = a.event; legal = asked_legal w.set (state_of w.set story) row.job op a })
 entry_for w story None event ok legal obeys runs h = idle_entry_for w.set story (state_of w.set story).planned event ((never_stuck w.set story ok legal).runs runs) refl h
-
-pub room_left : (w : Workload) (story : List Entry) (room : ℕ) (event : Event) → IsCompiled w.set → IsLegal w.set story
-    → ObeysAt w story → IsUnderWay w story → room_of_jobs w.set.txns (λ n. length (ticks_of w.releases n)) ≤ room
-    → next_event w story ≡ Some event → length story < room
-room_left w story room event ok legal obeys u le next =
-    let h = entry_for w story (running w.set (state_of w.set story).rows) event ok legal obeys refl next in
-    let after : List Entry = story ++ h.entry ∷ [] in
-    let fits = way_fits w after ok (legal_next w.set story h.entry legal h.legal) (goes_on w story after h.entry u (next ∙ ap Some (sym h.is)) refl) in
-    omega (arith, fits, le, length-append story (h.entry ∷ []))
-
--- the same where the set and the bodies are those of now
-pub room_by : (set set' : Set) (bodies bodies' : List Body) (releases : List (List ℕ)) (story : List Entry)
-    (room room' : ℕ) (event : Event) → set' ≡ set → bodies' ≡ bodies → room' ≡ room → IsCompiled set'
-    → IsLegal set' story
-    → (IsLegal set story → IsScriptRun (workload set bodies releases) story → ObeysAt (workload set bodies releases) story)
-    → IsUnderWay (workload set bodies releases) story
-    → room_of_jobs set.txns (λ n. length (ticks_of releases n)) ≤ room
-    → next_event (workload set' bodies' []) story ≡ Some event → length story < room'
-room_by set set' bodies bodies' releases story room room' event es eb er ok legal obeys u le next =
-    let l : IsLegal set story = subst (λ (q : Set). IsLegal q story) es legal in
-    let n : next_event (workload set bodies releases) story ≡ Some event = ap (λ (q : Set). next_event (workload q bodies releases) story) (sym es) ∙ (ap (λ (b : List Body). next_event (workload set' b releases) story) (sym eb) ∙ next) in
-    omega (arith, room_left (workload set bodies releases) story room event (subst IsCompiled es ok) l (obeys l u.script_run) u le n, er)
-
-pub plans_room : (set : Set) (releases : List (List ℕ)) (bodies : List Body) (start : List Entry) (room : ℕ)
-    → IsCompiled set → IsLegal set (plans_from 0 releases) → start ≡ []
-    → room_of_jobs set.txns (λ n. length (ticks_of releases n)) ≤ room
-    → length start + length (plans_from 0 releases) ≤ room
-plans_room set releases bodies start room ok legal none le =
-    omega (arith, way_fits (workload set bodies releases) (plans_from 0 releases) ok legal (begins (workload set bodies releases) (plans_from 0 releases) [] refl refl), le, ap (λ (l : List Entry). length l) none)
 
 -- how a run ends
 pub ended : (set set' : Set) (bodies bodies' : List Body) (releases : List (List ℕ)) (story after : List Entry)

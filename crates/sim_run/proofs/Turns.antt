@@ -1,5 +1,5 @@
 -- One turn of a run: the step of the running job, or idling.
-use Rattle.std.proofs.Common.{◌≡◌, ◌≢◌, ◌⊎◌, ℕ, zero, suc, ◌+◌, ◌<◌, Bool, cond, List, [], ◌∷◌, ◌++◌, length, map, Option, None, Some, drop, get_or, slice_get, set as with_item, refl, ap, sym, ◌∙◌, subst, inl, inr, arith}
+use Rattle.std.proofs.Common.{◌≡◌, ◌≢◌, ◌⊎◌, ℕ, zero, suc, ◌+◌, ◌<◌, Bool, true, false, cond, List, [], ◌∷◌, ◌++◌, length, map, Option, None, Some, get_or, slice_get, set as with_item, refl, ap, sym, ◌∙◌, subst, inl, inr, arith}
 use Rattle.std.proofs.lemmas.Bool.{cases_eq}
 use Rattle.std.specs.Option.{option_map}
 use Rattle.rt_base.specs.declared.ids.JobId.{JobId}
@@ -9,21 +9,21 @@ use Rattle.rt_base.specs.declared.release.Release.{Release}
 use Rattle.txn_set.specs.Set.{Set, IsCompiled}
 use Rattle.step_journal.specs.declared.entry.Entry.{Entry}
 use Rattle.step_journal.specs.declared.entry.Entry.TheVariants.{Idle}
-use Rattle.step_journal.specs.State.{Row, pending}
+use Rattle.step_journal.specs.State.{Row}
 use Rattle.step_journal.specs.Running.{running}
-use Rattle.step_journal.specs.Step.{Event, ask, idle, may_ask, next_tick}
+use Rattle.step_journal.specs.Step.{ask, idle, may_ask, next_tick}
 use Rattle.step_journal.specs.History.{IsLegalEntry, IsLegal, state_of}
 use Rattle.step_journal.specs.Serial.{outcomes_of}
 use Rattle.board.specs.declared.replies.IdleReply.{IdleReply}
 use Rattle.board.specs.declared.replies.IdleReply.TheVariants as reply
 use Rattle.board.specs.Answers.{idle_reply_at, waiting_reply}
-use Rattle.board.specs.Stories.{IsStory, idle_entry, idle_answer, now_of, running_of}
+use Rattle.board.specs.Stories.{IsStory, noted, idle_entry, idle_answer, now_of, running_of}
 use Rattle.board.proofs.Tests.{lt_false}
 use Rattle.board.proofs.Asks.{idles_are_steps}
 use Rattle.history_laws.proofs.Never.{never_stuck}
 use Rattle.sim_history.specs.Sim.{Body, Workload, next_event, event_for, event_in, op_asked}
 use Rattle.sim_run.specs.Workloads.{workload, body_of, ObeysAt}
-use Rattle.sim_run.specs.Turns.{IsFollowing, AreFollowing, MayAsk, IsNoted, job_of}
+use Rattle.sim_run.specs.Turns.{IsFollowing, AreFollowing, MayAsk, IsNoted, HasAsked, HasTurned, job_of}
 use Rattle.sim_run.proofs.Histories.{legal_parts}
 use Rattle.sim_run.proofs.Asks.{running_row, asked_other, follows_same}
 
@@ -91,12 +91,12 @@ next_body gives set story bodies job d run lt =
 
 -- all bodies follow after the step of one
 pub all_follow : {Y : Type 0} (stands : Y → ℕ → List Outcome → Type 0) (set set' : Set) (room first : ℕ)
-    (story after : List Entry) (bodies : List Y) (serials : List ℕ) (job : JobId) (op : Op) (body' : Y) (serial' : ℕ)
-    → IsCompiled set → IsLegal set story → set' ≡ set → IsStory set' room first after after
+    (kept story after : List Entry) (bodies : List Y) (serials : List ℕ) (job : JobId) (op : Op) (body' : Y)
+    (serial' : ℕ) → IsCompiled set → IsLegal set story → set' ≡ set → IsStory set' room first kept after
     → IsNoted (ask job op) story after → AreFollowing stands set story bodies serials
     → IsFollowing (stands body') set after job.tx.0 serial'
     → AreFollowing stands set after (with_item bodies job.tx.0 body') (with_item serials job.tx.0 serial')
-all_follow {Y = Y} stands set set' room first story after bodies serials job op body' serial' ok legal same is e f new = λ tx body serial b s.
+all_follow {Y = Y} stands set set' room first kept story after bodies serials job op body' serial' ok legal same is e f new = λ tx body serial b s.
     elim (cases_eq tx job.tx.0) [
       | inl here ↦ (let b' : slice_get (with_item bodies job.tx.0 body') job.tx.0 ≡ Some body = subst (λ (n : ℕ). slice_get (with_item bodies job.tx.0 body') n ≡ Some body) here b in
           let s' : slice_get (with_item serials job.tx.0 serial') job.tx.0 ≡ Some serial = subst (λ (n : ℕ). slice_get (with_item serials job.tx.0 serial') n ≡ Some serial) here s in
@@ -112,6 +112,20 @@ all_follow {Y = Y} stands set set' room first story after bodies serials job op 
           (follows_same (stands body) set story e.0 tx serial ok legal parts.1 (λ k. asked_other e.0 job (job_of tx k) op e.1 (λ q. ne (sym (ap (λ (j : JobId). j.tx.0) q)))) old))
     ]
 
+-- the running job's step is a turn
+pub turned_by : {Y : Type 0} (board : List Entry → Type 0) (stands : Y → ℕ → List Outcome → Type 0) (w : Workload)
+    (set' : Set) (room first : ℕ) (kept story : List Entry) (bodies : List Y) (serials : List ℕ) (job : JobId) (op : Op)
+    (body' : Y) (serial' : ℕ) → IsCompiled w.set → IsLegal w.set story → set' ≡ w.set
+    → AreFollowing stands w.set story bodies serials → next_event w story ≡ Some (ask job op)
+    → (h : HasAsked board (stands body') w.set (ask job op) job.tx.0 serial' story) → IsStory set' room first kept h.after
+    → HasTurned board stands w (with_item bodies job.tx.0 body') (with_item serials job.tx.0 serial') story true
+turned_by board stands w set' room first kept story bodies serials job op body' serial' ok legal same f next h is = record {
+  after = h.after;
+  turned = (ask job op, next, h.noted);
+  stands = h.stands;
+  follows = all_follow stands w.set set' room first kept story h.after bodies serials job op body' serial' ok legal same is h.noted f h.follows;
+}
+
 -- idling
 
 none_by : (o : Option Row) → option_map (λ (r : Row). r.job) o ≡ None → o ≡ None
@@ -126,48 +140,70 @@ running_none set story h = none_by (running set (state_of set story).rows) h
 abbrev pub Idled : Workload → List Entry → IdleReply → Type 0
 Idled w story r = ((r ≡ reply.Nothing) × ((state_of w.set story).planned ≡ [])) ⊎ ((t : ℕ) × (r ≡ reply.Advanced t) × (next_event w story ≡ Some idle))
 
-idled_at : (w : Workload) (story : List Entry) (room : ℕ) (r : IdleReply) (planned : List Release)
-    → running w.set (state_of w.set story).rows ≡ None → (state_of w.set story).planned ≡ planned
-    → ((event : Event) → next_event w story ≡ Some event → length story < room)
-    → r ≡ waiting_reply (length story) room (next_tick planned) → Idled w story r
-idled_at w story room r [] run p fits e = inl (e, p)
-idled_at w story room r (q ∷ qs) run p fits e =
+idled_at : (w : Workload) (story : List Entry) (kept room : ℕ) (r : IdleReply) (planned : List Release)
+    → running w.set (state_of w.set story).rows ≡ None → (state_of w.set story).planned ≡ planned → kept < room
+    → r ≡ waiting_reply kept room (next_tick planned) → Idled w story r
+idled_at w story kept room r [] run p lt e = inl (e, p)
+idled_at w story kept room r (q ∷ qs) run p lt e =
     let next : next_event w story ≡ Some idle = ap (event_for w story (state_of w.set story)) run ∙ ap event_in p in
-    let lt : length story < room = fits idle next in
     some_tick (next_tick (q ∷ qs)) refl next (e ∙ refl) lt where
-      some_tick : (o : Option ℕ) → next_tick (q ∷ qs) ≡ o → next_event w story ≡ Some idle
-          → r ≡ waiting_reply (length story) room o → length story < room → Idled w story r
+      some_tick : (o : Option ℕ) → next_tick (q ∷ qs) ≡ o → next_event w story ≡ Some idle → r ≡ waiting_reply kept room o
+          → kept < room → Idled w story r
       some_tick None t next e lt = absurd cc
       some_tick (Some t) u next e lt = inr (t, e ∙ ap (λ (b : Bool). cond b (reply.Full room) (reply.Advanced t)) (lt_false _ _ lt), next)
 
-pub idled : (w : Workload) (story : List Entry) (room : ℕ) (r : IdleReply) → running_of w.set story ≡ None
-    → ((event : Event) → next_event w story ≡ Some event → length story < room)
-    → r ≡ idle_answer w.set story (length story) room → Idled w story r
-idled w story room r run fits e =
+pub idled : (w : Workload) (story : List Entry) (kept room : ℕ) (r : IdleReply) → running_of w.set story ≡ None
+    → kept < room → r ≡ idle_answer w.set story kept room
+    → Idled w story r
+idled w story kept room r run lt e =
     let none = running_none w.set story run in
-    idled_at w story room r (state_of w.set story).planned none refl fits (e ∙ ap (idle_reply_at (state_of w.set story) (length story) room) none)
-
-pub kept_is : (set : Set) (room first : ℕ) (kept story : List Entry) → first ≡ 0 → IsStory set room first kept story
-    → kept ≡ story
-kept_is set room first kept story none is = is.rest ∙ ap (λ (n : ℕ). drop n story) none
+    idled_at w story kept room r (state_of w.set story).planned none refl lt (e ∙ ap (idle_reply_at (state_of w.set story) kept room) none)
 
 -- idling is legal, and all bodies follow after it
-pub idle_follow : {Y : Type 0} (stands : Y → ℕ → List Outcome → Type 0) (set : Set) (room : ℕ)
-    (story after : List Entry) (bodies : List Y) (serials : List ℕ) (r : IdleReply) (to : ℕ)
-    → IsCompiled set → IsLegal set story → length story < room → r ≡ idle_answer set story (length story) room
-    → r ≡ reply.Advanced to → after ≡ story ++ Idle (now_of set story) to ∷ []
-    → AreFollowing stands set story bodies serials → AreFollowing stands set after bodies serials
-idle_follow stands set room story after bodies serials r to ok legal lt e is more f = λ tx body serial b s.
-    let l : IsLegalEntry set (state_of set story) (Idle (now_of set story) to) = sym (idles_are_steps set story (length story) room ok legal lt) ∙ (ap (idle_entry (now_of set story)) (sym e) ∙ ap (idle_entry (now_of set story)) is) in
-    subst (λ (h : List Entry). IsFollowing (stands body) set h tx serial) (sym more)
-    (follows_same (stands body) set story (Idle (now_of set story) to) tx serial ok legal l (λ k. refl) (f tx body serial b s))
-
-pub nothing_pending : (set : Set) (story : List Entry) → IsCompiled set → IsLegal set story
-    → running_of set story ≡ None → pending (state_of set story).rows ≡ []
-nothing_pending set story ok legal run = (never_stuck set story ok legal).runs (running_none set story run)
+idle_follow : {Y : Type 0} (stands : Y → ℕ → List Outcome → Type 0) (set : Set) (kept room : ℕ) (story : List Entry)
+    (bodies : List Y) (serials : List ℕ) (r : IdleReply) (to : ℕ) → IsCompiled set → IsLegal set story → kept < room
+    → r ≡ idle_answer set story kept room → r ≡ reply.Advanced to → AreFollowing stands set story bodies serials
+    → AreFollowing stands set (story ++ Idle (now_of set story) to ∷ []) bodies serials
+idle_follow stands set kept room story bodies serials r to ok legal lt e is f = λ tx body serial b s.
+    let l : IsLegalEntry set (state_of set story) (Idle (now_of set story) to) = sym (idles_are_steps set story kept room ok legal lt) ∙ (ap (idle_entry (now_of set story)) (sym e) ∙ ap (idle_entry (now_of set story)) is) in
+    follows_same (stands body) set story (Idle (now_of set story) to) tx serial ok legal l (λ k. refl) (f tx body serial b s)
 
 pub advanced_some : (t : ℕ) → reply.Advanced t ≡ reply.Nothing → ⊥
 advanced_some t e = cc
+
+pub turned_idle : {Y : Type 0} (board : List Entry → Type 0) (stands : Y → ℕ → List Outcome → Type 0) (w : Workload)
+    (kept room : ℕ) (story : List Entry) (bodies : List Y) (serials : List ℕ) (r : IdleReply) (to : ℕ)
+    → IsCompiled w.set → IsLegal w.set story → kept < room → running_of w.set story ≡ None
+    → r ≡ idle_answer w.set story kept room → r ≡ reply.Advanced to
+    → board (noted story (idle_entry (now_of w.set story) r)) → AreFollowing stands w.set story bodies serials
+    → HasTurned board stands w bodies serials story true
+turned_idle board stands w kept room story bodies serials r to ok legal lt run e is new f =
+    elim (idled w story kept room r run lt e) [
+      | inl n ↦ absurd (advanced_some to (sym is ∙ n.0))
+      | inr a ↦ record {
+        after = story ++ Idle (now_of w.set story) to ∷ [];
+        turned = (idle, a.2, (Idle (now_of w.set story) to, refl, refl));
+        stands = subst (λ (q : IdleReply). board (noted story (idle_entry (now_of w.set story) q))) is new;
+        follows = idle_follow stands w.set kept room story bodies serials r to ok legal lt e is f;
+      }
+    ]
+
+pub turned_none : {Y : Type 0} (board : List Entry → Type 0) (stands : Y → ℕ → List Outcome → Type 0) (w : Workload)
+    (kept room : ℕ) (story : List Entry) (bodies : List Y) (serials : List ℕ) (r : IdleReply)
+    → IsCompiled w.set → IsLegal w.set story → kept < room → running_of w.set story ≡ None
+    → r ≡ idle_answer w.set story kept room → r ≡ reply.Nothing
+    → board (noted story (idle_entry (now_of w.set story) r)) → AreFollowing stands w.set story bodies serials
+    → HasTurned board stands w bodies serials story false
+turned_none board stands w kept room story bodies serials r ok legal lt run e is new f =
+    elim (idled w story kept room r run lt e) [
+      | inl n ↦ record {
+        after = story;
+        turned = (refl, (never_stuck w.set story ok legal).runs (running_none w.set story run), n.1);
+        stands = subst (λ (q : IdleReply). board (noted story (idle_entry (now_of w.set story) q))) is new;
+        follows = f;
+      }
+      | inr a ↦ absurd (advanced_some a.0 (sym a.1 ∙ is))
+    ]
 
 -- one more body has begun
 pub begun_more : {Y : Type 0} (began : Y → Type 0) (bodies : List Y) (serials : List ℕ) (n : ℕ) (body' : Y)

@@ -1,2 +1,5 @@
 pub mod Workloads
 pub mod Turns
+pub mod Handed
+pub mod Runs
+pub mod Steady

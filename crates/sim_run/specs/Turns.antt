@@ -10,7 +10,9 @@ use Rattle.step_journal.specs.Running.{running}
 use Rattle.step_journal.specs.Step.{Event, plans_of, may_ask}
 use Rattle.step_journal.specs.History.{state_of, event_of}
 use Rattle.step_journal.specs.Serial.{outcomes_of}
+use Rattle.board.specs.Stories.{running_of}
 use Rattle.sim_history.specs.Sim.{Body, Workload, IsScriptRun, IsFixed, plans, next_event}
+use Rattle.sim_run.specs.Workloads.{ObeysAt}
 
 -- the jobs of a transaction that are pending, planned or to be planned have this serial or a later one
 pub record IsReached (s : State) (tx serial : ℕ) : Type 0 where
@@ -52,6 +54,37 @@ abbrev pub IsTurned : Workload → List Entry → Bool → List Entry → Type 0
 IsTurned w before true after = (event : Event) × (next_event w before ≡ Some event) × IsNoted event before after
 IsTurned w before false after =
     (after ≡ before) × (pending (state_of w.set before).rows ≡ []) × ((state_of w.set before).planned ≡ [])
+
+-- A board that stands for this history, in which this job runs, and a body that follows it and may ask.
+pub record CanAsk (board : List Entry → Type 0) (body : ℕ → List Outcome → Type 0) (gives : Body) (set : Set)
+    (job : JobId) (serial : ℕ) (story : List Entry) : Type 0 where
+  pub stands : board story
+  pub running : running_of set story ≡ Some job
+  pub may : MayAsk set story gives
+  pub follows : IsFollowing body set story job.tx.0 serial
+
+-- what an asked operation leaves: one more entry, and a body that was told
+pub record HasAsked (board : List Entry → Type 0) (body : ℕ → List Outcome → Type 0) (set : Set) (event : Event)
+    (tx serial : ℕ) (story : List Entry) : Type 0 where
+  pub after : List Entry
+  pub noted : IsNoted event story after
+  pub stands : board after
+  pub follows : IsFollowing body set after tx serial
+
+-- A board that stands for this history, and bodies that follow it and may ask.
+pub record CanTurn {Y : Type 0} (board : List Entry → Type 0) (body : Y → ℕ → List Outcome → Type 0) (w : Workload)
+    (bodies : List Y) (serials : List ℕ) (story : List Entry) : Type 0 where
+  pub stands : board story
+  pub may : ObeysAt w story
+  pub follows : AreFollowing body w.set story bodies serials
+
+-- what a turn leaves
+pub record HasTurned {Y : Type 0} (board : List Entry → Type 0) (body : Y → ℕ → List Outcome → Type 0) (w : Workload)
+    (bodies : List Y) (serials : List ℕ) (story : List Entry) (went : Bool) : Type 0 where
+  pub after : List Entry
+  pub turned : IsTurned w story went after
+  pub stands : board after
+  pub follows : AreFollowing body w.set after bodies serials
 
 -- a script run that begins with all plans, and whose every other entry is that of the event that the state fixes
 pub record IsUnderWay (w : Workload) (story : List Entry) : Type 0 where

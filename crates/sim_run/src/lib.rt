@@ -1,20 +1,86 @@
-//! The run of a workload on one board and one thread.
+//! The run of a workload on one board and one thread, whose entries go to an out as they come.
 #![tactic(auto)]
 
-ghost use Rattle.std.specs.Prelude.{◌≡◌, ◌≢◌, ℕ, ◌+◌, ◌<◌, ◌≤◌, [], ◌++◌, Some, map, length, slice_get};
+ghost use Rattle.std.specs.Prelude.{◌≡◌, ◌≢◌, ℕ, ◌+◌, ◌<◌, ◌≤◌, [], ◌++◌, Some, map, length, slice_get, vec_capacity, IfOk, OnErr};
+ghost use Rattle.std.specs.Prelude.{List as Many};
+ghost use Rattle.io_edge.specs.Causes.{HasCause};
+ghost use Rattle.step_journal.specs.declared.entry.Entry.{Entry as Noted};
 ghost use Rattle.step_journal.specs.declared.entry.Entry.TheVariants.{Planned};
-ghost use Rattle.step_journal.specs.Step.{Event, ask as asking};
+ghost use Rattle.step_journal.specs.Step.{ask as asking};
 ghost use Rattle.step_journal.specs.History.{IsLegal};
 ghost use Rattle.step_journal.specs.Serial.{outcomes_of};
-ghost use Rattle.board.specs.Stories.{running_of};
-ghost use Rattle.counting_laws.specs.Counting.{room_of_jobs};
-ghost use Rattle.sim_history.specs.Sim.{IsSim, next_event, plans_from};
-ghost use Rattle.sim_run.specs.Workloads.{workload, ticks_of, AreAccepted, ObeysAt, IsObedient};
-ghost use Rattle.sim_run.specs.Turns.{IsFollowing, AreFollowing, MayAsk, IsNoted, IsTurned};
+ghost use Rattle.sim_history.specs.Sim.{IsSim, plans_from};
+ghost use Rattle.sim_run.specs.Workloads.{workload, AreAccepted, IsObedient};
+ghost use Rattle.sim_run.specs.Turns.{CanAsk, HasAsked, CanTurn, HasTurned};
+ghost use Rattle.sim_run.specs.Handed.{CanAppend, CanTake, IsHanded, IsCut, IsReady};
+ghost use Rattle.sim_run.specs.Runs.{IsWhole, IsStopped, RunsExist, StoriesGoOn};
 
 use board::{Board, IdleReply, StepReply};
+use entry_out::{EntryOut, Stopped};
 use rt_base::{JobId, List, Tick, TxId};
+use step_journal::Entry;
 use step_script::Body;
+
+/// How many entries are handed on at a time.
+pub const PIECE: usize = 1024;
+
+/// The laws that a workload has a run: each that is accepted and obedient, of a compiled set, has one, and each legal
+/// story that is under way is the beginning of one.
+pub fn runs_exist()
+    ensures runs { RunsExist }
+    ensures goes_on { StoriesGoOn }
+{}
+
+// Hands on all entries that the board keeps.
+fn hand_on<B: Board, O: EntryOut>(
+    board: &mut B,
+    spare: &mut Vec<Entry>,
+    out: &mut O,
+) -> Result<(), Stopped>
+    requires spare { (spare.old.items ≡ []) × (length (B.kept board.old) ≤ vec_capacity spare.old) }
+    requires nothing_lost { O.lost out.old [] }
+    requires good { CanAppend (O.got out.old) (O.good out.old) (B.kept board.old) }
+    ensures passed { IfOk result (λ _. IsHanded (O.got out.old) (O.got out.new) (B.kept board.old) []) }
+    ensures none_lost { IfOk result (λ _. O.lost out.new []) }
+    ensures stopped { OnErr result (IsCut (O.got out.old) (O.got out.new) (O.lost out.new) (B.kept board.old)) }
+    ensures cause { HasCause (O.stops out.old) (O.stops out.new) result }
+    ensures good { (story : Many Noted) → O.good out.old story → O.good out.new story }
+    ensures left { B.kept board.new ≡ [] }
+    ensures stands { (story : Many Noted) → B.stands board.old story → B.stands board.new story }
+    ensures fixed { (B.set board.new ≡ B.set board.old) × (B.room board.new ≡ B.room board.old) }
+    ensures spare { (spare.new.items ≡ []) × (vec_capacity spare.new ≡ vec_capacity spare.old) }
+{
+    let kept = board.entries().len();
+    board.drain(kept, spare);
+    let handed = out.put(spare.as_slice());
+    spare.clear();
+    handed
+}
+
+// Hands on the entries that the board keeps once they are a piece.
+fn hand_piece<B: Board, O: EntryOut>(
+    board: &mut B,
+    spare: &mut Vec<Entry>,
+    out: &mut O,
+) -> Result<(), Stopped>
+    requires spare { (spare.old.items ≡ []) × (length (B.kept board.old) ≤ vec_capacity spare.old) }
+    requires nothing_lost { O.lost out.old [] }
+    requires good { CanAppend (O.got out.old) (O.good out.old) (B.kept board.old) }
+    ensures passed { IfOk result (λ _. IsHanded (O.got out.old) (O.got out.new) (B.kept board.old) (B.kept board.new)) }
+    ensures none_lost { IfOk result (λ _. O.lost out.new []) }
+    ensures stopped { OnErr result (IsCut (O.got out.old) (O.got out.new) (O.lost out.new) (B.kept board.old)) }
+    ensures cause { HasCause (O.stops out.old) (O.stops out.new) result }
+    ensures good { (story : Many Noted) → O.good out.old story → O.good out.new story }
+    ensures few { length (B.kept board.new) < 1024 }
+    ensures stands { (story : Many Noted) → B.stands board.old story → B.stands board.new story }
+    ensures fixed { (B.set board.new ≡ B.set board.old) × (B.room board.new ≡ B.room board.old) }
+    ensures spare { (spare.new.items ≡ []) × (vec_capacity spare.new ≡ vec_capacity spare.old) }
+{
+    if board.entries().len() < PIECE {
+        return Ok(());
+    }
+    hand_on(board, spare, out)
+}
 
 // Lets the body begin the job with this serial, unless it has.
 fn begin_new<Y: Body>(body: &mut Y, serial: &mut u32, next: u32)
@@ -31,16 +97,13 @@ fn begin_new<Y: Body>(body: &mut Y, serial: &mut u32, next: u32)
 
 // Lets the running job ask for its body's operation, and tells the body the outcome.
 fn ask<B: Board, Y: Body>(board: &mut B, body: &mut Y, serial: &mut u32, job: JobId)
-    requires stands { B.stands board.old (B.kept board.old) }
-    requires first { B.first board.old ≡ 0 }
-    requires running { running_of (B.set board.old) (B.kept board.old) ≡ Some job }
-    requires may { MayAsk (B.set board.old) (B.kept board.old) (Y.gives body.old) }
-    requires follows { IsFollowing (Y.stands body.old) (B.set board.old) (B.kept board.old) job.tx.0 serial.old }
+    requires ready { (story : Many Noted) ×
+        CanAsk (B.stands board.old) (Y.stands body.old) (Y.gives body.old) (B.set board.old) job serial.old story }
     requires room { length (B.kept board.old) < B.room board.old }
-    ensures asked { let op = Y.gives body.old job.serial (outcomes_of (B.kept board.old) job) in
-        IsNoted (asking job op) (B.kept board.old) (B.kept board.new) }
-    ensures stands { B.stands board.new (B.kept board.new) }
-    ensures follows { IsFollowing (Y.stands body.new) (B.set board.old) (B.kept board.new) job.tx.0 serial.new }
+    ensures asked { (story : Many Noted) →
+        CanAsk (B.stands board.old) (Y.stands body.old) (Y.gives body.old) (B.set board.old) job serial.old story →
+        let op = Y.gives body.old job.serial (outcomes_of story job) in
+        HasAsked (B.stands board.new) (Y.stands body.new) (B.set board.old) (asking job op) job.tx.0 serial.new story }
     ensures fixed { (B.set board.new ≡ B.set board.old) × (B.room board.new ≡ B.room board.old) ×
         (B.first board.new ≡ B.first board.old) }
     ensures same { Y.gives body.new ≡ Y.gives body.old }
@@ -57,19 +120,14 @@ fn ask<B: Board, Y: Body>(board: &mut B, body: &mut Y, serial: &mut u32, job: Jo
 // The event that the state fixes: the step of the running job, or idling. False where nothing is pending and nothing
 // planned.
 fn turn<B: Board, Y: Body>(board: &mut B, bodies: &mut [Y], serials: &mut [u32]) -> bool
-    requires stands { B.stands board.old (B.kept board.old) }
-    requires first { B.first board.old ≡ 0 }
+    requires ready { let w = workload (B.set board.old) (map Y.gives bodies.old) [] in
+        (story : Many Noted) × CanTurn (B.stands board.old) Y.stands w bodies.old serials.old story }
     requires each { (length bodies.old ≡ length (B.set board.old).txns) ×
         (length serials.old ≡ length (B.set board.old).txns) }
-    requires may { ObeysAt (workload (B.set board.old) (map Y.gives bodies.old) []) (B.kept board.old) }
-    requires follows { AreFollowing Y.stands (B.set board.old) (B.kept board.old) bodies.old serials.old }
-    requires room { let w = workload (B.set board.old) (map Y.gives bodies.old) [] in
-        (event : Event) → next_event w (B.kept board.old) ≡ Some event →
-        length (B.kept board.old) < B.room board.old }
+    requires room { length (B.kept board.old) < B.room board.old }
     ensures turned { let w = workload (B.set board.old) (map Y.gives bodies.old) [] in
-        IsTurned w (B.kept board.old) result (B.kept board.new) }
-    ensures stands { B.stands board.new (B.kept board.new) }
-    ensures follows { AreFollowing Y.stands (B.set board.old) (B.kept board.new) bodies.new serials.new }
+        (story : Many Noted) → CanTurn (B.stands board.old) Y.stands w bodies.old serials.old story →
+        HasTurned (B.stands board.new) Y.stands w bodies.new serials.new story result }
     ensures fixed { (B.set board.new ≡ B.set board.old) × (B.room board.new ≡ B.room board.old) ×
         (B.first board.new ≡ B.first board.old) }
     ensures same { map Y.gives bodies.new ≡ map Y.gives bodies.old }
@@ -88,40 +146,68 @@ fn turn<B: Board, Y: Body>(board: &mut B, bodies: &mut [Y], serials: &mut [u32])
     }
 }
 
-// Plans the releases of one transaction.
-fn plan_each<B: Board>(board: &mut B, tx: TxId, ticks: &[Tick])
-    requires stands { B.stands board.old (B.kept board.old) }
-    requires first { B.first board.old ≡ 0 }
+// Plans the releases of one transaction, and hands on each piece.
+fn plan_each<B: Board, O: EntryOut>(
+    board: &mut B,
+    tx: TxId,
+    ticks: &[Tick],
+    spare: &mut Vec<Entry>,
+    out: &mut O,
+) -> Result<(), Stopped>
+    requires legal { (story : Many Noted) × B.stands board.old story ×
+        IsLegal (B.set board.old) (story ++ map (Planned tx) ticks.now) }
     requires in_set { tx.0 < length (B.set board.old).txns }
-    requires legal { IsLegal (B.set board.old) (B.kept board.old ++ map (Planned tx) ticks.now) }
-    requires room { length (B.kept board.old) + length ticks.now ≤ B.room board.old }
-    ensures planned { B.kept board.new ≡ B.kept board.old ++ map (Planned tx) ticks.now }
-    ensures stands { B.stands board.new (B.kept board.new) }
-    ensures fixed { (B.set board.new ≡ B.set board.old) × (B.room board.new ≡ B.room board.old) ×
-        (B.first board.new ≡ B.first board.old) }
+    requires ready { IsReady (length (B.kept board.old)) (B.room board.old) spare.old.items (vec_capacity spare.old) }
+    requires nothing_lost { O.lost out.old [] }
+    requires good { CanTake (O.got out.old) (O.good out.old) (B.kept board.old ++ map (Planned tx) ticks.now) }
+    ensures passed { IfOk result (λ _. IsHanded (O.got out.old) (O.got out.new) (B.kept board.old ++ map (Planned tx) ticks.now) (B.kept board.new)) }
+    ensures none_lost { IfOk result (λ _. O.lost out.new []) }
+    ensures few { IfOk result (λ _. length (B.kept board.new) < 1024) }
+    ensures stands { IfOk result (λ _. (story : Many Noted) → B.stands board.old story →
+        B.stands board.new (story ++ map (Planned tx) ticks.now)) }
+    ensures stopped { OnErr result (IsCut (O.got out.old) (O.got out.new) (O.lost out.new) (B.kept board.old ++ map (Planned tx) ticks.now)) }
+    ensures cause { HasCause (O.stops out.old) (O.stops out.new) result }
+    ensures good { (story : Many Noted) → O.good out.old story → O.good out.new story }
+    ensures fixed { (B.set board.new ≡ B.set board.old) × (B.room board.new ≡ B.room board.old) }
+    ensures spare { (spare.new.items ≡ []) × (vec_capacity spare.new ≡ vec_capacity spare.old) }
 {
     for tick in ticks {
         let Ok(_) = board.plan(tx, *tick) else {
             unreachable!()
         };
+        hand_piece(board, spare, out)?;
     }
+    Ok(())
 }
 
-// Plans all releases, by transaction and then by index.
-fn plan_all<B: Board>(board: &mut B, releases: &[List<Tick>])
-    requires stands { B.stands board.old (B.kept board.old) }
-    requires first { B.first board.old ≡ 0 }
+// Plans all releases, by transaction and then by index, and hands on each piece.
+fn plan_all<B: Board, O: EntryOut>(
+    board: &mut B,
+    releases: &[List<Tick>],
+    spare: &mut Vec<Entry>,
+    out: &mut O,
+) -> Result<(), Stopped>
+    requires legal { (story : Many Noted) × B.stands board.old story ×
+        IsLegal (B.set board.old) (story ++ plans_from 0 releases.now) }
     requires each { length releases.now ≡ length (B.set board.old).txns }
-    requires legal { IsLegal (B.set board.old) (B.kept board.old ++ plans_from 0 releases.now) }
-    requires room { length (B.kept board.old) + length (plans_from 0 releases.now) ≤ B.room board.old }
-    ensures planned { B.kept board.new ≡ B.kept board.old ++ plans_from 0 releases.now }
-    ensures stands { B.stands board.new (B.kept board.new) }
-    ensures fixed { (B.set board.new ≡ B.set board.old) × (B.room board.new ≡ B.room board.old) ×
-        (B.first board.new ≡ B.first board.old) }
+    requires ready { IsReady (length (B.kept board.old)) (B.room board.old) spare.old.items (vec_capacity spare.old) }
+    requires nothing_lost { O.lost out.old [] }
+    requires good { CanTake (O.got out.old) (O.good out.old) (B.kept board.old ++ plans_from 0 releases.now) }
+    ensures passed { IfOk result (λ _. IsHanded (O.got out.old) (O.got out.new) (B.kept board.old ++ plans_from 0 releases.now) (B.kept board.new)) }
+    ensures none_lost { IfOk result (λ _. O.lost out.new []) }
+    ensures few { IfOk result (λ _. length (B.kept board.new) < 1024) }
+    ensures stands { IfOk result (λ _. (story : Many Noted) → B.stands board.old story →
+        B.stands board.new (story ++ plans_from 0 releases.now)) }
+    ensures stopped { OnErr result (IsCut (O.got out.old) (O.got out.new) (O.lost out.new) (B.kept board.old ++ plans_from 0 releases.now)) }
+    ensures cause { HasCause (O.stops out.old) (O.stops out.new) result }
+    ensures good { (story : Many Noted) → O.good out.old story → O.good out.new story }
+    ensures fixed { (B.set board.new ≡ B.set board.old) × (B.room board.new ≡ B.room board.old) }
+    ensures spare { (spare.new.items ≡ []) × (vec_capacity spare.new ≡ vec_capacity spare.old) }
 {
     for (tx, ticks) in releases.iter().enumerate() {
-        plan_each(board, TxId(tx as u32), ticks.as_slice());
+        plan_each(board, TxId(tx as u32), ticks.as_slice(), spare, out)?;
     }
+    Ok(())
 }
 
 // Lets each body begin with the serial 0.
@@ -140,29 +226,50 @@ fn begin_all<Y: Body>(bodies: &mut [Y], serials: &mut [u32])
 
 /// Runs a workload on a board that has no history yet: plans every release, by transaction and then by index; then lets
 /// the running job ask for its body's operation, and idles where nothing is pending, until nothing is pending and
-/// nothing is planned. The board then keeps the run of the workload, of which there is one. Releases are in ticks.
-/// `bodies`, `serials` and `releases` have a place for each transaction of the board's set. What stands in `serials`
-/// and in the bodies before does not matter, since each body begins anew. It takes no memory, and makes at most two
-/// calls of the board for each entry, and two at the end.
-pub fn run<B: Board, Y: Body>(
+/// nothing is planned. The out gets the entries of the workload's run in their order, a piece of `PIECE` at a time and
+/// what is left at the end, and the board keeps none then. Err comes only where the out stopped in this call. The run
+/// stops at once: what the out got, and after it what it lost, are how the workload's run begins; what the board then
+/// keeps is not said. Releases are in ticks. `bodies`, `serials` and `releases` have a place for each transaction of the
+/// board's set. What stands in `serials` and in the bodies before does not matter, since each body begins anew. `spare`
+/// is empty before and after. It takes no memory. It makes at most three calls of the board for each entry, two more for
+/// each piece, and four at the end. Each entry is moved once from the board to `spare`, and handed on once.
+pub fn run<B: Board, Y: Body, O: EntryOut>(
     board: &mut B,
     bodies: &mut [Y],
     serials: &mut [u32],
     releases: &[List<Tick>],
-)
+    spare: &mut Vec<Entry>,
+    out: &mut O,
+) -> Result<(), Stopped>
     requires opened { B.stands board.old [] }
     requires each { (length bodies.old ≡ length (B.set board.old).txns) ×
         (length serials.old ≡ length (B.set board.old).txns) }
     requires accepted { AreAccepted (B.set board.old) releases.now }
     requires obedient { IsObedient (workload (B.set board.old) (map Y.gives bodies.old) releases.now) }
-    requires room { room_of_jobs (B.set board.old).txns (λ tx. length (ticks_of releases.now tx)) ≤ B.room board.old }
-    ensures run { IsSim (workload (B.set board.old) (map Y.gives bodies.old) releases.now) (B.kept board.new) }
-    ensures stands { B.stands board.new (B.kept board.new) }
-    ensures fixed { (B.set board.new ≡ B.set board.old) × (B.room board.new ≡ B.room board.old) ×
-        (B.first board.new ≡ B.first board.old) }
+    requires room { 1024 < B.room board.old }
+    requires spare { (spare.old.items ≡ []) × (B.room board.old ≤ vec_capacity spare.old) }
+    requires nothing_lost { O.lost out.old [] }
+    requires good { let w = workload (B.set board.old) (map Y.gives bodies.old) releases.now in
+        (history : Many Noted) → IsSim w history → CanTake (O.got out.old) (O.good out.old) history }
+    ensures whole { let w = workload (B.set board.old) (map Y.gives bodies.old) releases.now in
+        IfOk result (λ _. IsWhole w (B.stands board.new) (O.got out.old) (O.got out.new)) }
+    ensures left { IfOk result (λ _. B.kept board.new ≡ []) }
+    ensures none_lost { IfOk result (λ _. O.lost out.new []) }
+    ensures stopped { let w = workload (B.set board.old) (map Y.gives bodies.old) releases.now in
+        OnErr result (IsStopped w (O.got out.old) (O.got out.new) (O.lost out.new)) }
+    ensures cause { HasCause (O.stops out.old) (O.stops out.new) result }
+    ensures good { (story : Many Noted) → O.good out.old story → O.good out.new story }
+    ensures spare { (spare.new.items ≡ []) × (vec_capacity spare.new ≡ vec_capacity spare.old) }
+    ensures fixed { (B.set board.new ≡ B.set board.old) × (B.room board.new ≡ B.room board.old) }
     ensures same { map Y.gives bodies.new ≡ map Y.gives bodies.old }
 {
-    plan_all(board, releases);
+    plan_all(board, releases, spare, out)?;
     begin_all(bodies, serials);
-    while turn(board, bodies, serials) {}
+    while turn(board, bodies, serials) {
+        hand_piece(board, spare, out)?;
+    }
+    hand_on(board, spare, out)
 }
+
+#[cfg(test)]
+mod tests;

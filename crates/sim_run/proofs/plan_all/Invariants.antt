@@ -1,10 +1,20 @@
-use Rattle.std.proofs.Common.{◌≡◌, ◌++◌, drop}
+use Rattle.std.proofs.Common.{◌≡◌, ◌≤◌, [], ◌++◌, List, drop, length, vec_capacity}
+use Rattle.step_journal.specs.declared.entry.Entry.{Entry}
 use Rattle.sim_history.specs.Sim.{plans_from}
+use Rattle.sim_run.specs.Handed.{IsHanded, IsReady}
+use Rattle.sim_run.proofs.Handing.{Goes}
 use Rattle.sim_run.proofs.plan_all.Given as goal
 
 abbrev pub invariant-loop-tx : goal.invariant-loop-tx
-invariant-loop-tx g l = record {
-  planned : g.B.Board.kept l.board ++ plans_from l.tx (drop l.tx l.releases) ≡ g.B.Board.kept l.fn.board ++ plans_from 0 l.releases;
-  stands : g.B.Board.stands l.board (g.B.Board.kept l.board);
-  fixed : (g.B.Board.set l.board ≡ g.B.Board.set l.fn.board) × (g.B.Board.room l.board ≡ g.B.Board.room l.fn.board) × (g.B.Board.first l.board ≡ g.B.Board.first l.fn.board);
-}
+invariant-loop-tx g l =
+    let rest = plans_from l.tx (drop l.tx l.releases) in
+    record {
+      handed : IsHanded (g.O.EntryOut.got l.fn.out) (g.O.EntryOut.got l.out) (g.B.Board.kept l.fn.board ++ plans_from 0 l.releases) (g.B.Board.kept l.board ++ rest);
+      none_lost : g.O.EntryOut.lost l.out [];
+      stands : (story : List Entry) → g.B.Board.stands l.fn.board story → Goes (g.B.Board.stands l.board) rest (story ++ plans_from 0 l.releases);
+      ready : IsReady (length (g.B.Board.kept l.board)) (g.B.Board.room l.board) l.spare.items (vec_capacity l.spare);
+      later : g.O.EntryOut.stops l.fn.out ≤ g.O.EntryOut.stops l.out;
+      good : (story : List Entry) → g.O.EntryOut.good l.fn.out story → g.O.EntryOut.good l.out story;
+      fixed : (g.B.Board.set l.board ≡ g.B.Board.set l.fn.board) × (g.B.Board.room l.board ≡ g.B.Board.room l.fn.board);
+      places : vec_capacity l.spare ≡ vec_capacity l.fn.spare;
+    }

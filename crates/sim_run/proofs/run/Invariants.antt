@@ -1,16 +1,25 @@
-use Rattle.std.proofs.Common.{◌≡◌, ◌-◌, map, length}
-use Rattle.sim_run.specs.Workloads.{workload}
-use Rattle.sim_run.specs.Turns.{AreFollowing, IsUnderWay}
+use Rattle.std.proofs.Common.{◌≡◌, ◌+◌, ◌-◌, ◌≤◌, List, [], map, length, vec_capacity}
+use Rattle.step_journal.specs.declared.entry.Entry.{Entry}
+use Rattle.counting_laws.specs.Counting.{room_of_jobs}
+use Rattle.sim_run.specs.Workloads.{workload, ticks_of}
+use Rattle.sim_run.specs.Handed.{IsReady}
+use Rattle.sim_run.proofs.Whole.{OnWay}
 use Rattle.sim_run.proofs.run.Given as goal
 
-abbrev pub invariant-loop : goal.invariant-loop
-invariant-loop g l = record {
-  under_way : IsUnderWay (workload (g.B.Board.set l.fn.board) (map g.Y.Body.gives l.fn.bodies) l.releases) (g.B.Board.kept l.board);
-  stands : g.B.Board.stands l.board (g.B.Board.kept l.board);
-  follows : AreFollowing g.Y.Body.stands (g.B.Board.set l.fn.board) (g.B.Board.kept l.board) l.bodies l.serials;
-  fixed : (g.B.Board.set l.board ≡ g.B.Board.set l.fn.board) × (g.B.Board.room l.board ≡ g.B.Board.room l.fn.board) × (g.B.Board.first l.board ≡ g.B.Board.first l.fn.board);
-  same : map g.Y.Body.gives l.bodies ≡ map g.Y.Body.gives l.fn.bodies;
-}
+abbrev pub invariant-loop-board : goal.invariant-loop-board
+invariant-loop-board g l =
+    let w = workload (g.B.Board.set l.fn.board) (map g.Y.Body.gives l.fn.bodies) l.releases in
+    record {
+      way : OnWay w (g.B.Board.stands l.board) g.Y.Body.stands (g.O.EntryOut.got l.fn.out) (g.O.EntryOut.got l.out) l.bodies l.serials (g.B.Board.kept l.board);
+      none_lost : g.O.EntryOut.lost l.out [];
+      ready : IsReady (length (g.B.Board.kept l.board)) (g.B.Board.room l.board) l.spare.items (vec_capacity l.spare);
+      later : g.O.EntryOut.stops l.fn.out ≤ g.O.EntryOut.stops l.out;
+      good : (story : List Entry) → g.O.EntryOut.good l.fn.out story → g.O.EntryOut.good l.out story;
+      fixed : (g.B.Board.set l.board ≡ g.B.Board.set l.fn.board) × (g.B.Board.room l.board ≡ g.B.Board.room l.fn.board);
+      places : vec_capacity l.spare ≡ vec_capacity l.fn.spare;
+      same : map g.Y.Body.gives l.bodies ≡ map g.Y.Body.gives l.fn.bodies;
+    }
 
-abbrev pub decreases-loop : goal.decreases-loop
-decreases-loop g l = g.B.Board.room l.board - length (g.B.Board.kept l.board)
+abbrev pub decreases-loop-board : goal.decreases-loop-board
+decreases-loop-board g l =
+    room_of_jobs (g.B.Board.set l.fn.board).txns (λ n. length (ticks_of l.releases n)) - (g.B.Board.first l.board + length (g.B.Board.kept l.board))

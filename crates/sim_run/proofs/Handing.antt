@@ -1,0 +1,179 @@
+-- How entries go on from the board to an out, and what the out can take after them.
+use Rattle.std.proofs.Common.{◌≡◌, ℕ, zero, suc, ◌+◌, ◌-◌, ◌≤◌, min, List, [], ◌∷◌, ◌++◌, length, take, drop, Result, Ok, Err, OnErr, refl, ap, sym, ◌∙◌, subst, arith, append_assoc}
+use Rattle.std.proofs.lemmas.List.{append-nil, drop-append-le}
+use Rattle.std.proofs.Math.Seq.{take-append_seam, take-append-add, take-length}
+use Rattle.io_edge.specs.Causes.{Rose}
+use Rattle.txn_set.specs.Set.{Set}
+use Rattle.step_journal.specs.declared.entry.Entry.{Entry}
+use Rattle.board.specs.Stories.{IsStory}
+use Rattle.sim_run.specs.Handed.{CanAppend, CanTake, IsHanded, IsCut}
+
+pub none_handed : (got : List Entry → Type 0) (entries : List Entry) → IsHanded got got entries entries
+none_handed got entries = record { passed = []; parts = refl; grown = λ story h. subst got (sym (append-nil story)) h }
+
+pub all_handed : (got got' : List Entry → Type 0) (piece entries : List Entry) → piece ≡ entries
+    → ((story : List Entry) → got story → got' (story ++ piece)) → IsHanded got got' entries []
+all_handed got got' piece entries is h = record {
+  passed = entries;
+  parts = sym (append-nil entries);
+  grown = λ story k. subst (λ (l : List Entry). got' (story ++ l)) is (h story k);
+}
+
+-- some of the kept entries after others
+pub handed_on : (got got' got'' : List Entry → Type 0) (entries kept rest kept' : List Entry)
+    → IsHanded got got' entries (kept ++ rest) → IsHanded got' got'' kept kept'
+    → IsHanded got got'' entries (kept' ++ rest)
+handed_on got got' got'' entries kept rest kept' h k = record {
+  passed = h.passed ++ k.passed;
+  parts = h.parts
+      ∙ (ap (λ (l : List Entry). h.passed ++ (l ++ rest)) k.parts
+      ∙ (ap (λ (l : List Entry). h.passed ++ l) (append_assoc k.passed kept' rest)
+      ∙ sym (append_assoc h.passed k.passed (kept' ++ rest))));
+  grown = λ story g. subst got'' (append_assoc story h.passed k.passed) (k.grown (story ++ h.passed) (h.grown story g));
+}
+
+-- what is left, in other parts
+pub left_as : (got got' : List Entry → Type 0) (entries left left' : List Entry) → left ≡ left'
+    → IsHanded got got' entries left → IsHanded got got' entries left'
+left_as got got' entries left left' e h = subst (IsHanded got got' entries) e h
+
+-- one more entry, which the board keeps
+pub handed_more : (got got' : List Entry → Type 0) (entries more kept kept' : List Entry) (e : Entry)
+    → more ≡ entries ++ e ∷ [] → kept' ≡ kept ++ e ∷ [] → IsHanded got got' entries kept → IsHanded got got' more kept'
+handed_more got got' entries more kept kept' e is is' h = record {
+  passed = h.passed;
+  parts = is
+      ∙ (ap (λ (l : List Entry). l ++ e ∷ []) h.parts
+      ∙ (append_assoc h.passed kept (e ∷ []) ∙ ap (λ (l : List Entry). h.passed ++ l) (sym is')));
+  grown = h.grown;
+}
+
+-- all kept entries, or some of them, after others
+pub handed_then : (got got' got'' : List Entry → Type 0) (entries kept kept' : List Entry)
+    → IsHanded got got' entries kept → IsHanded got' got'' kept kept' → IsHanded got got'' entries kept'
+handed_then got got' got'' entries kept kept' h k =
+    subst (IsHanded got got'' entries) (append-nil kept') (handed_on got got' got'' entries kept [] kept' (subst (IsHanded got got' entries) (sym (append-nil kept)) h) k)
+
+pub piece_cut : (got got' lost' : List Entry → Type 0) (piece entries : List Entry) → piece ≡ entries
+    → ((story : List Entry) → got story → got' story) → lost' piece → IsCut got got' lost' entries
+piece_cut got got' lost' piece entries is same lost = record {
+  passed = [];
+  piece = entries;
+  left = [];
+  parts = sym (append-nil entries);
+  grown = λ story g. subst got' (sym (append-nil story)) (same story g);
+  is_lost = subst lost' is lost;
+}
+
+pub cut_on : (got got' got'' lost'' : List Entry → Type 0) (entries kept rest : List Entry)
+    → IsHanded got got' entries (kept ++ rest) → IsCut got' got'' lost'' kept → IsCut got got'' lost'' entries
+cut_on got got' got'' lost'' entries kept rest h k = record {
+  passed = h.passed ++ k.passed;
+  piece = k.piece;
+  left = k.left ++ rest;
+  parts = h.parts
+      ∙ (ap (λ (l : List Entry). h.passed ++ (l ++ rest)) k.parts
+      ∙ (ap (λ (l : List Entry). h.passed ++ l) (append_assoc (k.passed ++ k.piece) k.left rest)
+      ∙ (sym (append_assoc h.passed (k.passed ++ k.piece) (k.left ++ rest))
+      ∙ ap (λ (l : List Entry). l ++ (k.left ++ rest)) (sym (append_assoc h.passed k.passed k.piece)))));
+  grown = λ story g. subst got'' (append_assoc story h.passed k.passed) (k.grown (story ++ h.passed) (h.grown story g));
+  is_lost = k.is_lost;
+}
+
+pub cut_then : (got got' got'' lost'' : List Entry → Type 0) (entries kept : List Entry)
+    → IsHanded got got' entries kept → IsCut got' got'' lost'' kept → IsCut got got'' lost'' entries
+cut_then got got' got'' lost'' entries kept h k = cut_on got got' got'' lost'' entries kept [] (subst (IsHanded got got' entries) (sym (append-nil kept)) h) k
+
+-- more entries were to come
+pub cut_more : (got got' lost' : List Entry → Type 0) (entries rest whole : List Entry) → whole ≡ entries ++ rest
+    → IsCut got got' lost' entries → IsCut got got' lost' whole
+cut_more got got' lost' entries rest whole is k = record {
+  passed = k.passed;
+  piece = k.piece;
+  left = k.left ++ rest;
+  parts = is ∙ (ap (λ (l : List Entry). l ++ rest) k.parts ∙ append_assoc (k.passed ++ k.piece) k.left rest);
+  grown = k.grown;
+  is_lost = k.is_lost;
+}
+
+-- what an out can take
+
+pub take_front : (got good : List Entry → Type 0) (front rest : List Entry) → CanTake got good (front ++ rest)
+    → CanAppend got good front
+take_front got good front rest h = subst (CanAppend got good) (take-append_seam front rest) (h (length front))
+
+pub take_all : (got good : List Entry → Type 0) (entries : List Entry) → CanTake got good entries
+    → CanAppend got good entries
+take_all got good entries h = subst (CanAppend got good) (take-length entries) (h (length entries))
+
+take_within : (n : ℕ) (front rest : List Entry) → (k : ℕ) × (take k (front ++ rest) ≡ take n front)
+take_within zero front rest = (0, refl)
+take_within (suc n) [] rest = (0, refl)
+take_within (suc n) (x ∷ xs) rest = let r = take_within n xs rest in (suc r.0, ap (λ (l : List Entry). x ∷ l) r.1)
+
+pub take_less : (got good : List Entry → Type 0) (front rest whole : List Entry) → whole ≡ front ++ rest
+    → CanTake got good whole → CanTake got good front
+take_less got good front rest whole is h = λ n.
+    let k = take_within n front rest in
+    subst (CanAppend got good) (ap (take k.0) is ∙ k.1) (h k.0)
+
+pub take_rest : (got good got' good' : List Entry → Type 0) (entries left : List Entry)
+    → ((story : List Entry) → good story → good' story) → IsHanded got got' entries left
+    → CanTake got good entries → CanTake got' good' left
+take_rest got good got' good' entries left same k h = λ n.
+    let a = h (length k.passed + n) in
+    let is : a.begun ++ take (length k.passed + n) entries ≡ (a.begun ++ k.passed) ++ take n left =
+    ap (λ (l : List Entry). a.begun ++ take (length k.passed + n) l) k.parts
+    ∙ (ap (λ (l : List Entry). a.begun ++ l) (take-append-add k.passed left n)
+    ∙ sym (append_assoc a.begun k.passed (take n left))) in
+    record { begun = a.begun ++ k.passed; is_got = k.grown a.begun a.is_got; is_good = same _ (subst good is a.is_good) }
+
+-- what the board keeps after one more entry
+
+pub kept_after : (set set' : Set) (room room' first first' : ℕ) (kept kept' story story' : List Entry) (e : Entry)
+    → IsStory set room first kept story → IsStory set' room' first' kept' story' → first' ≡ first
+    → story' ≡ story ++ e ∷ []
+    → kept' ≡ kept ++ e ∷ []
+kept_after set set' room room' first first' kept kept' story story' e is is' same more =
+    is'.rest
+    ∙ (ap (λ (n : ℕ). drop n story') same
+    ∙ (ap (drop first) more
+    ∙ (drop-append-le first story (e ∷ []) (omega (arith, is.counted))
+    ∙ ap (λ (l : List Entry). l ++ e ∷ []) (sym is.rest))))
+
+pub kept_same : (set set' : Set) (room room' first first' : ℕ) (kept kept' story : List Entry)
+    → IsStory set room first kept story → IsStory set' room' first' kept' story → first' ≡ first → kept' ≡ kept
+kept_same set set' room room' first first' kept kept' story is is' same =
+    is'.rest ∙ (ap (λ (n : ℕ). drop n story) same ∙ sym is.rest)
+
+-- causes
+
+pub rose_later : (before mid now : ℕ) → before ≤ mid → Rose mid now → Rose before now
+rose_later before mid now le rose = omega (arith, le, rose)
+
+-- a drain into spare places that suffice moves all that is kept
+pub drained_all : (kept entries into new : List Entry) (n len places : ℕ) → entries ≡ kept
+    → n ≡ min (length entries) (min (length kept) (places - len)) → len ≡ length into → into ≡ []
+    → length kept ≤ places → new ≡ into ++ take n kept
+    → new ≡ kept
+drained_all kept entries into new n len places is count l none le moved =
+    let zero_len : length into ≡ 0 = ap (λ (xs : List Entry). length xs) none in
+    let all : n ≡ length kept = omega (arith, count, ap (λ (xs : List Entry). length xs) is, l, zero_len, le) in
+    moved ∙ (ap (λ (xs : List Entry). xs ++ take n kept) none ∙ (ap (λ (k : ℕ). take k kept) all ∙ take-length kept))
+
+-- what is known where an out refused a piece
+pub refused : {T E : Type 0} (r : Result T E) (got got' lost' : List Entry → Type 0) (piece entries : List Entry)
+    → piece ≡ entries → OnErr r ((story : List Entry) → got story → got' story) → OnErr r (lost' piece)
+    → OnErr r (IsCut got got' lost' entries)
+refused (Ok u) got got' lost' piece entries is same lost = tt
+refused (Err e) got got' lost' piece entries is same lost = piece_cut got got' lost' piece entries is same lost
+
+-- A board that stands for a history, after which these entries come and make this whole.
+pub record Goes (stands : List Entry → Type 0) (rest whole : List Entry) : Type 0 where
+  pub story : List Entry
+  pub stood : stands story
+  pub parts : story ++ rest ≡ whole
+
+pub on_err : {T E : Type 0} (r : Result T E) (P : Type 0) → P → OnErr r P
+on_err (Ok u) P h = tt
+on_err (Err e) P h = h
