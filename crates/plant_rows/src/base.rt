@@ -105,7 +105,8 @@ fn base_set(alloc: Global) -> Result<CompiledSet, OutOfMemory>
     Ok(CompiledSet::of(items, txns, together, ceilings))
 }
 
-fn core(alloc: Global, room: usize) -> Result<PlainCore, OutOfMemory>
+/// A board with an empty history.
+pub fn core(alloc: Global, room: usize) -> Result<PlainCore, OutOfMemory>
     requires { room ≤ 2 ^ 20 }
     ensures set { IfOk result (λ c. (c.set ≡ base) × (c.journal.first ≡ 0)) }
     ensures stands { IfOk result (λ c. Stands c []) }

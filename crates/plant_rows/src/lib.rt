@@ -1,7 +1,10 @@
-//! The plant over a board of plain lists, by example: one thread with all seats, and two threads that plan.
+//! The plant over a board of plain lists, by example: one thread with all seats, two threads that plan, and each seat on a
+//! thread of its own.
 #![tactic(auto)]
 
 #[cfg(test)]
 mod base;
 #[cfg(test)]
 mod tests;
+#[cfg(test)]
+mod turns;

@@ -14,16 +14,21 @@ use std::thread;
 use std::thread::{Threads, join};
 use step_journal::Entry;
 
-const SAMPLE: TxId = TxId(0);
+pub const SAMPLE: TxId = TxId(0);
 
-const CONTROL: TxId = TxId(1);
+pub const CONTROL: TxId = TxId(1);
 
-const LOGGER: TxId = TxId(2);
+pub const LOGGER: TxId = TxId(2);
 
-const TEMP: ItemId = ItemId(0);
+pub const TEMP: ItemId = ItemId(0);
 
 // Whether the plan was granted.
-fn is_planned(plant: &Plant<PlainCore>, seat: &mut Seat<PlainCore>, tx: TxId, tick: Tick) -> bool
+pub fn is_planned(
+    plant: &Plant<PlainCore>,
+    seat: &mut Seat<PlainCore>,
+    tx: TxId,
+    tick: Tick,
+) -> bool
     requires { IsOf plant.now seat.old × (plant.now.set ≡ base) × (tx.0 < 3) }
     ensures { (seat.new.plant ≡ seat.old.plant) × (seat.new.tx ≡ seat.old.tx) }
 {
@@ -31,6 +36,22 @@ fn is_planned(plant: &Plant<PlainCore>, seat: &mut Seat<PlainCore>, tx: TxId, ti
         Tried::Said(Ok(_)) => true,
         _ => false,
     }
+}
+
+// Which of these plans were granted: the sampler's at 0, 10, 20 and 30, the controller's at 0 and 20, the logger's at 0.
+pub fn base_run_planned(plant: &Plant<PlainCore>, seat: &mut Seat<PlainCore>) -> [bool; 7]
+    requires { IsOf plant.now seat.old × (plant.now.set ≡ base) }
+    ensures { (seat.new.plant ≡ seat.old.plant) × (seat.new.tx ≡ seat.old.tx) }
+{
+    [
+        is_planned(plant, seat, SAMPLE, 0),
+        is_planned(plant, seat, SAMPLE, 10),
+        is_planned(plant, seat, SAMPLE, 20),
+        is_planned(plant, seat, SAMPLE, 30),
+        is_planned(plant, seat, CONTROL, 0),
+        is_planned(plant, seat, CONTROL, 20),
+        is_planned(plant, seat, LOGGER, 0),
+    ]
 }
 
 // The stored value and stamp of the sensor.
@@ -44,14 +65,30 @@ fn peeked(plant: &Plant<PlainCore>, seat: &mut Seat<PlainCore>) -> Option<(Value
     }
 }
 
+// What a step is answered; None where the turn was taken.
+pub fn replied(
+    plant: &Plant<PlainCore>,
+    seat: &mut Seat<PlainCore>,
+    serial: u32,
+    op: Op,
+) -> Option<StepReply>
+    requires { IsOf plant.now seat.old × ((tx : Transaction) × (seat.old.tx ≡ Some tx)) }
+    ensures { (seat.new.plant ≡ seat.old.plant) × (seat.new.tx ≡ seat.old.tx) }
+{
+    match plant.try_step(seat, serial, op) {
+        Tried::Said(reply) => Some(reply),
+        Tried::Busy => None,
+    }
+}
+
 // The outcome of a step that was granted.
 fn stepped(plant: &Plant<PlainCore>, seat: &mut Seat<PlainCore>, op: Op) -> Option<Outcome>
     requires { IsOf plant.now seat.old × ((tx : Transaction) × (seat.old.tx ≡ Some tx)) }
     ensures { (seat.new.plant ≡ seat.old.plant) × (seat.new.tx ≡ seat.old.tx) }
 {
-    match plant.try_step(seat, 0, op) {
-        Tried::Said(reply) => outcome_of(reply),
-        Tried::Busy => None,
+    match replied(plant, seat, 0, op) {
+        Some(reply) => outcome_of(reply),
+        None => None,
     }
 }
 
@@ -63,7 +100,7 @@ fn outcome_of(reply: StepReply) -> Option<Outcome> {
 }
 
 // How many entries were drained.
-fn drained(
+pub fn drained(
     plant: &Plant<PlainCore>,
     seat: &mut Seat<PlainCore>,
     most: usize,
@@ -79,7 +116,7 @@ fn drained(
 }
 
 // The last seat of a list.
-fn taken(plant: &Plant<PlainCore>, seats: &mut Vec<Seat<PlainCore>>) -> Seat<PlainCore>
+pub fn taken(plant: &Plant<PlainCore>, seats: &mut Vec<Seat<PlainCore>>) -> Seat<PlainCore>
     requires { AreOf plant.now seats.old.items × (0 < vec_len seats.old) }
     ensures items { seats.old.items ≡ seats.new.items ++ result ∷ [] }
     ensures of { IsOf plant.now result × AreOf plant.now seats.new.items }
@@ -89,7 +126,7 @@ fn taken(plant: &Plant<PlainCore>, seats: &mut Vec<Seat<PlainCore>>) -> Seat<Pla
 }
 
 // Puts a seat at the end of a list.
-fn put(
+pub fn put(
     plant: &Plant<PlainCore>,
     seats: &mut Vec<Seat<PlainCore>>,
     seat: Seat<PlainCore>,
@@ -115,7 +152,7 @@ fn refused_by(
     }
 }
 
-fn board_of(plant: Plant<PlainCore>, seats: Vec<Seat<PlainCore>>) -> Option<PlainCore>
+pub fn board_of(plant: Plant<PlainCore>, seats: Vec<Seat<PlainCore>>) -> Option<PlainCore>
     requires { AreOf plant seats.items × (vec_len seats ≤ plant.seats) }
 {
     match plant.close(seats) {
@@ -146,16 +183,7 @@ fn one_thread_with_all_seats(rt: HostRuntime) -> Result<(), OutOfMemory> {
     let logger = taken(&plant, &mut seats);
     let mut control = taken(&plant, &mut seats);
     let mut sample = taken(&plant, &mut seats);
-    let granted = [
-        is_planned(&plant, &mut operator, SAMPLE, 0),
-        is_planned(&plant, &mut operator, SAMPLE, 10),
-        is_planned(&plant, &mut operator, SAMPLE, 20),
-        is_planned(&plant, &mut operator, SAMPLE, 30),
-        is_planned(&plant, &mut operator, CONTROL, 0),
-        is_planned(&plant, &mut operator, CONTROL, 20),
-        is_planned(&plant, &mut operator, LOGGER, 0),
-    ];
-    assert_eq!(rt; granted, [true; 7]);
+    assert_eq!(rt; base_run_planned(&plant, &mut operator), [true; 7]);
     assert!(rt; peeked(&plant, &mut control) == Some((0, 0)));
     assert_eq!(rt; control.front(), 7);
     assert!(rt; stepped(&plant, &mut sample, Op::Write(TEMP, 5)) == Some(Outcome::Put));
