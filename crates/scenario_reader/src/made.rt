@@ -139,7 +139,7 @@ fn groups(alloc: Global, items: usize, sets: &[ReadSet]) -> Result<Vec<TogetherD
 }
 
 /// The scenario that forms declare, with no room yet. It is linear in them but for the sorts of reads, writes and
-/// relative sets, and takes for each transaction a place for each item.
+/// relative sets, and takes for each transaction a place for each item that its script reads.
 pub(crate) fn made(alloc: Global, forms: Forms) -> Result<Scenario, OutOfMemory>
     requires { All (HasGoodScript (length forms.items.decls.items)) (map txn_view forms.txns.txns.items) }
     ensures made { IfOk result (λ s. shown s ≡ made_of (forms_view forms)) }

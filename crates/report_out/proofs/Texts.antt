@@ -1,0 +1,202 @@
+-- The lines of entries, as far as they were handed on.
+use Rattle.std.proofs.Common.{◌≡◌, ℕ, zero, suc, ◌+◌, ◌<◌, ◌≤◌, List, [], ◌∷◌, ◌++◌, take, drop, length, get_or, Option, None, Some, Result, Ok, Err, OnOk, OnErr, refl, sym, ap, subst, ◌∙◌, arith, length-append, append_assoc, append-nil, drop-cons, add-one}
+use Rattle.std.proofs.lemmas.List.{take-append-drop}
+use Rattle.std.proofs.Math.Seq.{take-append-add, take-length, take-append_seam}
+use Rattle.std.specs.List.{filter}
+use Rattle.std.specs.Io.KnownBytes.{Appends}
+use Rattle.std.proofs.lemmas.List.Elements.{filter-append}
+use Rattle.rt_base.specs.declared.name.Names.{Names}
+use Rattle.txn_set.specs.Set.{Set}
+use Rattle.step_journal.specs.declared.entry.Entry.{Entry}
+use Rattle.step_journal.specs.State.{State}
+use Rattle.step_journal.specs.History.{IsLegal, IsLegalFrom, state_after}
+use Rattle.job_rows.specs.Upkeep.{RowsSeen, Follows, GoesOn, is_plan, planned_jobs}
+use Rattle.report_lines.specs.Rows.{numbered}
+use Rattle.report_lines.specs.Texts.{entries_text, whole_entry_line}
+use Rattle.run_report.specs.Report.{Writes}
+use Rattle.report_out.specs.Outs.{Continues}
+use Rattle.io_edge.proofs.Known.{appends_then}
+
+-- ---- fronts of histories
+
+legal_from : (set : Set) (s : State) (xs ys : List Entry) → IsLegalFrom set s (xs ++ ys) → IsLegalFrom set s xs
+legal_from set s [] ys h = tt
+legal_from set s (e ∷ xs) ys h = (h.0, legal_from set (state_after set s e) xs ys h.1)
+
+pub legal_front : (set : Set) (xs ys : List Entry) → IsLegal set (xs ++ ys) → IsLegal set xs
+legal_front set xs ys h = legal_from set _ xs ys h
+
+planned_append : (xs ys : List Entry) → planned_jobs (xs ++ ys) ≡ planned_jobs xs + planned_jobs ys
+planned_append xs ys = ap (λ (l : List Entry). length l) (filter-append is_plan xs ys) ∙ length-append (filter is_plan xs) (filter is_plan ys)
+
+pub planned_front : (xs ys : List Entry) → planned_jobs xs ≤ planned_jobs (xs ++ ys)
+planned_front xs ys = omega (arith, planned_append xs ys)
+
+-- the entries up to and with the one at a place, and the rest
+pub parts_at : (story entries : List Entry) (i : ℕ) (e d : Entry) → i < length entries → e ≡ get_or entries i d
+    → story ++ entries ≡ ((story ++ take i entries) ++ e ∷ []) ++ drop (i + 1) entries
+parts_at story entries i e d lt is =
+    let rest : drop i entries ≡ e ∷ drop (i + 1) entries =
+    drop-cons entries i d lt ∙ (ap (λ (x : Entry). x ∷ drop (suc i) entries) (sym is) ∙ ap (λ (n : ℕ). e ∷ drop n entries) (sym (add-one i))) in
+    ap (λ (l : List Entry). story ++ l) (sym (take-append-drop i entries))
+    ∙ (ap (λ (l : List Entry). story ++ (take i entries ++ l)) rest
+    ∙ (sym (append_assoc story (take i entries) (e ∷ drop (i + 1) entries))
+    ∙ sym (append_assoc (story ++ take i entries) (e ∷ []) (drop (i + 1) entries))))
+
+-- the entry at a place is the next one
+pub next_writes : (names : Names) (rows now : RowsSeen) (entries : List Entry) (i : ℕ) (e d : Entry) → (c : Continues names rows entries)
+    → i < length entries → e ≡ get_or entries i d → now.room ≡ rows.room
+    → ((set : Set) (story : List Entry) → Follows set rows story → IsLegal set (story ++ entries) → Follows set now (story ++ take i entries))
+    → Writes names now e
+next_writes names rows now entries i e d c lt is room follows =
+    let parts = parts_at c.story entries i e d lt is in
+    let legal : IsLegal c.set (((c.story ++ take i entries) ++ e ∷ []) ++ drop (i + 1) entries) = subst (IsLegal c.set) parts c.legal in
+    let few : planned_jobs ((c.story ++ take i entries) ++ e ∷ []) ≤ planned_jobs (c.story ++ entries) =
+    subst (λ (l : List Entry). planned_jobs ((c.story ++ take i entries) ++ e ∷ []) ≤ planned_jobs l) (sym parts) (planned_front ((c.story ++ take i entries) ++ e ∷ []) (drop (i + 1) entries)) in
+    record {
+      goes = record {
+        set = c.set;
+        story = c.story ++ take i entries;
+        follows = follows c.set c.story c.follows c.legal;
+        legal = legal_front c.set ((c.story ++ take i entries) ++ e ∷ []) (drop (i + 1) entries) legal;
+        fits = omega (arith, few, c.few, room);
+      };
+      one_each = c.one_each;
+    }
+
+pub take_next : (entries : List Entry) (i : ℕ) (e d : Entry) → i < length entries → e ≡ get_or entries i d
+    → take i entries ++ e ∷ [] ≡ take (suc i) entries
+take_next [] i e d lt is = absurd (omega (arith, lt))
+take_next (x ∷ xs) zero e d lt is = ap (λ (y : Entry). y ∷ []) is
+take_next (x ∷ xs) (suc i) e d lt is = ap (λ (l : List Entry). x ∷ l) (take_next xs i e d (omega (arith, lt)) is)
+
+pub follows_next : (set : Set) (rows now now' : RowsSeen) (entries story : List Entry) (i : ℕ) (e d : Entry) → i < length entries → e ≡ get_or entries i d
+    → (Follows set rows story → IsLegal set (story ++ entries) → Follows set now (story ++ take i entries))
+    → ((before : List Entry) → Follows set now before → IsLegal set (before ++ e ∷ []) → Follows set now' (before ++ e ∷ []))
+    → Follows set rows story → IsLegal set (story ++ entries) → Follows set now' (story ++ take (i + 1) entries)
+follows_next set rows now now' entries story i e d lt is so_far next h legal =
+    let parts = parts_at story entries i e d lt is in
+    let here : IsLegal set ((story ++ take i entries) ++ e ∷ []) = legal_front set ((story ++ take i entries) ++ e ∷ []) (drop (i + 1) entries) (subst (IsLegal set) parts legal) in
+    subst (Follows set now') (append_assoc story (take i entries) (e ∷ []) ∙ ap (λ (l : List Entry). story ++ l) (take_next entries i e d lt is ∙ ap (λ (n : ℕ). take n entries) (sym (add-one i))))
+    (next (story ++ take i entries) (so_far h legal) here)
+
+-- ---- their lines
+
+-- a line does not use its place
+any_place : (names : Names) (i j : ℕ) (entries : List Entry) → numbered (whole_entry_line names) i entries ≡ numbered (whole_entry_line names) j entries
+any_place names i j [] = refl
+any_place names i j (e ∷ es) = ap (λ (t : List ℕ). whole_entry_line names 0 e ++ t) (any_place names (i + 1) (j + 1) es)
+
+pub text_cons : (names : Names) (entries : List Entry) (i : ℕ) (e d : Entry) → i < length entries → e ≡ get_or entries i d
+    → entries_text names (drop i entries) ≡ whole_entry_line names 0 e ++ entries_text names (drop (i + 1) entries)
+text_cons names entries i e d lt is =
+    ap (entries_text names) (drop-cons entries i d lt ∙ (ap (λ (x : Entry). x ∷ drop (suc i) entries) (sym is) ∙ ap (λ (n : ℕ). e ∷ drop n entries) (sym (add-one i))))
+    ∙ ap (λ (t : List ℕ). whole_entry_line names 0 e ++ t) (any_place names 1 0 (drop (i + 1) entries))
+
+pub text_append : (names : Names) (xs ys : List Entry) → entries_text names (xs ++ ys) ≡ entries_text names xs ++ entries_text names ys
+text_append names [] ys = refl
+text_append names (x ∷ xs) ys =
+    ap (λ (t : List ℕ). whole_entry_line names 0 x ++ t) (any_place names 1 0 (xs ++ ys) ∙ text_append names xs ys)
+    ∙ (sym (append_assoc (whole_entry_line names 0 x) (entries_text names xs) (entries_text names ys))
+    ∙ ap (λ (t : List ℕ). (whole_entry_line names 0 x ++ t) ++ entries_text names ys) (any_place names 0 1 xs))
+
+-- what was handed on, with the lines that wait and those of the entries to come, is the whole
+pub record IsOnTheWay (taken now : Option (List ℕ)) (waiting coming whole : List ℕ) : Type 0 where
+  pub sent : List ℕ
+  pub has : Appends taken now sent
+  pub parts : sent ++ (waiting ++ coming) ≡ whole
+
+pub starts : (taken : Option (List ℕ)) (waiting whole : List ℕ) → waiting ≡ [] → Appends taken taken [] → IsOnTheWay taken taken waiting whole whole
+starts taken waiting whole none same = record { sent = []; has = same; parts = ap (λ (t : List ℕ). t ++ whole) none }
+
+pub goes_on : (taken now then : Option (List ℕ)) (waiting waiting' line coming coming' whole : List ℕ) → IsOnTheWay taken now waiting coming whole
+    → coming ≡ line ++ coming' → (sent : List ℕ) → Appends now then sent → sent ++ waiting' ≡ waiting ++ line
+    → IsOnTheWay taken then waiting' coming' whole
+goes_on taken now then waiting waiting' line coming coming' whole w next sent has parts = record {
+  sent = w.sent ++ sent;
+  has = appends_then taken now then w.sent sent w.has has;
+  parts =
+      append_assoc w.sent sent (waiting' ++ coming')
+      ∙ (ap (λ (t : List ℕ). w.sent ++ t) (sym (append_assoc sent waiting' coming')
+      ∙ (ap (λ (t : List ℕ). t ++ coming') parts
+      ∙ (append_assoc waiting line coming' ∙ ap (λ (t : List ℕ). waiting ++ t) (sym next))))
+      ∙ w.parts);
+}
+
+-- a front of what waits ends a front of the whole
+pub cut_short : (taken now then : Option (List ℕ)) (waiting coming whole : List ℕ) (n : ℕ) → IsOnTheWay taken now waiting coming whole
+    → Appends now then (take n waiting) → (m : ℕ) × Appends taken then (take m whole)
+cut_short taken now then waiting coming whole n w has =
+    let front = w.sent ++ take n waiting in
+    let parts : front ++ (drop n waiting ++ coming) ≡ whole =
+    append_assoc w.sent (take n waiting) (drop n waiting ++ coming)
+    ∙ (ap (λ (t : List ℕ). w.sent ++ t) (sym (append_assoc (take n waiting) (drop n waiting) coming) ∙ ap (λ (t : List ℕ). t ++ coming) (take-append-drop n waiting))
+    ∙ w.parts) in (
+      length front,
+      subst (λ (t : List ℕ). Appends taken then t) (sym (ap (take (length front)) (sym parts) ∙ take-append_seam front (drop n waiting ++ coming)))
+          (appends_then taken now then w.sent (take n waiting) w.has has),
+    )
+
+pub all_sent : (taken now then : Option (List ℕ)) (waiting coming whole : List ℕ) → IsOnTheWay taken now waiting coming whole → coming ≡ []
+    → Appends now then waiting → Appends taken then whole
+all_sent taken now then waiting coming whole w none has =
+    subst (λ (t : List ℕ). Appends taken then t)
+    (ap (λ (t : List ℕ). w.sent ++ t) (sym (append-nil waiting) ∙ ap (λ (t : List ℕ). waiting ++ t) (sym none)) ∙ w.parts)
+    (appends_then taken now then w.sent waiting w.has has)
+
+pub appends_none : (a : Option (List ℕ)) → Appends a a []
+appends_none None = tt
+appends_none (Some xs) = sym (append-nil xs)
+
+-- the loop over the entries, as far as it came
+pub record HasCome (names : Names) (rows now : RowsSeen) (entries : List Entry) (i : ℕ) (taken taken' : Option (List ℕ)) (lines : List ℕ)
+    : Type 0 where
+  pub way : IsOnTheWay taken taken' lines (entries_text names (drop i entries)) (entries_text names entries)
+  pub follows : (set : Set) (story : List Entry) → Follows set rows story → IsLegal set (story ++ entries) → Follows set now (story ++ take i entries)
+  pub places : now.room ≡ rows.room
+
+pub has_begun : (names : Names) (rows : RowsSeen) (entries : List Entry) (taken : Option (List ℕ)) (lines : List ℕ) → lines ≡ []
+    → HasCome names rows rows entries 0 taken taken lines
+has_begun names rows entries taken lines none = record {
+  way = starts taken lines (entries_text names entries) none (appends_none taken);
+  follows = λ set story h legal. subst (Follows set rows) (sym (append-nil story)) h;
+  places = refl;
+}
+
+pub has_come : (names : Names) (rows now now' : RowsSeen) (entries : List Entry) (i : ℕ) (e d : Entry) (taken now_taken then : Option (List ℕ)) (lines lines' : List ℕ)
+    → HasCome names rows now entries i taken now_taken lines → i < length entries → e ≡ get_or entries i d
+    → (sent : List ℕ) → Appends now_taken then sent → sent ++ lines' ≡ lines ++ whole_entry_line names 0 e
+    → ((set : Set) (before : List Entry) → Follows set now before → IsLegal set (before ++ e ∷ []) → Follows set now' (before ++ e ∷ []))
+    → now'.room ≡ now.room
+    → HasCome names rows now' entries (i + 1) taken then lines'
+has_come names rows now now' entries i e d taken now_taken then lines lines' h lt is sent has parts next places = record {
+  way = goes_on taken now_taken then lines lines' (whole_entry_line names 0 e) (entries_text names (drop i entries)) (entries_text names (drop (i + 1) entries))
+      (entries_text names entries) h.way (text_cons names entries i e d lt is) sent has parts;
+  follows = λ set story f legal. follows_next set rows now now' entries story i e d lt is (h.follows set story) (next set) f legal;
+  places = places ∙ h.places;
+}
+
+-- ---- by the answer
+
+pub on_ok : {A E P Q : Type 0} (r : Result A E) → (P → Q) → OnOk r P → OnOk r Q
+on_ok (Ok x) f h = f h
+on_ok (Err e) f h = tt
+
+pub on_err : {A E P Q : Type 0} (r : Result A E) → (P → Q) → OnErr r P → OnErr r Q
+on_err (Ok x) f h = tt
+on_err (Err e) f h = f h
+
+pub always_err : {A E P : Type 0} (r : Result A E) → P → OnErr r P
+always_err (Ok x) h = tt
+always_err (Err e) h = h
+
+pub always_ok : {A E P : Type 0} (r : Result A E) → P → OnOk r P
+always_ok (Ok x) h = h
+always_ok (Err e) h = tt
+
+-- ---- fronts of texts
+
+pub front_of : (xs ys : List ℕ) (n : ℕ) → xs ++ take n ys ≡ take (length (xs ++ take n ys)) (xs ++ ys)
+front_of xs ys n =
+    sym (take-append_seam (xs ++ take n ys) (drop n ys))
+    ∙ ap (take (length (xs ++ take n ys))) (append_assoc xs (take n ys) (drop n ys) ∙ ap (λ (t : List ℕ). xs ++ t) (take-append-drop n ys))

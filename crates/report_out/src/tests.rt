@@ -1,0 +1,1 @@
+//! Lines reach the sink in order.
