@@ -17,7 +17,7 @@ use Rattle.counting_laws.specs.Counting.{room_of_jobs}
 use Rattle.sim_history.specs.Sim.{Body, Workload, IsSim}
 use Rattle.sim_run.specs.Workloads.{AreSpaced, AreAccepted, body_of, ticks_of}
 use Rattle.sim_run.specs.Steady.{steady_txns, steady_set, steady_op}
-use Rattle.sim_run.proofs.Planning.{drop_here, drop_none}
+use Rattle.sim_run.proofs.Planning.{drop_here}
 use Rattle.sim_run.proofs.Runs.{way_fits}
 
 -- the set
@@ -128,6 +128,3 @@ good_by w set history n room is ok sim le =
 pub short_two : (first second : List ℕ) → length first ≤ 2000 → length second ≤ 2000
     → room_of_jobs steady_set.txns (λ k. length (ticks_of (first ∷ second ∷ []) k)) ≤ 20000
 short_two first second a b = omega (arith, a, b)
-
-pub spaced_end : (period from n : ℕ) (ticks : List ℕ) → length ticks ≤ n → AreSpaced period from (drop n ticks)
-spaced_end period from n ticks le = subst (AreSpaced period from) (sym (drop_none ticks n le)) tt
