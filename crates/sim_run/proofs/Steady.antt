@@ -8,16 +8,16 @@ use Rattle.item_model.specs.Kinds.{is_dated, is_derived}
 use Rattle.item_model.specs.declared.decl.ItemDecl.{ItemDecl}
 use Rattle.txn_set.specs.declared.decl.TxnDecl.{TxnDecl}
 use Rattle.txn_set.specs.declared.decl.Ceilings.{Ceilings}
-use Rattle.txn_set.specs.Set.{Set, HasGoodTimes, AreItemsOf, IsCompiled, txn_of}
+use Rattle.txn_set.specs.Set.{Set, HasGoodTimes, AreItemsOf, IsCompiled}
 use Rattle.txn_set.specs.Ceilings.{IsCeilingsOf}
 use Rattle.step_journal.specs.declared.entry.Entry.{Entry}
 use Rattle.step_journal.specs.State.{Row}
 use Rattle.step_journal.specs.Step.{may_ask}
 use Rattle.counting_laws.specs.Counting.{room_of_jobs}
 use Rattle.sim_history.specs.Sim.{Body, Workload, IsSim}
-use Rattle.sim_run.specs.Workloads.{AreSpaced, AreAccepted, body_of, ticks_of}
+use Rattle.sim_run.specs.Workloads.{AreSpaced, body_of, ticks_of}
 use Rattle.sim_run.specs.Steady.{steady_txns, steady_set, steady_op}
-use Rattle.sim_run.proofs.Planning.{drop_here, drop_none}
+use Rattle.sim_run.proofs.Planning.{drop_here}
 use Rattle.sim_run.proofs.Runs.{way_fits}
 
 -- the set
@@ -103,15 +103,6 @@ pub spaced_more : (period from n next d : ℕ) (ticks : List ℕ) → n < length
 spaced_more period from n next d ticks lt one low high more =
     subst (AreSpaced period from) (sym (drop_here ticks n d lt)) (low, high, subst (λ (m : ℕ). AreSpaced period (get_or ticks n d + period) (drop m ticks)) one more)
 
-pub accepted_two : (first second : List ℕ) → AreSpaced 4 0 first → AreSpaced 8 0 second → length first ≤ 2000
-    → length second ≤ 2000
-    → AreAccepted steady_set (first ∷ second ∷ [])
-accepted_two first second a b la lb = record { each = refl; spaced = spaced; few = omega (arith, la, lb) } where
-  spaced : (tx : ℕ) → tx < length steady_set.txns → AreSpaced (txn_of steady_set tx).period 0 (ticks_of (first ∷ second ∷ []) tx)
-  spaced zero lt = a
-  spaced (suc zero) lt = b
-  spaced (suc (suc tx)) lt = absurd (omega arith)
-
 -- the room
 
 pub sim_fits : (w : Workload) (history : List Entry) (n : ℕ) → IsCompiled w.set → IsSim w history
@@ -124,10 +115,3 @@ pub good_by : (w : Workload) (set : Set) (history : List Entry) (n room : ℕ) �
     → length (take n history) ≤ room
 good_by w set history n room is ok sim le =
     omega (arith, sim_fits w history n ok sim, ap (λ (q : Set). room_of_jobs q.txns (λ k. length (ticks_of w.releases k))) is, le)
-
-pub short_two : (first second : List ℕ) → length first ≤ 2000 → length second ≤ 2000
-    → room_of_jobs steady_set.txns (λ k. length (ticks_of (first ∷ second ∷ []) k)) ≤ 20000
-short_two first second a b = omega (arith, a, b)
-
-pub spaced_end : (period from n : ℕ) (ticks : List ℕ) → length ticks ≤ n → AreSpaced period from (drop n ticks)
-spaced_end period from n ticks le = subst (AreSpaced period from) (sym (drop_none ticks n le)) tt

@@ -1,4 +1,4 @@
-use Rattle.std.proofs.Common.{List, [], refl, map}
+use Rattle.std.proofs.Common.{[], refl}
 use Rattle.step_journal.specs.Serial.{outcomes_of}
 use Rattle.sim_run.specs.Steady.{steady_set, steady_op}
 use Rattle.sim_run.proofs.Steady.{steady_asks, good_by}
