@@ -1,0 +1,15 @@
+use Rattle.std.proofs.Common.{map}
+use Rattle.sim_run.specs.Workloads.{workload}
+use Rattle.sim_run.specs.Runs.{HasRun}
+use Rattle.written_run.proofs.lines.hand_lines.Given as goal
+
+abbrev pub ghosts-run_lines : goal.ghosts-run_lines
+ghosts-run_lines g a = record {
+  begun = record {
+    sink = a.out.now.sink.ghost_name;
+    front = g.K.Sink.taken a.out.now.sink.now;
+    names = a.out.now.names.now;
+    set = g.B.Board.set a.board.now;
+  };
+  may = HasRun (workload (g.B.Board.set a.board.now) (map g.Y.Body.gives a.bodies.now) a.ticks.now);
+}

@@ -1,0 +1,1 @@
+//! Reports written while runs go on.
