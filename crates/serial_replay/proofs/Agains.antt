@@ -15,7 +15,7 @@ use Rattle.job_rows.specs.Upkeep.{is_plan, planned_jobs}
 use Rattle.job_rows.proofs.Going.{next_legal}
 use Rattle.serial_replay.specs.Replays.{IsFirstIllegal}
 
-front_legal : (set : Set) (s : State) (xs ys : List Entry) → IsLegalFrom set s (xs ++ ys) → IsLegalFrom set s xs
+pub front_legal : (set : Set) (s : State) (xs ys : List Entry) → IsLegalFrom set s (xs ++ ys) → IsLegalFrom set s xs
 front_legal set s [] ys h = tt
 front_legal set s (x ∷ xs) ys h = (h.0, front_legal set (state_after set s x) xs ys h.1)
 

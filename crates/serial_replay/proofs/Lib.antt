@@ -2,3 +2,5 @@ mod Outside
 mod Same
 mod Agains
 mod Replayed
+mod Spans
+mod Released

@@ -1,6 +1,8 @@
 //! Worked histories replayed, and entries that are nearly such.
 ghost use Rattle.std.specs.Prelude.{◌≡◌, ◌<◌, ◌&&◌, nat_lt};
 ghost use Rattle.std.specs.List.{list_all};
+ghost use Rattle.step_journal.specs.History.{IsLegal};
+ghost use Rattle.job_rows.specs.Rows.{job_rows};
 
 use super::*;
 use item_model::{ItemDecl, ItemKind, Stored};
@@ -629,6 +631,24 @@ fn worked_rows(alloc: Global) -> Result<Vec<Worked>, Fail> {
     Ok(rows)
 }
 
+// Whether the entries alone tell the delay of each row.
+fn are_told(set: &CompiledSet, entries: &[Entry], rows: &[JobRow]) -> bool
+    requires legal { IsLegal set.now entries.now }
+    requires rows { rows.now ≡ job_rows set.now entries.now }
+{
+    set.is_compiled();
+    for row in rows {
+        let told = Delay {
+            by: row.delayed_by,
+            ticks: row.delay,
+        };
+        if delay(set, entries, row.job) != told {
+            return false;
+        }
+    }
+    true
+}
+
 #[test]
 fn jobs_and_items(rt: HostRuntime) -> Result<(), Fail> {
     for row in &worked_rows(rt.alloc())? {
@@ -643,6 +663,8 @@ fn jobs_and_items(rt: HostRuntime) -> Result<(), Fail> {
             "items of {}",
             row.name
         );
+        let told = are_told(&row.set, &row.entries, result.jobs.as_slice());
+        assert!(rt; told, "delays of {}", row.name);
     }
     Ok(())
 }
