@@ -3,13 +3,16 @@
 
 ghost use Rattle.run_report.specs.Legal.{LegalHasLines, LegalHasRows};
 
+mod counts;
 mod declared;
 mod limits;
+mod summing;
 mod whole;
 mod writer;
 
 pub use declared::compile_head;
 pub use limits::{admit_text, ceilings_text};
+pub use summing::summary;
 pub use whole::{report, report_with_items};
 pub use writer::ReportWriter;
 
