@@ -1,6 +1,8 @@
 pub mod BoundLines
 pub mod Fronts
 pub mod HeadSets
+pub mod Instants
 pub mod LegalLines
 pub mod LegalRows
+pub mod Summed
 pub mod Writing
