@@ -1,0 +1,4 @@
+pub mod Comparing
+pub mod Whole
+pub mod Documents
+pub mod Judging
