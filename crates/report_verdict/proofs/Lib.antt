@@ -2,3 +2,4 @@ pub mod Comparing
 pub mod Whole
 pub mod Documents
 pub mod Judging
+pub mod OneOnly
