@@ -10,6 +10,7 @@ ghost use Rattle.run_report.specs.Report.{Writes, report_of};
 use crate::writer::ReportWriter;
 use item_model::Items;
 use rt_base::{Names, OutOfMemory};
+use serial_replay::{ReplayError, replay};
 use set_admission::AdmittedSet;
 use std::alloc::Global;
 use step_journal::Entry;
@@ -44,8 +45,28 @@ fn add_next(
     Ok(())
 }
 
-/// The report of a legal history of a set, whose last items are given: as admitted where there are bounds, and else as a
-/// trial. Each entry is gone through once.
+/// The report of a legal history of a set: as admitted where there are bounds, and else as a trial. The history is replayed
+/// for its last items, so it costs what the run did.
+pub fn report(
+    alloc: Global,
+    names: &Names,
+    set: &CompiledSet,
+    bounds: Option<&AdmittedSet>,
+    entries: &[Entry],
+) -> Result<Vec<u8>, OutOfMemory>
+    requires names { NamesSet names.now set.now }
+    requires same { IfSome bounds (λ b. b.now ≡ set.now) }
+    requires legal { IsLegal set.now entries.now }
+    ensures { IfOk result (λ text. text.items ≡ report_of names.now set.now (is_some bounds.entry) entries.now) }
+{
+    match replay(alloc, set, entries) {
+        Ok(replayed) => { report_with_items(alloc, names, set, bounds, entries, &replayed.items) }
+        Err(ReplayError::OutOfMemory) => Err(OutOfMemory),
+        Err(ReplayError::NotLegal { .. }) => unreachable!(),
+    }
+}
+
+/// The same where the last items of the history are known. Each entry is gone through once.
 pub fn report_with_items(
     alloc: Global,
     names: &Names,
