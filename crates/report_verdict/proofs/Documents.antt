@@ -1,8 +1,10 @@
 -- What a document that was read meets.
-use Rattle.std.proofs.Common.{◌≡◌, ℕ, ◌+◌, ◌-◌, ◌≤◌, Bool, true, false, List, [], ◌∷◌, drop, length, Option, Some, None, Result, Ok, Err, refl, ap, arith, length-drop}
+use Rattle.std.proofs.Common.{◌≡◌, ℕ, ◌+◌, ◌-◌, ◌≤◌, Bool, true, false, List, [], ◌∷◌, drop, length, Option, Some, None, Result, Ok, Err, refl, sym, ap, subst, arith, length-drop}
 use Rattle.report_head.specs.declared.read.Head.{Head}
 use Rattle.report_head.specs.declared.read.HeadError.{HeadError}
 use Rattle.report_head.specs.Head.{head_of}
+use Rattle.report_head.specs.IsHead.{IsHead}
+use Rattle.report_head.proofs.GoodHead.{head_good}
 use Rattle.report_reader.specs.declared.forms.Kind.{Kind}
 use Rattle.report_reader.specs.declared.document.Document.{Document}
 use Rattle.report_reader.specs.declared.document.DocumentError.{DocumentError}
@@ -15,6 +17,7 @@ abbrev Answer : Type 0
 Answer = Result Document DocumentError
 
 pub record IsRead (bytes : List ℕ) (d : Document) : Type 0 where
+  pub good : IsHead d.head
   pub ended : (lines_of bytes).1 ≡ []
   pub first : d.first ≤ 1 + length bytes
 
@@ -46,11 +49,11 @@ unless_is : (o : Option DocumentError) (m d : Document) → unless o m ≡ Ok d 
 unless_is None m d e = ok_is m d e
 unless_is (Some x) m d e = absurd cc
 
-body_read : (bytes : List ℕ) (head : Head) (kind : Kind) (d : Document) → head.lines ≤ length (lines_of bytes).0
+body_read : (bytes : List ℕ) (head : Head) (kind : Kind) (d : Document) → IsHead head → head.lines ≤ length (lines_of bytes).0
     → body_of head kind (head.lines + 1) (drop head.lines (lines_of bytes).0) (lines_of bytes).1 ≡ Ok d
     → IsRead bytes d
 unfolding body_of
-body_read bytes head kind d within e =
+body_read bytes head kind d good within e =
     let lines : List (List ℕ) = drop head.lines (lines_of bytes).0 in
     let last : List ℕ = (lines_of bytes).1 in
     let n : ℕ = head.lines + 1 in
@@ -61,6 +64,7 @@ body_read bytes head kind d within e =
     let first : number_in n lines es ≡ d.first = ap (λ (x : Document). x.first) (unless_is fault made d e) in
     let few : length lines ≡ length (lines_of bytes).0 - head.lines = length-drop head.lines (lines_of bytes).0 in
     record {
+      good = subst IsHead (ap (λ (x : Document). x.head) (unless_is fault made d e)) good;
       ended = end_none (number_in n lines left) left last (unless_none fault made d e);
       first = omega (arith, first, few, within, few_lines bytes);
     }
@@ -68,7 +72,7 @@ body_read bytes head kind d within e =
 from_head : (bytes : List ℕ) (r : Result Head HeadError) (d : Document) → r ≡ head_of bytes
     → after_head (lines_of bytes).0 (lines_of bytes).1 r ≡ Ok d → IsRead bytes d
 from_head bytes (Err error) d is e = absurd cc
-from_head bytes (Ok head) d is e = body_read bytes head (kind_of (lines_of bytes).0 head) d (head_within bytes head is) e
+from_head bytes (Ok head) d is e = body_read bytes head (kind_of (lines_of bytes).0 head) d (head_good bytes head (sym is)) (head_within bytes head is) e
 
 pub is_read : (bytes : List ℕ) (d : Document) → document_of bytes ≡ Ok d → IsRead bytes d
 unfolding document_of

@@ -3,3 +3,4 @@ pub mod Whole
 pub mod Documents
 pub mod Judging
 pub mod OneOnly
+pub mod Sound

@@ -1,6 +1,7 @@
 //! A document and a report, line by line.
 ghost use Rattle.std.specs.Prelude.{◌≡◌, ◌<◌, ◌^◌, [], length};
 ghost use Rattle.std.specs.Str.{bytes_eq};
+ghost use Rattle.rt_base.specs.declared.name.Names.{Names as AllNames};
 ghost use Rattle.report_reader.specs.Document.{lines_of};
 ghost use Rattle.report_verdict.specs.Compared.{final_name as final_name_of, wrong_by as wrong_by_names, wrong as wrong_of, compared as compared_of};
 
@@ -53,10 +54,9 @@ fn same(document: &[u8], report: &[u8]) -> bool
 }
 
 // The document has no more lines.
-fn over(names: &Names, n: usize, report: &[u8]) -> Verdict
-    ensures { result ≡ compared_of names.now n [] (lines_of report.now).0 }
+fn over(n: usize, report: &[u8]) -> Verdict
+    ensures { (names : AllNames) → result ≡ compared_of names n [] (lines_of report.now).0 }
 {
-    let _names = names;
     match cut(b'\n', report) {
         Some((_, _)) => Verdict::WrongLine { n },
         None => Verdict::Legal,
@@ -84,5 +84,5 @@ pub(crate) fn compared(names: &Names, document: &[u8], report: &[u8]) -> Verdict
         right = after;
         n += 1;
     }
-    over(names, n, right)
+    over(n, right)
 }

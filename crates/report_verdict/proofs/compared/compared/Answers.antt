@@ -28,6 +28,6 @@ loop-line-preserved c =
 
 pub returns : goal.returns
 returns c =
-    c.over.ensures
+    c.over.ensures c.args.names.now
     ∙ document_over c.args.names.now c.loop-line.n c.loop-line.left.now c.loop-line.right.now
     (from_line c.args.names.now 1 c.args.document.now c.args.report.now) (search rules) c.loop-line.invariant.0
