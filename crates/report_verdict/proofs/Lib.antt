@@ -1,0 +1,6 @@
+pub mod Comparing
+pub mod Whole
+pub mod Documents
+pub mod Judging
+pub mod OneOnly
+pub mod Sound

@@ -1,0 +1,88 @@
+//! A document and a report, line by line.
+ghost use Rattle.std.specs.Prelude.{◌≡◌, ◌<◌, ◌^◌, [], length};
+ghost use Rattle.std.specs.Str.{bytes_eq};
+ghost use Rattle.rt_base.specs.declared.name.Names.{Names as AllNames};
+ghost use Rattle.report_reader.specs.Document.{lines_of};
+ghost use Rattle.report_verdict.specs.Compared.{final_name as final_name_of, wrong_by as wrong_by_names, wrong as wrong_of, compared as compared_of};
+
+use crate::verdict::Verdict;
+use line_fields::cut;
+use report_reader::final_item;
+use rt_base::{Name, Names};
+
+#[tactic(auto, unfolding(crate::specs::Compared::final_name))]
+fn final_name(names: &Names, line: &[u8]) -> Option<Name>
+    requires { length names.now.items < 2 ^ 32 }
+    ensures { result ≡ final_name_of names.now line.now }
+{
+    let item = final_item(names, line)?;
+    match names.items.as_slice().get(item.0 as usize) {
+        Some(name) => Some(*name),
+        None => None,
+    }
+}
+
+fn wrong_by(n: usize, item: Option<Name>, other: Option<Name>) -> Verdict
+    ensures { result ≡ wrong_by_names n item other }
+{
+    match (item, other) {
+        (Some(item), Some(other)) => {
+            if item.as_slice() == other.as_slice() {
+                Verdict::WrongItem { item }
+            } else {
+                Verdict::WrongLine { n }
+            }
+        }
+        (Some(_), None) => Verdict::WrongLine { n },
+        (None, _) => Verdict::WrongLine { n },
+    }
+}
+
+fn wrong(names: &Names, n: usize, document: &[u8], report: &[u8]) -> Verdict
+    requires { length names.now.items < 2 ^ 32 }
+    ensures { result ≡ wrong_of names.now n document.now report.now }
+{
+    let item = final_name(names, document);
+    let other = final_name(names, report);
+    wrong_by(n, item, other)
+}
+
+fn same(document: &[u8], report: &[u8]) -> bool
+    ensures { result ≡ bytes_eq document.now report.now }
+{
+    document == report
+}
+
+// The document has no more lines.
+fn over(n: usize, report: &[u8]) -> Verdict
+    ensures { (names : AllNames) → result ≡ compared_of names n [] (lines_of report.now).0 }
+{
+    match cut(b'\n', report) {
+        Some((_, _)) => Verdict::WrongLine { n },
+        None => Verdict::Legal,
+    }
+}
+
+/// How the lines of a document differ from those of a report; Legal where they do not. It goes once over both, and takes no
+/// memory.
+pub(crate) fn compared(names: &Names, document: &[u8], report: &[u8]) -> Verdict
+    requires items { length names.now.items < 2 ^ 32 }
+    requires few { length document.now < 2 ^ 32 }
+    ensures { result ≡ compared_of names.now 1 (lines_of document.now).0 (lines_of report.now).0 }
+{
+    let mut left = document;
+    let mut right = report;
+    let mut n = 1;
+    while let Some((line, more)) = cut(b'\n', left) {
+        let Some((other, after)) = cut(b'\n', right) else {
+            return Verdict::WrongLine { n };
+        };
+        if !same(line, other) {
+            return wrong(names, n, line, other);
+        }
+        left = more;
+        right = after;
+        n += 1;
+    }
+    over(n, right)
+}

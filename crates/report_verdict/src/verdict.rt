@@ -1,0 +1,172 @@
+//! What is said of a document.
+ghost use Rattle.std.specs.Prelude.{◌≡◌, ◌≢◌, ◌<◌, ◌^◌, length, is_some, None, Ok, IfOk, IfSome};
+ghost use Rattle.txn_compiler.specs.Refusal.{compile_refusal};
+ghost use Rattle.txn_compiler.specs.declared.error.CompileError.TheVariants.{OutOfMemory as NoMemoryToCompile};
+ghost use Rattle.set_admission.specs.declared.error.AdmitError.TheVariants.{OutOfMemory as NoMemoryToAdmit};
+ghost use Rattle.report_lines.specs.Texts.{NamesSet};
+ghost use Rattle.report_head.specs.IsHead.{IsHead};
+ghost use Rattle.report_reader.specs.Document.{document_of};
+ghost use Rattle.report_verdict.specs.declared.verdict.SetError.TheVariants.{Compile, Admit};
+ghost use Rattle.report_verdict.specs.declared.verdict.Verdict.TheVariants.{BadSet};
+ghost use Rattle.report_verdict.specs.Verdict.{refusal_in, IsVerdict, HasParts};
+
+use crate::compared::compared;
+use report_reader::{Document, DocumentError, read_document};
+use rt_base::{Name, Names, OutOfMemory};
+use run_report::{compile_head, report_with_items};
+use serial_replay::{ReplayError, replay};
+use set_admission::{AdmitError, AdmittedSet, admit, admitted_unless_refused};
+use std::alloc::Global;
+use step_journal::Entry;
+use txn_compiler::CompileError;
+use txn_set::CompiledSet;
+
+/// What is said of a document: the first of these that holds of it.
+#[derive(Clone, Copy, Drop)]
+pub enum Verdict {
+    /// The document is the report of the declared set, its mode and its entries.
+    Legal,
+    /// The first line, counted from 1, that is no line of a report, has no line end, or stands out of order.
+    BadLine { n: usize },
+    /// All lines are good, and the last is not the last line of a report; or there is no line.
+    Unfinished,
+    /// What is declared is no set, or none that is admitted where the mode says so.
+    BadSet { error: SetError },
+    /// The line of the first entry that is no legal step after those before it.
+    NotALegalStep { n: usize },
+    /// The first line that differs from the report, or that one of the two does not have.
+    WrongLine { n: usize },
+    /// The first line that differs is that of this item's last value, in both.
+    WrongItem { item: Name },
+}
+
+/// Why a declared set is refused, want of memory aside. Ids are those of the declarations.
+#[derive(Clone, Copy, PartialEq, Eq, Debug)]
+pub enum SetError {
+    Compile(CompileError),
+    Admit(AdmitError),
+}
+
+fn not_compiled(error: CompileError) -> Result<Verdict, OutOfMemory>
+    ensures { IfOk result (λ v. (v ≡ BadSet (Compile error)) × (error ≢ NoMemoryToCompile)) }
+{
+    match error {
+        CompileError::OutOfMemory => Err(OutOfMemory),
+        error => Ok(Verdict::BadSet {
+            error: SetError::Compile(error),
+        }),
+    }
+}
+
+fn not_admitted(error: AdmitError) -> Result<Verdict, OutOfMemory>
+    ensures { IfOk result (λ v. (v ≡ BadSet (Admit error)) × (error ≢ NoMemoryToAdmit)) }
+{
+    match error {
+        AdmitError::OutOfMemory => Err(OutOfMemory),
+        error => Ok(Verdict::BadSet {
+            error: SetError::Admit(error),
+        }),
+    }
+}
+
+// The verdict on the entries and the lines around them.
+fn judge_entries(
+    alloc: Global,
+    bytes: &[u8],
+    names: &Names,
+    set: &CompiledSet,
+    bounds: Option<&AdmittedSet>,
+    entries: &[Entry],
+    first: usize,
+) -> Result<Verdict, OutOfMemory>
+    requires bytes { length bytes.now < 2 ^ 32 }
+    requires first { first < 2 ^ 33 }
+    requires parts { HasParts bytes.now names.now set.now (is_some bounds) entries.now first }
+    requires admitted { refusal_in (is_some bounds) set.now ≡ None }
+    requires names { NamesSet names.now set.now }
+    requires same { IfSome bounds (λ b. b.now ≡ set.now) }
+    ensures { IfOk result (IsVerdict bytes.now) }
+{
+    set.is_compiled();
+    match replay(alloc, set, entries) {
+        Err(ReplayError::OutOfMemory) => Err(OutOfMemory),
+        Err(ReplayError::NotLegal { index }) => Ok(Verdict::NotALegalStep { n: first + index }),
+        Ok(replayed) => {
+            let text = report_with_items(alloc, names, set, bounds, entries, &replayed.items)?;
+            Ok(compared(names, bytes, &text))
+        }
+    }
+}
+
+// The verdict on a document whose declarations are a set.
+fn judge_mode(
+    alloc: Global,
+    bytes: &[u8],
+    names: &Names,
+    set: CompiledSet,
+    admitted: bool,
+    entries: &[Entry],
+    first: usize,
+) -> Result<Verdict, OutOfMemory>
+    requires bytes { length bytes.now < 2 ^ 32 }
+    requires first { first < 2 ^ 33 }
+    requires parts { HasParts bytes.now names.now set admitted entries.now first }
+    requires names { NamesSet names.now set }
+    ensures { IfOk result (IsVerdict bytes.now) }
+{
+    if !admitted {
+        return judge_entries(alloc, bytes, names, &set, None, entries, first);
+    }
+    set.is_compiled();
+    admitted_unless_refused();
+    match admit(alloc, set) {
+        Err((_, error)) => not_admitted(error),
+        Ok(admitted) => judge_entries(
+            alloc,
+            bytes,
+            names,
+            admitted.set(),
+            Some(&admitted),
+            entries,
+            first,
+        ),
+    }
+}
+
+// The verdict on a document that was read.
+fn judge(alloc: Global, bytes: &[u8], document: Document) -> Result<Verdict, OutOfMemory>
+    requires bytes { length bytes.now < 2 ^ 32 }
+    requires read { document_of bytes.now ≡ Ok document }
+    requires good { IsHead document.head }
+    ensures { IfOk result (IsVerdict bytes.now) }
+{
+    let Document {
+        head,
+        second: _,
+        entries,
+        first,
+    } = document;
+    let admitted = head.admitted;
+    match compile_head(alloc, head) {
+        Err(error) => not_compiled(error),
+        Ok((names, set)) => {
+            let entries = entries.as_slice();
+            judge_mode(alloc, bytes, &names, set, admitted, entries, first)
+        }
+    }
+}
+
+/// Judges a document that is to be a report, by its bytes alone: it reads the document, compiles the declared set and admits
+/// it where the mode says so, replays the entries, and compares each line with the report of the set and the entries. It
+/// takes memory for the entries and for that report.
+pub fn check_document(alloc: Global, bytes: &[u8]) -> Result<Verdict, OutOfMemory>
+    requires { length bytes.now < 2 ^ 32 }
+    ensures { IfOk result (IsVerdict bytes.now) }
+{
+    match read_document(alloc, bytes) {
+        Err(DocumentError::BadLine { n }) => Ok(Verdict::BadLine { n }),
+        Err(DocumentError::Unfinished) => Ok(Verdict::Unfinished),
+        Err(DocumentError::OutOfMemory) => Err(OutOfMemory),
+        Ok(document) => judge(alloc, bytes, document),
+    }
+}
