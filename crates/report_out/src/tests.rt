@@ -300,12 +300,7 @@ fn put_worked(
 }
 
 // Whether the sink takes the lines of the entries, and the whole is the report.
-fn is_whole(
-    alloc: Global,
-    worked: &Worked,
-    size: usize,
-    room: usize,
-) -> Result<bool, OutOfMemory>
+fn is_whole(alloc: Global, worked: &Worked, size: usize, room: usize) -> Result<bool, OutOfMemory>
     requires some { 0 < size }
     requires room { 256 ≤ room }
     requires named { NamesSet worked.now.names worked.now.set }

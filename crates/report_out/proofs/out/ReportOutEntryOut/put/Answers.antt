@@ -1,5 +1,3 @@
-use Rattle.std.proofs.Common.{◌≡◌, ◌++◌, [], List}
-use Rattle.step_journal.specs.declared.entry.Entry.{Entry as Noted}
 use Rattle.report_out.specs.Outs.{IsGoing}
 use Rattle.report_out.proofs.Taking.{going, continues, taken_on, cut_at}
 use Rattle.report_out.proofs.out.ReportOutEntryOut.put.Goals as goal
