@@ -1,7 +1,7 @@
 -- The lines of entries, as far as they were handed on.
 use Rattle.std.proofs.Common.{◌≡◌, ℕ, zero, suc, ◌+◌, ◌<◌, ◌≤◌, List, [], ◌∷◌, ◌++◌, take, drop, length, get_or, Option, None, Some, Result, Ok, Err, OnOk, OnErr, refl, sym, ap, subst, ◌∙◌, arith, length-append, append_assoc, append-nil, drop-cons, add-one}
 use Rattle.std.proofs.lemmas.List.{take-append-drop}
-use Rattle.std.proofs.Math.Seq.{take-append-add, take-length, take-append_seam}
+use Rattle.std.proofs.Math.Seq.{take-append_seam}
 use Rattle.std.specs.List.{filter}
 use Rattle.std.specs.Io.KnownBytes.{Appends}
 use Rattle.std.proofs.lemmas.List.Elements.{filter-append}
@@ -10,7 +10,7 @@ use Rattle.txn_set.specs.Set.{Set}
 use Rattle.step_journal.specs.declared.entry.Entry.{Entry}
 use Rattle.step_journal.specs.State.{State}
 use Rattle.step_journal.specs.History.{IsLegal, IsLegalFrom, state_after}
-use Rattle.job_rows.specs.Upkeep.{RowsSeen, Follows, GoesOn, is_plan, planned_jobs}
+use Rattle.job_rows.specs.Upkeep.{RowsSeen, Follows, is_plan, planned_jobs}
 use Rattle.report_lines.specs.Rows.{numbered}
 use Rattle.report_lines.specs.Texts.{entries_text, whole_entry_line}
 use Rattle.run_report.specs.Report.{Writes}
