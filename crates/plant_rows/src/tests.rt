@@ -23,7 +23,12 @@ const LOGGER: TxId = TxId(2);
 const TEMP: ItemId = ItemId(0);
 
 // Whether the plan was granted.
-fn is_planned(plant: &Plant<PlainCore>, seat: &mut Seat<PlainCore>, tx: TxId, tick: Tick) -> bool
+pub(crate) fn is_planned(
+    plant: &Plant<PlainCore>,
+    seat: &mut Seat<PlainCore>,
+    tx: TxId,
+    tick: Tick,
+) -> bool
     requires { IsOf plant.now seat.old × (plant.now.set ≡ base) × (tx.0 < 3) }
     ensures { (seat.new.plant ≡ seat.old.plant) × (seat.new.tx ≡ seat.old.tx) }
 {

@@ -206,9 +206,8 @@ fn rounds<R: Threads + Wait + Sync, B: Board + Send, Y: Body + Send, G: Gate + S
 /// drain. A worker that meets a stop makes no further try. At its start it clears what workers and members keep from an
 /// earlier call. It takes no memory, and it may wait.
 ///
-/// A run can come to its end where no two members have the same transaction, where a member's transaction has exactly
-/// `jobs` planned jobs, or none if it is eager, and where `spare` has reserved places for the board's room. None of the
-/// promises needs these.
+/// That no two members have the same transaction, that a member's transaction has exactly `jobs` planned jobs, or none if
+/// it is eager, and that `spare` has reserved places for the board's room, is left to the caller: no promise needs it.
 ///
 /// Refused and NoPlan are the stop of the first worker that met one, in the first round in which some worker did. Where
 /// the out failed in the drain after that round, Stopped comes in their place. Stopped comes only where the stops of
