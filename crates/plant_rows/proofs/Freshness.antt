@@ -1,5 +1,5 @@
 -- Seats that have made no call, one by one and in a list; members in lists.
-use Rattle.std.proofs.Common.{◌≡◌, ℕ, zero, suc, ◌<◌, List, [], ◌∷◌, ◌++◌, None, Some, All, length, slice_index_or, refl, sym, ap, ◌∙◌, subst, ⊎_elim, arith, Vec, Global}
+use Rattle.std.proofs.Common.{◌≡◌, ℕ, zero, suc, List, [], ◌∷◌, ◌++◌, None, Some, All, refl, sym, ap, ◌∙◌, subst, ⊎_elim, arith, Vec, Global}
 use mathlib.Core.Option.{some, some-ne-none}
 use lib.ListN.{get_elem?}
 use Rattle.turn_cell.proofs.Lists.{at_longer2, at_snoc_place, popped_last}
