@@ -1,5 +1,5 @@
-//! The plant over a board of plain lists, by example: one thread with all seats, two threads that plan, and each seat on a
-//! thread of its own.
+//! The plant over a board of plain lists, by example: one thread with all seats, two threads that plan, each seat on a
+//! thread of its own, and workers.
 #![tactic(auto)]
 
 #[cfg(test)]
@@ -8,3 +8,5 @@ mod base;
 mod tests;
 #[cfg(test)]
 mod turns;
+#[cfg(test)]
+mod workers;

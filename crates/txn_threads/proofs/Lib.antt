@@ -1,0 +1,7 @@
+pub mod Counting
+pub mod Scripting
+pub mod Planning
+pub mod Rounding
+pub mod Trying
+pub mod Draining
+pub mod Running

@@ -1,0 +1,9 @@
+use Rattle.std.proofs.Common.{◌<◌, length, rules}
+use Rattle.txn_threads.proofs.Rounding.{all_refl, all_step}
+use Rattle.txn_threads.proofs.round.idle_first.Goals as goal
+
+pub returns-clause-ran : goal.returns-clause-ran
+returns-clause-ran g c =
+    let ms = c.args.members.now.items in
+    let some : 0 < length ms = search rules in
+    all_step g.Y.Body.gives g.Y.Body.stands c.args.plant.now ms ms 0 c.index_mut-member.result.now c.idle_member.new.member (all_refl g.Y.Body.gives g.Y.Body.stands c.args.plant.now ms c.requires.sit) some c.index_mut-member.ensures.value c.idle_member.ensures.ran

@@ -1,0 +1,91 @@
+use Rattle.std.proofs.Common.{sym, subst, ◌∙◌, arith}
+use Rattle.txn_threads.specs.Runs.{HaltIs}
+use Rattle.txn_threads.proofs.Rounding.{of_same}
+use Rattle.txn_threads.proofs.Draining.{operated_trans, got_more, got_stopped, got_stopped_first, rose_later}
+use Rattle.txn_threads.proofs.Running.{workers_refl, workers_trans, workers_sit, IsStopped, if_not_stopped, run_stop_not, halt_is}
+use Rattle.txn_threads.proofs.run.rounds.Goals as goal
+
+pub returns-in_default-clause-ran : goal.returns-in_default-clause-ran
+returns-in_default-clause-ran g c = workers_refl g.Y.Body.gives g.Y.Body.stands c.args.plant.now c.args.workers.now c.requires.sit
+
+pub returns-in_default-clause-got : goal.returns-in_default-clause-got
+returns-in_default-clause-got g c = let e = c.in_default.ensures.err in (
+  e.0,
+  got_stopped_first g.O.EntryOut.got g.O.EntryOut.lost c.args.operator.now c.drain_all.new.operator c.args.out.now c.drain_all.new.out c.drain_all.ensures.operated e.2 e.1,
+)
+
+pub loop-init : goal.loop-init
+loop-init g c = let e = c.in-Ok.ensures in (
+  tt,
+  tt,
+  workers_refl g.Y.Body.gives g.Y.Body.stands c.args.plant.now c.args.workers.now c.requires.sit,
+  c.requires.clear,
+  c.drain_all.ensures.operated,
+  c.drain_all.ensures.within,
+  c.drain_all.ensures.spare.0,
+  c.drain_all.ensures.spare.1,
+  (e.ok.1, e.ok.0),
+  e.good c.requires.good.0 c.requires.good.1,
+  c.drain_all.ensures.stops,
+)
+
+pub round_all-requires-clause-sit : goal.round_all-requires-clause-sit
+round_all-requires-clause-sit g c κs within = workers_sit g.Y.Body.gives g.Y.Body.stands c.args.plant.now c.args.workers.now c.loop.workers c.loop.invariant.2
+
+pub drain_all-requires-in-loop-clause-plant : goal.drain_all-requires-in-loop-clause-plant
+drain_all-requires-in-loop-clause-plant g c = let q = c.loop.invariant.4 in of_same c.args.plant.now c.args.operator.now c.loop.operator q.plant q.tx c.requires.plant
+
+pub drain_all-requires-in-loop-clause-operator : goal.drain_all-requires-in-loop-clause-operator
+drain_all-requires-in-loop-clause-operator g c = c.loop.invariant.4.tx ∙ c.requires.operator
+
+pub drain_all-requires-in-loop-clause-lost : goal.drain_all-requires-in-loop-clause-lost
+drain_all-requires-in-loop-clause-lost g c = c.loop.invariant.8.1
+
+pub returns-in_default-drain_all-clause-ran : goal.returns-in_default-drain_all-clause-ran
+returns-in_default-drain_all-clause-ran g c = workers_trans g.Y.Body.gives g.Y.Body.stands c.args.plant.now c.args.workers.now c.loop.workers c.round_all.new.workers c.loop.invariant.2 c.round_all.ensures.ran
+
+pub returns-in_default-drain_all-clause-operated : goal.returns-in_default-drain_all-clause-operated
+returns-in_default-drain_all-clause-operated g c = operated_trans c.args.operator.now c.loop.operator c.drain_all-in-loop.new.operator c.loop.invariant.4 c.drain_all-in-loop.ensures.operated
+
+pub returns-in_default-drain_all-clause-stops : goal.returns-in_default-drain_all-clause-stops
+returns-in_default-drain_all-clause-stops g c = let was = c.loop.invariant.10 in let is = c.drain_all-in-loop.ensures.stops in omega (arith, was, is)
+
+pub returns-in_default-drain_all-clause-got : goal.returns-in_default-drain_all-clause-got
+returns-in_default-drain_all-clause-got g c =
+    let e = c.in_default-drain_all.ensures.err in let i = c.loop.invariant in (
+      rose_later _ _ _ i.10 e.0,
+      got_stopped g.O.EntryOut.got g.O.EntryOut.lost c.args.operator.now c.loop.operator c.drain_all-in-loop.new.operator c.args.out.now c.loop.out c.drain_all-in-loop.new.out i.4 i.5 c.drain_all-in-loop.ensures.operated i.8.0 e.2 e.1,
+    )
+
+pub returns-in-Some-first_halt-clause-ran : goal.returns-in-Some-first_halt-clause-ran
+returns-in-Some-first_halt-clause-ran g c = workers_trans g.Y.Body.gives g.Y.Body.stands c.args.plant.now c.args.workers.now c.loop.workers c.round_all.new.workers c.loop.invariant.2 c.round_all.ensures.ran
+
+pub returns-in-Some-first_halt-clause-stop : goal.returns-in-Some-first_halt-clause-stop
+returns-in-Some-first_halt-clause-stop g c = subst (λ s. HaltIs c.round_all.new.workers s) (sym c.stop_of.ensures) (halt_is c.round_all.new.workers c.in-Some-first_halt.halt c.in-Some-first_halt.ensures.some)
+
+pub returns-in-Some-first_halt-clause-operated : goal.returns-in-Some-first_halt-clause-operated
+returns-in-Some-first_halt-clause-operated g c = operated_trans c.args.operator.now c.loop.operator c.drain_all-in-loop.new.operator c.loop.invariant.4 c.drain_all-in-loop.ensures.operated
+
+pub returns-in-Some-first_halt-clause-stops : goal.returns-in-Some-first_halt-clause-stops
+returns-in-Some-first_halt-clause-stops g c = let was = c.loop.invariant.10 in let is = c.drain_all-in-loop.ensures.stops in omega (arith, was, is)
+
+pub returns-in-Some-first_halt-clause-got : goal.returns-in-Some-first_halt-clause-got
+returns-in-Some-first_halt-clause-got g c =
+    let i = c.loop.invariant in
+    if_not_stopped c.stop_of.result _ _ (λ s. run_stop_not c.in-Some-first_halt.halt (subst IsStopped c.stop_of.ensures s))
+    (got_more g.O.EntryOut.got c.args.operator.now c.loop.operator c.drain_all-in-loop.new.operator c.args.out.now c.loop.out c.drain_all-in-loop.new.out i.4 i.5 c.drain_all-in-loop.ensures.operated i.8.0 c.in-Ok-drain_all.ensures.ok.1, c.in-Ok-drain_all.ensures.ok.0)
+
+pub loop-preserved : goal.loop-preserved
+loop-preserved g c = let i = c.loop.invariant in let d = c.drain_all-in-loop.ensures in let was = i.10 in let rose = d.stops in (
+  tt,
+  tt,
+  workers_trans g.Y.Body.gives g.Y.Body.stands c.args.plant.now c.args.workers.now c.loop.workers c.round_all.new.workers i.2 c.round_all.ensures.ran,
+  c.in-None-first_halt.ensures.none,
+  operated_trans c.args.operator.now c.loop.operator c.drain_all-in-loop.new.operator i.4 d.operated,
+  d.within,
+  d.spare.0,
+  d.spare.1 ∙ i.7,
+  (got_more g.O.EntryOut.got c.args.operator.now c.loop.operator c.drain_all-in-loop.new.operator c.args.out.now c.loop.out c.drain_all-in-loop.new.out i.4 i.5 d.operated i.8.0 c.in-Ok-drain_all.ensures.ok.1, c.in-Ok-drain_all.ensures.ok.0),
+  c.in-Ok-drain_all.ensures.good i.9.0 i.9.1,
+  omega (arith, was, rose),
+)

@@ -1,0 +1,21 @@
+use Rattle.std.proofs.Common.{◌≡◌, ◌≤◌, List, [], length, All, None, vec_capacity}
+use Rattle.step_journal.specs.declared.entry.Entry.{Entry}
+use Rattle.step_journal.specs.History.{IsLegal}
+use Rattle.txn_threads.specs.declared.member.Worker.{Worker}
+use Rattle.txn_threads.specs.Rounds.{WorkerRan, Each}
+use Rattle.txn_threads.specs.Runs.{Operated, Collected, MayDrain}
+use Rattle.txn_threads.proofs.run.rounds.Given as goal
+
+abbrev pub invariant-loop : goal.invariant-loop
+invariant-loop g l =
+    (goal.iterator-loop g).can_next l.iterator'
+    × (goal.iterator-loop g).is_finite l.iterator'
+    × Each (WorkerRan g.Y.Body.gives g.Y.Body.stands l.fn.plant) l.fn.workers l.workers
+    × All (λ (w : Worker g.row.B.Denot g.row.Y.Denot). w.halt ≡ None) l.workers
+    × Operated l.fn.operator l.operator
+    × (l.operator.drained ≤ length l.operator.seen)
+    × (l.spare.items ≡ [])
+    × (vec_capacity l.spare ≡ vec_capacity l.fn.spare)
+    × Collected g.O.EntryOut.got g.O.EntryOut.lost l.fn.operator l.operator l.fn.out l.out
+    × ((k : List Entry) × MayDrain (IsLegal l.fn.plant.set) g.O.EntryOut.got g.O.EntryOut.good l.operator l.out k)
+    × (g.O.EntryOut.stops l.fn.out ≤ g.O.EntryOut.stops l.out)

@@ -1,0 +1,5 @@
+pub mod Scripts
+pub mod Plans
+pub mod Tasks
+pub mod Rounds
+pub mod Runs

@@ -1,0 +1,12 @@
+//! Workers that run the bodies of transactions on a plant, each in a thread of its own.
+#![tactic(auto)]
+
+mod gate;
+mod member;
+mod round;
+mod run;
+mod task;
+
+pub use gate::{Gate, NoGate};
+pub use member::{Member, RunStop, Worker};
+pub use run::run_all;

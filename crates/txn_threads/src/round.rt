@@ -1,0 +1,246 @@
+//! A worker's part of a round.
+ghost use Rattle.std.specs.Prelude.{◌≡◌, ◌<◌, ◌+◌, ◌^◌, All, IfSome};
+ghost use Rattle.txn_threads.specs.Rounds.{Each, Sits, Ran, Met, MetIn, WorkerSits, WorkerRan, IfStop, IsCause, IsHaltOf, IsPlanHalt, known_after, planned_after};
+ghost use Rattle.txn_threads.specs.declared.member.Halt.TheVariants as stop;
+
+use crate::gate::Gate;
+use crate::member::{Halt, Member, Worker};
+use board::{Board, IdleReply, StepReply};
+use rt_base::{JobId, PlanRefused, Tick, TxId};
+use shared_plant::{Plant, Tried};
+use step_script::Body;
+
+// What came of a try.
+#[derive(Clone, Copy)]
+pub(crate) enum Came {
+    // The member's present job is not pending.
+    NoJob,
+    Went,
+    // The journal is full.
+    Full,
+    Stop(Halt),
+}
+
+// One step try of a member.
+fn step_member<B: Board, Y: Body, G: Gate>(
+    plant: &Plant<B>,
+    gate: &G,
+    member: &mut Member<B, Y>,
+) -> Came
+    requires sits { Sits Y.gives Y.stands plant.now member.old }
+    ensures ran { Ran Y.gives Y.stands plant.now member.old member.new }
+    ensures met { IfStop result (λ h. Met Y.gives plant.now h member.new) }
+{
+    let Some(tx) = member.seat.tx() else {
+        unreachable!()
+    };
+    let op = member.task.operation(gate, tx);
+    let serial = member.task.serial;
+    match plant.try_step(&mut member.seat, serial, op) {
+        Tried::Busy => Came::Went,
+        Tried::Said(reply) => {
+            member.task.hear(&reply);
+            member.ended = ended_after(member.ended, &reply);
+            came_of(JobId { tx, serial }, reply)
+        }
+    }
+}
+
+// How many jobs of the transaction are known to have ended.
+fn ended_after(ended: u32, reply: &StepReply) -> u32
+    ensures { result ≡ known_after ended reply.now }
+{
+    match reply {
+        StepReply::NoJob {
+            ended: now,
+            last: _,
+        } => *now,
+        _ => ended,
+    }
+}
+
+fn came_of(job: JobId, reply: StepReply) -> Came
+    ensures { IfStop result (λ h. IsHaltOf h job reply) }
+{
+    match reply {
+        StepReply::NoJob { ended: _, last: _ } => Came::NoJob,
+        StepReply::Full { room: _ } => Came::Full,
+        StepReply::Undeclared { item: _ }
+        | StepReply::TooEarly { left: _ }
+        | StepReply::Unwritten { item: _ } => Came::Stop(Halt::Refused { job, reply }),
+        _ => Came::Went,
+    }
+}
+
+fn planned_after(planned: u32, reply: &Result<(JobId, Tick), PlanRefused>) -> u32
+    requires { planned + 1 < 2 ^ 32 }
+    ensures { result ≡ planned_after planned reply.now }
+{
+    match reply {
+        Ok(_) => planned + 1,
+        Err(_) => planned,
+    }
+}
+
+fn came_of_plan(tx: TxId, reply: Result<(JobId, Tick), PlanRefused>) -> Came
+    ensures { IfStop result (λ h. IsPlanHalt h tx reply) }
+{
+    match reply {
+        Ok(_) => Came::NoJob,
+        Err(cause) => came_of_cause(tx, cause),
+    }
+}
+
+fn came_of_cause(tx: TxId, cause: PlanRefused) -> Came
+    ensures { IfStop result (λ h. (h ≡ stop.NoPlan tx cause) × IsCause cause) }
+{
+    match cause {
+        PlanRefused::TooFar { limit: _ }
+        | PlanRefused::CalendarFull { room: _ }
+        | PlanRefused::NoSerial { planned: _ } => Came::Stop(Halt::NoPlan { tx, cause }),
+        _ => Came::Full,
+    }
+}
+
+// Plans an eager member's next job where its earlier ones have ended.
+fn plan_member<B: Board, Y: Body>(plant: &Plant<B>, member: &mut Member<B, Y>) -> Came
+    requires sits { Sits Y.gives Y.stands plant.now member.old }
+    ensures ran { Ran Y.gives Y.stands plant.now member.old member.new }
+    ensures met { IfStop result (λ h. Met Y.gives plant.now h member.new) }
+{
+    if !member.eager || member.planned >= member.jobs || member.ended < member.planned {
+        return Came::NoJob;
+    }
+    let Some(tx) = member.seat.tx() else {
+        unreachable!()
+    };
+    match plant.try_plan_next(&mut member.seat, tx) {
+        Tried::Busy => Came::NoJob,
+        Tried::Said(reply) => {
+            member.planned = planned_after(member.planned, &reply);
+            came_of_plan(tx, reply)
+        }
+    }
+}
+
+// One step try, and where the job is not pending one plan try of an eager member.
+fn turn<B: Board, Y: Body, G: Gate>(plant: &Plant<B>, gate: &G, member: &mut Member<B, Y>) -> Came
+    requires sits { Sits Y.gives Y.stands plant.now member.old }
+    ensures ran { Ran Y.gives Y.stands plant.now member.old member.new }
+    ensures met { IfStop result (λ h. Met Y.gives plant.now h member.new) }
+{
+    match step_member(plant, gate, member) {
+        Came::NoJob => plan_member(plant, member),
+        other => other,
+    }
+}
+
+// One try to idle.
+fn idle_member<B: Board, Y: Body>(plant: &Plant<B>, member: &mut Member<B, Y>) -> Came
+    requires sits { Sits Y.gives Y.stands plant.now member.old }
+    ensures ran { Ran Y.gives Y.stands plant.now member.old member.new }
+    ensures goes_on { IfStop result (λ h. ⊥) }
+{
+    match plant.try_idle(&mut member.seat) {
+        Tried::Busy => Came::Went,
+        Tried::Said(reply) => came_of_idle(&reply),
+    }
+}
+
+fn came_of_idle(reply: &IdleReply) -> Came
+    ensures { IfStop result (λ h. ⊥) }
+{
+    match reply {
+        IdleReply::Full { room: _ } => Came::Full,
+        _ => Came::Went,
+    }
+}
+
+fn idle_first<B: Board, Y: Body>(plant: &Plant<B>, members: &mut Vec<Member<B, Y>>) -> Came
+    requires sit { All (Sits Y.gives Y.stands plant.now) members.old.items }
+    ensures ran { Each (Ran Y.gives Y.stands plant.now) members.old.items members.new.items }
+    ensures goes_on { IfStop result (λ h. ⊥) }
+{
+    if members.is_empty() {
+        return Came::Went;
+    }
+    let member = &mut members[0];
+    idle_member(plant, member)
+}
+
+// A turn of each member. NoJob where all of them answered so.
+fn sweep<B: Board, Y: Body, G: Gate>(
+    plant: &Plant<B>,
+    gate: &G,
+    members: &mut Vec<Member<B, Y>>,
+) -> Came
+    requires sit { All (Sits Y.gives Y.stands plant.now) members.old.items }
+    ensures ran { Each (Ran Y.gives Y.stands plant.now) members.old.items members.new.items }
+    ensures met { IfStop result (λ h. MetIn Y.gives plant.now members.new.items h) }
+{
+    let mut none_pending = true;
+    for i in 0..members.len() {
+        let member = &mut members[i];
+        match turn(plant, gate, member) {
+            Came::NoJob => {}
+            Came::Went => none_pending = false,
+            Came::Full => return Came::Full,
+            Came::Stop(halt) => return Came::Stop(halt),
+        }
+    }
+    if none_pending {
+        Came::NoJob
+    } else {
+        Came::Went
+    }
+}
+
+// One time through the members.
+fn pass<B: Board, Y: Body, G: Gate>(
+    plant: &Plant<B>,
+    gate: &G,
+    members: &mut Vec<Member<B, Y>>,
+) -> Came
+    requires sit { All (Sits Y.gives Y.stands plant.now) members.old.items }
+    ensures ran { Each (Ran Y.gives Y.stands plant.now) members.old.items members.new.items }
+    ensures met { IfStop result (λ h. MetIn Y.gives plant.now members.new.items h) }
+{
+    match sweep(plant, gate, members) {
+        Came::NoJob => idle_first(plant, members),
+        other => other,
+    }
+}
+
+// Sixteen times through the members, or up to a full journal or a stop.
+fn passes<B: Board, Y: Body, G: Gate>(
+    plant: &Plant<B>,
+    gate: &G,
+    members: &mut Vec<Member<B, Y>>,
+) -> Option<Halt>
+    requires sit { All (Sits Y.gives Y.stands plant.now) members.old.items }
+    ensures ran { Each (Ran Y.gives Y.stands plant.now) members.old.items members.new.items }
+    ensures met { IfSome result (λ h. MetIn Y.gives plant.now members.new.items h) }
+{
+    for _ in 0..16 {
+        match pass(plant, gate, members) {
+            Came::NoJob | Came::Went => {}
+            Came::Full => return None,
+            Came::Stop(halt) => return Some(halt),
+        }
+    }
+    None
+}
+
+// A worker's part of a round.
+pub(crate) fn round<B: Board, Y: Body, G: Gate>(
+    plant: &Plant<B>,
+    gate: &G,
+    worker: &mut Worker<B, Y>,
+)
+    requires sits { WorkerSits Y.gives Y.stands plant.now worker.old }
+    ensures ran { WorkerRan Y.gives Y.stands plant.now worker.old worker.new }
+{
+    if worker.halt.is_none() {
+        worker.halt = passes(plant, gate, &mut worker.members);
+    }
+}

@@ -1,0 +1,250 @@
+//! All workers, in rounds.
+ghost use Rattle.std.specs.Prelude.{◌≡◌, ◌≤◌, List, All, None, [], length, IfOk, IfErr, IfSome, IfNone, vec_capacity, true, false};
+ghost use Rattle.step_journal.specs.declared.entry.Entry.{Entry as Noted};
+ghost use Rattle.step_journal.specs.History.{IsLegal};
+ghost use Rattle.shared_plant.specs.Seats.{IsOf};
+ghost use Rattle.io_edge.specs.Causes.{Rose};
+ghost use Rattle.txn_threads.specs.Rounds.{Each, WorkerSits, WorkerRan};
+ghost use Rattle.txn_threads.specs.Runs.{MayRun, HasRun, IsDone, Operated, GotMore, MayDrain, FirstHalt, HaltIs, StopIs, run_stop, IfStopped, Collected, CollectedTo, part, Cleared, WorkerCleared};
+
+use crate::gate::Gate;
+use crate::member::{Halt, Member, RunStop, Worker};
+use crate::round::round;
+use board::Board;
+use entry_out::{EntryOut, Stopped};
+use shared_plant::{Plant, Seat};
+use std::sync::Wait;
+use std::thread;
+use std::thread::Threads;
+use step_journal::Entry;
+use step_script::Body;
+
+// One round of all workers, in at most 64 threads.
+fn round_all<R: Threads + Sync, B: Board + Send, Y: Body + Send, G: Gate + Sync>(
+    rt: &R,
+    plant: &Plant<B>,
+    workers: &mut [Worker<B, Y>],
+    gate: &G,
+)
+    requires sit { All (WorkerSits Y.gives Y.stands plant.now) workers.old }
+    ensures ran { Each (WorkerRan Y.gives Y.stands plant.now) workers.old workers.new }
+{
+    thread::for_each_mut(
+        rt,
+        workers,
+        64,
+        &|_, worker: &mut Worker<B, Y>|
+            requires { WorkerSits Y.gives Y.stands plant.now worker.old }
+            ensures { WorkerRan Y.gives Y.stands plant.entry.now worker.old worker.new }
+        { round(plant, gate, worker) },
+    );
+}
+
+// All kept entries, through the spare list to the out.
+fn drain_all<R: Wait, B: Board, O: EntryOut>(
+    rt: &R,
+    plant: &Plant<B>,
+    operator: &mut Seat<B>,
+    spare: &mut Vec<Entry>,
+    out: &mut O,
+) -> Result<(), Stopped>
+    requires plant { IsOf plant.now operator.old }
+    requires operator { operator.old.tx ≡ None }
+    requires spare { spare.old.items ≡ [] }
+    requires lost { O.lost out.old [] }
+    requires good { (l : List Noted) × MayDrain (IsLegal plant.now.set) O.got O.good operator.old out.old l }
+    ensures operated { Operated operator.old operator.new }
+    ensures within { operator.new.drained ≤ length operator.new.seen }
+    ensures spare { (spare.new.items ≡ []) × (vec_capacity spare.new ≡ vec_capacity spare.old) }
+    ensures stops { O.stops out.old ≤ O.stops out.new }
+    ensures ok { IfOk result (λ _. O.lost out.new [] × GotMore O.got out.old out.new (part operator.new.seen operator.old.drained operator.new.drained)) }
+    ensures good { IfOk result (λ _. (l : List Noted) → MayDrain (IsLegal plant.now.set) O.got O.good operator.old out.old l → (k : List Noted) × MayDrain (IsLegal plant.now.set) O.got O.good operator.new out.new k) }
+    ensures err { IfErr result (λ _. Rose (O.stops out.old) (O.stops out.new) × O.lost out.new (part operator.new.seen operator.old.drained operator.new.drained) × GotMore O.got out.old out.new []) }
+{
+    plant.drain(rt, operator, usize::MAX, spare);
+    let put = out.put(spare.as_slice());
+    spare.clear();
+    put
+}
+
+fn stop_of(halt: Halt) -> RunStop
+    ensures { result ≡ run_stop halt }
+{
+    match halt {
+        Halt::Refused { job, reply } => RunStop::Refused { job, reply },
+        Halt::NoPlan { tx, cause } => RunStop::NoPlan { tx, cause },
+    }
+}
+
+// The stop of the first worker that met one.
+fn first_halt<B: Board, Y: Body>(workers: &[Worker<B, Y>]) -> Option<Halt>
+    ensures some { IfSome result (λ h. FirstHalt workers.now h) }
+    ensures none { IfNone result (All (λ w. w.halt ≡ None) workers.now) }
+{
+    for i in 0..workers.len() {
+        let worker = &workers[i];
+        match worker.halt {
+            Some(halt) => return Some(halt),
+            None => {}
+        }
+    }
+    None
+}
+
+fn are_done<B: Board, Y: Body>(members: &[Member<B, Y>]) -> bool
+    ensures { result ≡ true → All (λ m. m.jobs ≤ m.ended) members.now }
+{
+    for i in 0..members.len() {
+        let member = &members[i];
+        if member.ended < member.jobs {
+            return false;
+        }
+    }
+    true
+}
+
+fn all_done<B: Board, Y: Body>(workers: &[Worker<B, Y>]) -> bool
+    ensures { result ≡ true → All (λ w. All (λ m. m.jobs ≤ m.ended) w.members.items) workers.now }
+{
+    for i in 0..workers.len() {
+        let worker = &workers[i];
+        if !are_done(worker.members.as_slice()) {
+            return false;
+        }
+    }
+    true
+}
+
+fn has_members<B: Board, Y: Body>(workers: &[Worker<B, Y>]) -> bool
+    ensures { result ≡ false → All (λ w. length w.members.items ≡ 0) workers.now }
+{
+    for i in 0..workers.len() {
+        let worker = &workers[i];
+        if worker.members.len() > 0 {
+            return true;
+        }
+    }
+    false
+}
+
+fn clear_members<B: Board, Y: Body>(members: &mut Vec<Member<B, Y>>)
+    ensures { Each (Cleared Y.gives Y.stands) members.old.items members.new.items }
+{
+    for i in 0..members.len() {
+        let member = &mut members[i];
+        member.clear();
+    }
+}
+
+// A worker as a run begins.
+fn clear_worker<B: Board, Y: Body>(worker: &mut Worker<B, Y>)
+    ensures { WorkerCleared Y.gives Y.stands worker.old worker.new }
+{
+    clear_members(&mut worker.members);
+    worker.halt = None;
+}
+
+fn clear_all<B: Board, Y: Body>(workers: &mut [Worker<B, Y>])
+    ensures { Each (WorkerCleared Y.gives Y.stands) workers.old workers.new }
+{
+    for i in 0..workers.len() {
+        let worker = &mut workers[i];
+        clear_worker(worker);
+    }
+}
+
+// Rounds of workers that have been cleared.
+fn rounds<R: Threads + Wait + Sync, B: Board + Send, Y: Body + Send, G: Gate + Sync, O: EntryOut>(
+    rt: &R,
+    plant: &Plant<B>,
+    workers: &mut [Worker<B, Y>],
+    operator: &mut Seat<B>,
+    spare: &mut Vec<Entry>,
+    gate: &G,
+    out: &mut O,
+) -> Result<(), RunStop>
+    requires sit { All (WorkerSits Y.gives Y.stands plant.now) workers.old }
+    requires clear { All (λ w. w.halt ≡ None) workers.old }
+    requires plant { IsOf plant.now operator.old }
+    requires operator { operator.old.tx ≡ None }
+    requires spare { spare.old.items ≡ [] }
+    requires lost { O.lost out.old [] }
+    requires good { (l : List Noted) × MayDrain (IsLegal plant.now.set) O.got O.good operator.old out.old l }
+    ensures ran { Each (WorkerRan Y.gives Y.stands plant.now) workers.old workers.new }
+    ensures done { IfOk result (λ _. All (λ w. All (λ m. m.jobs ≤ m.ended) w.members.items) workers.new) }
+    ensures none { IfOk result (λ _. All (λ w. w.halt ≡ None) workers.new) }
+    ensures stop { IfErr result (λ s. HaltIs workers.new s) }
+    ensures operated { Operated operator.old operator.new }
+    ensures spare { (spare.new.items ≡ []) × (vec_capacity spare.new ≡ vec_capacity spare.old) }
+    ensures stops { O.stops out.old ≤ O.stops out.new }
+    ensures got { IfStopped result (Rose (O.stops out.old) (O.stops out.new) × CollectedTo O.got O.lost operator.old operator.new out.old out.new) (Collected O.got O.lost operator.old operator.new out.old out.new) }
+{
+    let Ok(()) = drain_all(rt, plant, operator, spare, out) else {
+        return Err(RunStop::Stopped);
+    };
+    for _ in rt.forever() {
+        if all_done(workers) {
+            return Ok(());
+        }
+        round_all(rt, plant, workers, gate);
+        let Ok(()) = drain_all(rt, plant, operator, spare, out) else {
+            return Err(RunStop::Stopped);
+        };
+        match first_halt(workers) {
+            Some(halt) => return Err(stop_of(halt)),
+            None => {}
+        }
+    }
+    unreachable!()
+}
+
+/// Runs all workers, each in a thread of its own where one can be made, in rounds, until of every member's transaction
+/// as many jobs have ended as it is to have. Before the first round and after each it drains the kept entries through
+/// `spare` to `out`. In a round a worker goes at most sixteen times through its members; each time it makes one step try
+/// for each member, a plan try for an eager one whose planned jobs have ended, and a try to idle where no member's job is
+/// pending. A try that finds the journal full ends the worker's part of the round, and is made again after the next
+/// drain. A worker that meets a stop makes no further try. At its start it clears what workers and members keep from an
+/// earlier call. It takes no memory, and it may wait.
+///
+/// That no two members have the same transaction, that a member's transaction has exactly `jobs` planned jobs, or none if
+/// it is eager, and that `spare` has reserved places for the board's room, is left to the caller: no promise needs it.
+///
+/// Refused and NoPlan are the stop of the first worker that met one, in the first round in which some worker did. Where
+/// the out failed in the drain after that round, Stopped comes in their place. Stopped comes only where the stops of
+/// `out` rose in this call.
+pub fn run_all<
+    R: Threads + Wait + Sync,
+    B: Board + Send,
+    Y: Body + Send,
+    G: Gate + Sync,
+    O: EntryOut,
+>(
+    rt: &R,
+    plant: &Plant<B>,
+    workers: &mut [Worker<B, Y>],
+    operator: &mut Seat<B>,
+    spare: &mut Vec<Entry>,
+    gate: &G,
+    out: &mut O,
+) -> Result<(), RunStop>
+    requires members { All (λ w. All (MayRun plant.now) w.members.items) workers.old }
+    requires plant { IsOf plant.now operator.old }
+    requires operator { operator.old.tx ≡ None }
+    requires spare { spare.old.items ≡ [] }
+    requires lost { O.lost out.old [] }
+    requires good { (l : List Noted) × MayDrain (IsLegal plant.now.set) O.got O.good operator.old out.old l }
+    ensures members { Each (λ w u. Each (HasRun Y.gives plant.now) w.members.items u.members.items) workers.old workers.new }
+    ensures done { IfOk result (λ _. All (λ w. All (IsDone plant.now) w.members.items) workers.new) }
+    ensures none { IfOk result (λ _. All (λ w. w.halt ≡ None) workers.new) }
+    ensures stop { IfErr result (λ s. StopIs Y.gives plant.now workers.new s) }
+    ensures operated { Operated operator.old operator.new }
+    ensures spare { (spare.new.items ≡ []) × (vec_capacity spare.new ≡ vec_capacity spare.old) }
+    ensures stops { O.stops out.old ≤ O.stops out.new }
+    ensures got { IfStopped result (Rose (O.stops out.old) (O.stops out.new) × CollectedTo O.got O.lost operator.old operator.new out.old out.new) (Collected O.got O.lost operator.old operator.new out.old out.new) }
+{
+    clear_all(workers);
+    if !has_members(workers) {
+        return Ok(());
+    }
+    rounds(rt, plant, workers, operator, spare, gate, out)
+}

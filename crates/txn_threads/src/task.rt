@@ -1,0 +1,93 @@
+//! A body with its present serial number and operation.
+ghost use Rattle.std.specs.Prelude.{◌≡◌, ℕ, List, Some, None};
+ghost use Rattle.step_journal.specs.declared.entry.Entry.{Entry as Noted};
+ghost use Rattle.rt_base.specs.declared.operation.Op.{Op as Asked};
+ghost use Rattle.rt_base.specs.declared.ids.TxId.{TxId as Transaction};
+ghost use Rattle.board.specs.Stories.{step_entry};
+ghost use Rattle.shared_plant.specs.Answers.{with_own};
+ghost use Rattle.txn_threads.specs.Scripts.{job_of, NoSteps};
+ghost use Rattle.txn_threads.specs.Tasks.{Tied};
+
+use crate::gate::Gate;
+use board::StepReply;
+use rt_base::{Op, TxId};
+use step_script::Body;
+
+// The body of a transaction's jobs, the serial number of the present one, and its operation until that is done.
+#[derive(Drop)]
+pub(crate) struct Task<Y> {
+    pub(crate) body: Y,
+    pub(crate) serial: u32,
+    pub(crate) op: Option<Op>,
+}
+
+impl<Y: Body> Task<Y> {
+    // To the first job.
+    pub(crate) fn clear(&mut self)
+        ensures same { Y.gives self.new.body ≡ Y.gives self.old.body }
+        ensures tied { (tx : Transaction) (mine : List (ℕ × Noted)) → NoSteps tx mine → Tied Y.gives Y.stands tx mine self.new }
+    {
+        self.serial = 0;
+        self.op = None;
+        self.body.begin(0);
+    }
+
+    // The present operation. The body is asked where there is none yet.
+    pub(crate) fn operation<G: Gate>(&mut self, gate: &G, tx: TxId) -> Op
+        ensures same { Y.gives self.new.body ≡ Y.gives self.old.body }
+        ensures serial { self.new.serial ≡ self.old.serial }
+        ensures kept { self.new.op ≡ Some result }
+        ensures tied { (tx : Transaction) (mine : List (ℕ × Noted)) → Tied Y.gives Y.stands tx mine self.old → Tied Y.gives Y.stands tx mine self.new }
+    {
+        if let Some(op) = self.op {
+            return op;
+        }
+        gate.asked(tx);
+        let op = self.body.next();
+        gate.answered(tx);
+        self.op = Some(op);
+        op
+    }
+
+    // Goes on after the answer to the present operation.
+    pub(crate) fn hear(&mut self, reply: &StepReply)
+        ensures same { Y.gives self.new.body ≡ Y.gives self.old.body }
+        ensures tied { (tx : Transaction) (mine : List (ℕ × Noted)) (op : Asked) (now : ℕ) (story : List Noted) → Tied Y.gives Y.stands tx mine self.old → Tied Y.gives Y.stands tx (with_own mine story (step_entry now (job_of tx self.old.serial) op reply.now)) self.new }
+    {
+        match reply {
+            StepReply::Done { outcome, over } => {
+                self.op = None;
+                self.body.told(*outcome);
+                if over.is_some() {
+                    self.go_on();
+                }
+            }
+            StepReply::NoJob { ended, last: _ } => self.catch_up(*ended),
+            _ => {}
+        }
+    }
+
+    // To the next job.
+    fn go_on(&mut self)
+        ensures same { Y.gives self.new.body ≡ Y.gives self.old.body }
+        ensures tied { (tx : Transaction) (mine : List (ℕ × Noted)) → Tied Y.gives Y.stands tx mine self.old → Tied Y.gives Y.stands tx mine self.new }
+    {
+        if let Some(serial) = self.serial.checked_add(1) {
+            self.serial = serial;
+            self.op = None;
+            self.body.begin(serial);
+        }
+    }
+
+    // To the first job that has not ended.
+    fn catch_up(&mut self, ended: u32)
+        ensures same { Y.gives self.new.body ≡ Y.gives self.old.body }
+        ensures tied { (tx : Transaction) (mine : List (ℕ × Noted)) → Tied Y.gives Y.stands tx mine self.old → Tied Y.gives Y.stands tx mine self.new }
+    {
+        if self.serial < ended {
+            self.serial = ended;
+            self.op = None;
+            self.body.begin(ended);
+        }
+    }
+}
