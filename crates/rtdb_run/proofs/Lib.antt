@@ -5,3 +5,4 @@ pub mod FixedTicks
 pub mod Ready
 pub mod FixedMore
 pub mod Replying
+pub mod Fitting

@@ -1,5 +1,5 @@
 //! The run of a scenario on one board.
-ghost use Rattle.std.specs.Prelude.{◌≡◌, ◌≤◌, ◌^◌, [], length, IfOk, true, false};
+ghost use Rattle.std.specs.Prelude.{◌≡◌, ◌<◌, [], length, IfOk, true, false};
 ghost use Rattle.sim_run.specs.Workloads.{workload};
 ghost use Rattle.scenario.specs.Shown.{shown};
 ghost use Rattle.scenario.specs.Scenarios.{IsScenario};
@@ -14,6 +14,7 @@ use crate::text::finals;
 use crate::ticks::{all_fixed, any_eager};
 use admitted_core::AdmittedCore;
 use board::Board;
+use entry_out::KeptEntries;
 use item_model::Items;
 use lock_core::Core;
 use rt_base::{List, Names, OutOfMemory, Tick};
@@ -23,6 +24,9 @@ use sim_run::run;
 use std::alloc::Global;
 use step_script::Script;
 use txn_set::CompiledSet;
+
+// How many entries the board of a run keeps at most.
+const BOARD_ROOM: usize = 4_096;
 
 // What a run has but its board.
 #[derive(Drop)]
@@ -56,21 +60,40 @@ fn prepared(
     })
 }
 
-// The items that the run of these scripts leaves on a new board.
-fn left_on<B: Board>(board: B, bodies: Bodies) -> Items
+// The items that the run of these scripts leaves on a new board. Its entries are kept, with places for so many.
+fn left_on<B: Board + Drop>(
+    alloc: Global,
+    board: B,
+    bodies: Bodies,
+    room: usize,
+) -> Result<Items, OutOfMemory>
     requires opened { B.stands board [] }
-    requires ready { IsReady (B.set board) (B.room board) bodies.scripts.items (length bodies.serials.items) bodies.ticks.items }
-    ensures { IsLeftBy (workload (B.set board) (functions_of bodies.scripts.items) bodies.ticks.items) result }
+    requires pieces { 1024 < B.room board }
+    requires ready { IsReady (B.set board) room bodies.scripts.items (length bodies.serials.items) bodies.ticks.items }
+    ensures { IfOk result (λ items. IsLeftBy (workload (B.set board) (functions_of bodies.scripts.items) bodies.ticks.items) items) }
 {
+    board.set().is_compiled();
+    let mut kept = KeptEntries::with_room(alloc, room)?;
+    let mut spare = Vec::with_capacity(alloc, board.room())?;
     let mut board = board;
     let Bodies {
         mut scripts,
         mut serials,
         ticks,
     } = bodies;
-    run(&mut board, &mut scripts, &mut serials, &ticks);
+    match run(
+        &mut board,
+        &mut scripts,
+        &mut serials,
+        &ticks,
+        &mut spare,
+        &mut kept,
+    ) {
+        Ok(()) => {}
+        Err(_) => unreachable!(),
+    }
     let (items, _entries) = board.into_parts();
-    items
+    Ok(items)
 }
 
 // The final lines of a trial.
@@ -81,14 +104,13 @@ fn trial_text(
     room: usize,
     bodies: Bodies,
 ) -> Result<Vec<u8>, OutOfMemory>
-    requires small { room ≤ 2 ^ 20 }
     requires ready { IsReady set room bodies.scripts.items (length bodies.serials.items) bodies.ticks.items }
     ensures { IfOk result (λ text. IsTextBy names.now (workload set (functions_of bodies.scripts.items) bodies.ticks.items) text.items) }
 {
-    let Ok(board) = Core::new(alloc, set, room) else {
+    let Ok(board) = Core::new(alloc, set, BOARD_ROOM) else {
         return Err(OutOfMemory);
     };
-    let items = left_on(board, bodies);
+    let items = left_on(alloc, board, bodies, room)?;
     finals(alloc, names.items.as_slice(), items.as_slice())
 }
 
@@ -100,14 +122,13 @@ fn admitted_text(
     room: usize,
     bodies: Bodies,
 ) -> Result<Vec<u8>, OutOfMemory>
-    requires small { room ≤ 2 ^ 20 }
     requires ready { IsReady set room bodies.scripts.items (length bodies.serials.items) bodies.ticks.items }
     ensures { IfOk result (λ text. IsTextBy names.now (workload set (functions_of bodies.scripts.items) bodies.ticks.items) text.items) }
 {
-    let Ok(board) = AdmittedCore::new(alloc, set, room) else {
+    let Ok(board) = AdmittedCore::new(alloc, set, BOARD_ROOM) else {
         return Err(OutOfMemory);
     };
-    let items = left_on(board, bodies);
+    let items = left_on(alloc, board, bodies, room)?;
     finals(alloc, names.items.as_slice(), items.as_slice())
 }
 
