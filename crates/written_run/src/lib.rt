@@ -5,6 +5,3 @@ mod lines;
 mod written;
 
 pub use written::{RunFault, write_run};
-
-#[cfg(test)]
-mod tests;

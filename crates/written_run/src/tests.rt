@@ -1,1 +1,0 @@
-//! Reports written while runs go on.
