@@ -3,3 +3,4 @@ pub mod Answering
 pub mod Laters
 pub mod Closing
 pub mod Starting
+pub mod Apart
