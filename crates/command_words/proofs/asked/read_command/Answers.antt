@@ -1,0 +1,26 @@
+use Rattle.std.proofs.Common.{◌≡◌, ◌∙◌, true, false, ap, inl, inr, rules}
+use Rattle.clap.specs.Values.{kind_of}
+use Rattle.command_words.specs.Asking.{is_askable, said}
+use Rattle.command_words.proofs.Replies.{refused, told, unasked}
+use Rattle.command_words.proofs.asked.read_command.Goals as goal
+
+pub returns-then-not-is_askable-clause-command : goal.returns-then-not-is_askable-clause-command
+returns-then-not-is_askable-clause-command c =
+    let asked : is_askable c.args.words.now ≡ false = search rules in
+    unasked c.args.words.now asked
+
+pub returns-in-Ok-clause-command : goal.returns-in-Ok-clause-command
+returns-in-Ok-clause-command c =
+    let asked : is_askable c.args.words.now ≡ true = search rules in
+    c.told.ensures.command ∙ (ap said c.in-Ok.ensures.found ∙ told c.args.words.now asked c.in-Ok.ensures.kinds)
+
+pub returns : goal.returns
+returns c =
+    let asked : is_askable c.args.words.now ≡ true = search rules in
+    record {
+      command = elim c.in-Err.ensures.kinds [
+        | inl memory ↦ absurd (c.in_default.not-OutOfMemory (c.kind.ensures ∙ memory))
+        | inr among ↦ refused c.args.words.now (kind_of c.in-Err.error) asked among
+      ];
+      in_range = tt;
+    }
