@@ -1,19 +1,17 @@
 -- At the program's own level clap goes on to the subcommand that the first word names, or refuses it.
-use Rattle.std.proofs.Common.{◌≡◌, ◌∙◌, ℕ, Bool, true, false, List, [], ◌∷◌, map, Option, Some, None, refl, sym, ap, ap₂, if◌then◌else◌, codes}
+use Rattle.std.proofs.Common.{◌≡◌, ◌∙◌, Bool, false, List, [], ◌∷◌, Option, Some, None, refl, sym, ap, ap₂, codes}
 use Rattle.std.specs.List.{fold}
 use Rattle.std.specs.Option.{option_map_or, option_map}
 use Rattle.std.specs.Prelude.{is_some, find}
 use Rattle.std.specs.Str.{bytes_eq}
-use Rattle.clap.specs.Lexer.{long_of, short_of}
-use Rattle.clap.specs.Walk.{Held, Names, Row, Rule, Step, Text, Waiting, Walk, idle, trailing, after_step, answers_to, finished, long_or_other, nothing_held, plain_word, settled, short_or_plain, stop_after, subcommand_met, subcommand_or_other, walk, walk_from, walked, walked_from, word_met}
-use Rattle.clap.specs.Simple.{App, Shape, built, entered, label_of, names_of, rows_at, subcommand_of}
+use Rattle.clap.specs.Walk.{Held, Names, Step, Text, Walk, idle, answers_to, finished, nothing_held, settled, subcommand_met, subcommand_or_other, walk, walk_from, walked}
+use Rattle.clap.specs.Simple.{Shape, built, entered, label_of, names_of, rows_at, subcommand_of}
 use Rattle.clap.specs.Kinds.{Kinds, or_else}
-use Rattle.clap.specs.Faults.{bundle_fault, check_fault, defaults_fault, entered_fault, fault_of, flag_word_fault, level_fault, other_fault, settle_fault, step_fault, stray_fault, turn_fault, walk_fault, word_fault}
+use Rattle.clap.specs.Faults.{check_fault, defaults_fault, entered_fault, fault_of, level_fault, other_fault, settle_fault, step_fault, stray_fault, turn_fault, walk_fault}
 use Rattle.clap.specs.declared.error.kind.ErrorKind.{ErrorKind}
 use Rattle.clap.specs.declared.error.kind.ErrorKind.TheVariants as kind
 use Rattle.clap.proofs.WalkLemmas.{walk_stopped}
 use Rattle.clap.proofs.FaultLemmas.{stopped_fault}
-use Rattle.clap.proofs.OnLiterals.{clap_on_literals}
 use Rattle.command_words.specs.Shape.{rtdb}
 use Rattle.command_words.proofs.Walks.{IsPlainWord, met_plain, no_fault as no_plain_fault}
 

@@ -1,6 +1,6 @@
 -- The builders of clap make the lines of the definition.
-use Rattle.std.proofs.Common.{◌≡◌, ◌∙◌, ◌||◌, true, false, ap, ap₂, codes, refl}
-use Rattle.clap.specs.Words.{AddsSubcommand, App, app_of, is_simple, is_simple_and_free, new_app, with_subcommand}
+use Rattle.std.proofs.Common.{◌≡◌, ◌∙◌, ◌||◌, true, ap, ap₂, codes, refl}
+use Rattle.clap.specs.Words.{AddsSubcommand, App, is_simple, is_simple_and_free, new_app, with_subcommand}
 use Rattle.clap.specs.Simple.{app_of_fields}
 use Rattle.clap.specs.declared.builder.command.Command.{Command}
 use Rattle.clap.specs.declared.builder.command.Command.TheOpen.{Command-F}

@@ -1,6 +1,6 @@
 -- Words that are parts, as the walk of clap sees them.
-use Rattle.std.proofs.Common.{◌≡◌, ◌∙◌, ℕ, ◌<◌, ◌^◌, ◌==◌, Bool, true, false, List, [], ◌∷◌, ◌++◌, map, length, take, drop, Option, Some, None, refl, sym, ap, ap₂, subst, codes, true≢false, arith, if◌then◌else◌, decimal}
-use Rattle.std.specs.Prelude.{◌&&◌, is_some, option_and_then, option_map, nat_eq}
+use Rattle.std.proofs.Common.{◌≡◌, ◌∙◌, ℕ, ◌<◌, ◌==◌, Bool, true, false, List, [], ◌∷◌, ◌++◌, map, length, take, drop, Option, Some, None, refl, sym, ap, ap₂, subst, codes, true≢false, arith, if◌then◌else◌, decimal}
+use Rattle.std.specs.Prelude.{◌&&◌, is_some, option_and_then, option_map}
 use Rattle.std.specs.List.{list_all}
 use Rattle.std.specs.Int.{IsInRange}
 use Rattle.std.specs.Str.{bytes_eq}

@@ -5,7 +5,7 @@ use Rattle.std.specs.List.{list_all}
 use Rattle.std.proofs.lemmas.Bool.{eqb-true}
 use Rattle.std.specs.Str.{bytes_eq}
 use Rattle.std.proofs.lemmas.Slice.Eq.{bytes_eq-Decides}
-use Rattle.clap.specs.Walk.{Row, answers_to, nothing_held, walked}
+use Rattle.clap.specs.Walk.{answers_to, nothing_held, walked}
 use Rattle.clap.specs.Simple.{Shape, built, label_of, rows_at, subcommand_of}
 use Rattle.clap.specs.Kinds.{IsAmong, Kinds}
 use Rattle.clap.specs.Faults.{fault_of, level_fault, turn_fault}
@@ -16,7 +16,7 @@ use Rattle.line_fields.proofs.CutLaws.{both_true}
 use Rattle.command_words.specs.declared.command.Command.{Command}
 use Rattle.command_words.specs.declared.command.PlainCommand.TheVariants.{Ceilings, Admit, Replay}
 use Rattle.command_words.specs.Commands.{Text, Part, alone, command_of, gen_of, load_of, named, number_of, parts_of, run_of}
-use Rattle.command_words.specs.Asking.{begins_with_number, is_askable, is_name, is_part, said, said_of, wants_number}
+use Rattle.command_words.specs.Asking.{begins_with_number, is_askable, is_name, is_part, said, wants_number}
 use Rattle.command_words.specs.Shape.{generating, rtdb}
 use Rattle.command_words.proofs.Walks.{IsPlainWord, fault_by, fault_is, rows_are, rows_by, text_of}
 use Rattle.command_words.proofs.Enters.{IsNoName, fault_below, fault_there, names, rows_below, start, stopped_at, top}

@@ -1,11 +1,10 @@
 -- What is looked at before clap is asked, and what clap's answer says.
-use Rattle.std.specs.Prelude.{ℕ, ◌&&◌, ◌||◌, ◌==◌, List, [], ◌∷◌, is_some, codes, if◌then◌else◌, Option, Some, None, option_map, option_and_then, Bool, true, false, not}
+use Rattle.std.specs.Prelude.{ℕ, ◌&&◌, ◌||◌, ◌==◌, List, [], ◌∷◌, is_some, codes, if◌then◌else◌, Option, Some, None, option_map, option_and_then, Bool, false, not}
 use Rattle.std.specs.List.{list_all}
 use Rattle.std.specs.Option.{option_map_or}
 use Rattle.std.specs.Str.{bytes_eq}
 use Rattle.clap.specs.Words.{Row, first_of}
 use Rattle.command_words.specs.declared.command.Command.{Command}
-use Rattle.command_words.specs.declared.command.PlainCommand.{PlainCommand}
 use Rattle.command_words.specs.declared.command.PlainCommand.TheVariants.{Ceilings, Admit, Replay, Gen}
 use Rattle.command_words.specs.declared.command.Command.TheVariants.{Plain, Run, Load}
 use Rattle.command_words.specs.Commands.{Text, part_of, number_of}

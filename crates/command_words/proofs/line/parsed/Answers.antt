@@ -1,11 +1,9 @@
-use Rattle.std.proofs.Common.{◌≡◌, ◌∙◌, ap, ap₂, subst, map}
+use Rattle.std.proofs.Common.{◌∙◌, ap, ap₂, subst}
 use Rattle.std.proofs.lemmas.List.{map-id}
 use Rattle.std.proofs.lemmas.Result.{IfOk-weaker}
-use Rattle.clap.specs.Words.{App, is_simple, is_simple_and_free, subcommand_of}
+use Rattle.clap.specs.Words.{is_simple, is_simple_and_free, subcommand_of}
 use Rattle.clap.specs.Kinds.{FailsBy}
 use Rattle.clap.specs.Faults.{fault_of}
-use Rattle.command_words.specs.Commands.{Text}
-use Rattle.command_words.specs.Shape.{rtdb}
 use Rattle.command_words.proofs.Lines.{simple, simple_and_free}
 use Rattle.command_words.proofs.line.parsed.Goals as goal
 
