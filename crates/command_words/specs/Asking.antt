@@ -25,12 +25,13 @@ begins_with_number (word ∷ words) = is_some (number_of word)
 abbrev pub wants_number : Text → Bool
 wants_number name = bytes_eq name (codes "gen") || bytes_eq name (codes "load")
 
--- The words are looked at by clap: else they are none of the commands'.
+-- Clap is asked about the words; else they are no command's.
 abbrev pub is_askable : List Text → Bool
 is_askable [] = false
 is_askable (name ∷ words) =
     is_name name && (list_all is_part words && (not (wants_number name) || begins_with_number words))
 
+-- what clap's rows say of a flag
 abbrev pub is_true : Option Text → Bool
 is_true text = option_map_or (λ t. bytes_eq t (codes "true")) text false
 

@@ -10,6 +10,7 @@ use Rattle.command_words.specs.declared.command.Command.TheVariants.{Plain, Run,
 abbrev pub Text : Type 0
 Text = List ℕ
 
+-- the numbers from 1 to 64 alone
 abbrev pub up_to_most : ℕ → Option ℕ
 up_to_most n = if nat_le 1 n && nat_le n 64 then Some n else None
 
@@ -24,16 +25,20 @@ pub data Part : Type 0 where
   workers_are : ℕ → Part
   number : ℕ → Part
 
+-- the word as a number
 abbrev pub number_part : Text → Option Part
 number_part word = option_map (λ n. number n) (number_of word)
 
+-- as `--workers=N`, or as a number
 abbrev pub workers_part : Text → Option Part
 workers_part word =
     if bytes_eq (take 10 word) (codes "--workers=") then option_map (λ n. workers_are n) (number_of (drop 10 word)) else number_part word
 
+-- as `--workers`, or as one of these
 abbrev pub option_part : Text → Option Part
 option_part word = if bytes_eq word (codes "--workers") then Some workers else workers_part word
 
+-- the part that the word is, if any
 abbrev pub part_of : Text → Option Part
 part_of word = if bytes_eq word (codes "--trial") then Some trial else option_part word
 
@@ -71,6 +76,7 @@ abbrev pub alone : PlainCommand → List Part → Option Command
 alone command [] = Some (Plain command)
 alone command _ = None
 
+-- by the first word
 abbrev pub named : Text → List Part → Option Command
 named name parts =
     if bytes_eq name (codes "ceilings") then alone Ceilings parts

@@ -14,6 +14,7 @@ workers = record (new_rule (codes "workers")) { long = Some (codes "workers") }
 abbrev pub number : Rule
 number = record (new_rule (codes "number")) { required = true }
 
+-- the subcommands with arguments
 abbrev pub running : App
 running = with_rule (with_rule (new_app (codes "run")) trial) workers
 
@@ -29,6 +30,7 @@ bare = record (new_app (codes "rtdb")) {
   top = record (new_app (codes "rtdb")).top { no_binary_name = true; disable_help_flag = true; disable_help_subcommand = true };
 }
 
+-- the whole line
 abbrev pub rtdb : App
 rtdb =
     with_subcommand (with_subcommand (with_subcommand (with_subcommand (with_subcommand (with_subcommand bare (new_app (codes "ceilings")).top) (new_app (codes "admit")).top)

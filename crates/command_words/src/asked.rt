@@ -27,6 +27,7 @@ fn number(word: &[u8]) -> Option<u32>
     }
 }
 
+// The same as a test, and those of the other forms of words.
 fn is_number(word: &[u8]) -> bool
     ensures { result ≡ is_some (number_part word.now) }
 {
@@ -158,6 +159,7 @@ fn named(name: &str, matches: &ArgMatches<'_>) -> Option<Command>
     }
 }
 
+// What clap's answer asks for.
 fn told(matches: &ArgMatches<'_>) -> Option<Command>
     ensures command { result ≡ said (subcommand_rows_of matches.now) }
     ensures in_range { IfSome result IsInRange }

@@ -1,11 +1,11 @@
 -- Entries of two seats stand at distinct places.
-use Rattle.std.proofs.Common.{◌≡◌, ◌≢◌, ℕ, ◌+◌, ◌≤◌, List, [], ◌∷◌, length, refl, sym, ap, subst, arith, nat_eq, nat_lt, if◌then◌else◌}
+use Rattle.std.proofs.Common.{◌≡◌, ◌≢◌, ℕ, ◌≤◌, List, [], ◌∷◌, length, sym, ap, subst, arith}
 use Rattle.std.proofs.lemmas.Bool.Decides.{nat_tests}
 use mathlib.Core.Option.{some}
 use lib.ListN.{get_elem?}
 use Rattle.step_journal.specs.declared.entry.Entry.{Entry}
 use Rattle.txn_set.specs.Set.{Set}
-use Rattle.turn_cell.specs.Turn.{times, below, total}
+use Rattle.turn_cell.specs.Turn.{times, below}
 use Rattle.turn_cell.proofs.Sums.{terms_le}
 use Rattle.shared_plant.specs.Seats.{PlantFacts, SeatFacts, Closed, times_of}
 
