@@ -1,0 +1,4 @@
+mod Waiting
+mod Near
+mod Open
+mod Scenario

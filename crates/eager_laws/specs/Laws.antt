@@ -1,0 +1,59 @@
+-- The next job of an eager transaction can always be planned, and so in the run of a scenario.
+use Rattle.std.specs.Prelude.{◌≡◌, ℕ, ◌+◌, ◌<◌, false, List, [], length, Ok, Err}
+use Rattle.std.specs.List.{list_any}
+use Rattle.rt_base.specs.declared.release.PlanRefused.{PlanRefused}
+use Rattle.txn_set.specs.Set.{IsCompiled}
+use Rattle.step_journal.specs.declared.entry.Entry.{Entry}
+use Rattle.step_journal.specs.Step.{next_job}
+use Rattle.step_journal.specs.History.{state_of}
+use Rattle.board.specs.Answers.{next_tick_for}
+use Rattle.board.specs.Stories.{plan_next_answer}
+use Rattle.txn_threads.specs.Rounds.{IsCause}
+use Rattle.counting_laws.specs.Counting.{plan_count}
+use Rattle.sim_history.specs.Sim.{Workload}
+use Rattle.sim_run.specs.Workloads.{ticks_of}
+use Rattle.plant_history.specs.Histories.{IsRunSoFar}
+use Rattle.scenario.specs.Shown.{Shown}
+use Rattle.scenario.specs.Releases.{is_eager, jobs_of, releases_of}
+use Rattle.scenario.specs.Scenarios.{IsScenario}
+use Rattle.workload_laws.specs.Runs.{workload_of}
+use Rattle.eager_laws.specs.Plannable.{ArePlannable, own_of}
+
+-- In a run so far a transaction of the set has jobs left: not all that are released or that it plans itself are planned.
+pub record HasJobsLeft (w : Workload) (own : ℕ → ℕ) (history : List Entry) (tx : ℕ) : Type 0 where
+  pub run : IsRunSoFar w own history
+  pub in_set : tx < length w.set.txns
+  pub left : plan_count history tx < length (ticks_of w.releases tx) + own tx
+
+-- then no refusal of its next job stops a worker
+abbrev pub NextIsPlanned : Type 0
+NextIsPlanned =
+    (w : Workload) (own : ℕ → ℕ) (history : List Entry) (tx kept room : ℕ) (e : PlanRefused) → IsCompiled w.set
+    → ArePlannable w own → HasJobsLeft w own history tx
+    → Err e ≡ plan_next_answer w.set history kept room tx → IsCause e → ⊥
+
+-- and where there is room for an entry it is planned, for the earliest tick that may be
+abbrev pub NextIsGiven : Type 0
+NextIsGiven =
+    (w : Workload) (own : ℕ → ℕ) (history : List Entry) (tx kept room : ℕ) → IsCompiled w.set
+    → ArePlannable w own → HasJobsLeft w own history tx → kept < room
+    → plan_next_answer w.set history kept room tx
+    ≡ Ok (next_job (state_of w.set history) tx, next_tick_for w.set (state_of w.set history) tx)
+
+-- the eager jobs of a scenario can be planned
+abbrev pub ScenarioIsPlannable : Type 0
+ScenarioIsPlannable = (s : Shown) → IsScenario s → ArePlannable (workload_of s) (own_of s)
+
+-- a transaction that plans jobs itself has no release
+abbrev pub EagerHaveNoReleases : Type 0
+EagerHaveNoReleases = (s : Shown) (tx : ℕ) → 0 < own_of s tx → ticks_of (workload_of s).releases tx ≡ []
+
+-- its releases and the jobs that it plans itself are together the jobs of a transaction
+abbrev pub AllJobsAre : Type 0
+AllJobsAre =
+    (s : Shown) (tx : ℕ) → IsScenario s
+    → length (ticks_of (workload_of s).releases tx) + own_of s tx ≡ jobs_of (releases_of s.releases tx)
+
+-- where no releases are eager no transaction plans a job itself
+abbrev pub NoneEager : Type 0
+NoneEager = (s : Shown) → list_any is_eager s.releases ≡ false → (tx : ℕ) → own_of s tx ≡ 0
