@@ -1,4 +1,6 @@
 mod Waiting
+mod Plans
 mod Near
 mod Open
 mod Scenario
+mod Fits

@@ -1,71 +1,29 @@
 -- The next job of a transaction that has jobs left is planned: it does not come too late, and there is a place and a
 -- serial for it.
-use Rattle.std.proofs.Common.{◌≡◌, ℕ, zero, suc, ◌+◌, ◌*◌, ◌-◌, ◌^◌, ◌<◌, ◌≤◌, Bool, true, false, cond, List, [], ◌∷◌, ◌++◌, length, map, Option, Some, None, Ok, Err, get_or, refl, ap, sym, ◌∙◌, subst, arith, add-mul, one-mul, mul-le-mul_right}
-use Rattle.std.proofs.lemmas.Bool.{eq-eqb, le-ltb, lt-leb}
-use Rattle.std.proofs.lemmas.List.FromFn.{sum_by-map-range_with_len_more}
+use Rattle.std.proofs.Common.{◌≡◌, ℕ, ◌+◌, ◌*◌, ◌-◌, ◌^◌, ◌<◌, ◌≤◌, Bool, true, false, cond, List, [], ◌∷◌, ◌++◌, length, Option, Some, None, Ok, Err, refl, ap, sym, ◌∙◌, subst, arith, add-mul, one-mul, mul-le-mul_right}
+use Rattle.std.proofs.lemmas.Bool.{le-ltb, lt-leb}
 use Rattle.std.specs.Prelude.{nat_lt, nat_le}
-use Rattle.std.specs.List.{sum, range_with_len}
 use Rattle.rt_base.specs.declared.ids.JobId.{JobId}
 use Rattle.rt_base.specs.declared.release.PlanRefused.{PlanRefused}
 use Rattle.rt_base.specs.declared.release.PlanRefused.TheVariants.{Past, TooSoon, TooFar, CalendarFull, NoSerial, Full}
 use Rattle.rt_base.specs.Planning.{last_tick, most_serials, calendar_refusal}
 use Rattle.txn_set.specs.Set.{Set, IsCompiled}
 use Rattle.step_journal.specs.declared.entry.Entry.{Entry}
-use Rattle.step_journal.specs.declared.entry.Entry.TheVariants.{Planned, Step, Blocked, Idle}
+use Rattle.step_journal.specs.declared.entry.Entry.TheVariants.{Planned}
 use Rattle.step_journal.specs.Step.{plans_of, earliest, next_job}
 use Rattle.step_journal.specs.History.{IsLegal, state_of}
 use Rattle.board.specs.Answers.{most_planned, unless_refused, at_tick, next_tick_for}
 use Rattle.board.specs.Stories.{plan_next_answer}
-use Rattle.counting_laws.specs.Counting.{plans_in, plan_count, greatest_period}
+use Rattle.counting_laws.specs.Counting.{plan_count, greatest_period}
 use Rattle.counting_laws.proofs.Sums.{sum_below, sum_le, sum_member}
 use Rattle.counting_laws.proofs.Rooms.{count_more}
 use Rattle.counting_laws.proofs.CountingAll.{time_bounded}
-use Rattle.sim_history.specs.Sim.{Workload, plans_from, plans}
-use Rattle.sim_run.specs.Workloads.{ticks_of}
+use Rattle.sim_history.specs.Sim.{Workload, plans}
 use Rattle.txn_threads.specs.Rounds.{IsCause}
 use Rattle.eager_laws.specs.Plannable.{own_jobs, ArePlannable}
 use Rattle.eager_laws.specs.Laws.{HasJobsLeft, NextIsPlanned, NextIsGiven}
 use Rattle.eager_laws.proofs.Near.{IsNear, plan_more, next_near, run_near}
-
--- all own jobs as a sum over the numbers of the transactions
-pub own_sum : (own : ℕ → ℕ) (n : ℕ) → sum (map own (range_with_len 0 n)) ≡ sum_below own n
-own_sum own zero = refl
-own_sum own (suc n) =
-    let more : suc n ≡ n + 1 = omega arith in
-    let step : sum (map own (range_with_len 0 (n + 1))) ≡ sum (map own (range_with_len 0 n)) + own n = sum_by-map-range_with_len_more (λ (k : ℕ). k) own 0 n n (omega arith) in
-    ap (λ (k : ℕ). sum (map own (range_with_len 0 k))) more ∙ (step ∙ ap (λ (k : ℕ). k + own n) (own_sum own n))
-
--- the plans of a transaction
-
-count_append : (xs ys : List Entry) (n : ℕ) → plan_count (xs ++ ys) n ≡ plan_count xs n + plan_count ys n
-count_append [] ys n = omega arith
-count_append (x ∷ xs) ys n = omega (arith, count_append xs ys n)
-
-bit_le : (b : Bool) → cond b 1 0 ≤ 1
-bit_le true = omega arith
-bit_le false = omega arith
-
-one_at_most : (n : ℕ) (e : Entry) → plans_in n e ≤ 1
-one_at_most n (Planned tx tick) = bit_le _
-one_at_most n (Step job op outcome over tick) = omega arith
-one_at_most n (Blocked job op by ceiling tick) = omega arith
-one_at_most n (Idle from to) = omega arith
-
-count_few : (es : List Entry) (n : ℕ) → plan_count es n ≤ length es
-count_few [] n = omega arith
-count_few (e ∷ es) n = omega (arith, one_at_most n e, count_few es n)
-
-ticks_counted : (tx n : ℕ) (ticks : List ℕ) → n ≡ tx → plan_count (map (Planned (record { 0 = tx })) ticks) n ≡ length ticks
-ticks_counted tx n [] e = refl
-ticks_counted tx n (tick ∷ ticks) e = omega (arith, ap {B = ℕ} (λ (b : Bool). cond b 1 0) (eq-eqb n tx e), ticks_counted tx n ticks e)
-
--- each release of a transaction has a plan
-releases_counted : (tx n k : ℕ) (releases : List (List ℕ)) → n ≡ tx + k → length (get_or releases k []) ≤ plan_count (plans_from tx releases) n
-releases_counted tx n k [] e = omega arith
-releases_counted tx n zero (ticks ∷ rest) e =
-    omega (arith, count_append (map (Planned (record { 0 = tx })) ticks) (plans_from (tx + 1) rest) n, ticks_counted tx n ticks (omega (arith, e)))
-releases_counted tx n (suc k) (ticks ∷ rest) e =
-    omega (arith, count_append (map (Planned (record { 0 = tx })) ticks) (plans_from (tx + 1) rest) n, releases_counted (tx + 1) n k rest (omega (arith, e)))
+use Rattle.eager_laws.proofs.Plans.{own_sum, count_append, count_few, releases_counted}
 
 -- what a plan for the next tick needs
 pub record IsOpen (set : Set) (es : List Entry) (tx : ℕ) : Type 0 where
@@ -78,7 +36,7 @@ next_open w own history tx ok few j =
     let r = j.run in
     let rest : List Entry = r.rest in
     let lt : tx < length w.set.txns = j.in_set in
-    let left : plan_count history tx < length (ticks_of w.releases tx) + own tx = j.left in
+    let left = j.left in
     let h : IsNear w own rest = run_near w own history ok r in
     let legal : IsLegal w.set (plans w ++ rest) = subst (IsLegal w.set) r.begins r.legal in
     let timed = time_bounded w.set (plans w ++ rest) ok legal in
@@ -140,4 +98,4 @@ next_planned = λ w own history tx kept room e ok few j answer cause.
 pub next_given : NextIsGiven
 next_given = λ w own history tx kept room ok few j lt.
     open_answer w.set history tx kept room (next_open w own history tx ok few j)
-    ∙ ap (λ (b : Bool). at_tick (next_tick_for w.set (state_of w.set history) tx) (cond b (Err (Full room)) (Ok (next_job (state_of w.set history) tx)))) (lt-leb room kept lt)
+    ∙ ap (λ (b : Bool). at_tick (next_tick_for w.set (state_of w.set history) tx) (cond b (Err (Full room)) (Ok (next_job (state_of w.set history) tx)))) (lt-leb room kept (omega (arith, lt)))

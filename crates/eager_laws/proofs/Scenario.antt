@@ -18,7 +18,7 @@ use Rattle.scenario.specs.Releases.{jobs_of, is_eager, eager_of, ticks_of, total
 use Rattle.scenario.specs.Scenarios.{IsScenario}
 use Rattle.eager_laws.specs.Plannable.{own_jobs, own_of}
 use Rattle.eager_laws.specs.Laws.{ScenarioIsPlannable, EagerHaveNoReleases, AllJobsAre, NoneEager}
-use Rattle.eager_laws.proofs.Open.{own_sum}
+use Rattle.eager_laws.proofs.Plans.{own_sum}
 
 -- jobs
 
@@ -91,7 +91,7 @@ no_ticks (t ∷ ts) (r ∷ rs) (suc tx) lt = no_ticks ts rs tx lt
 pub eager_alone : EagerHaveNoReleases
 eager_alone = λ s tx lt. no_ticks s.txns s.releases tx lt
 
-jobs_there : (ts : List TxnDecl) (rs : List Releases) (tx : ℕ) → length rs ≡ length ts
+pub jobs_there : (ts : List TxnDecl) (rs : List Releases) (tx : ℕ) → length rs ≡ length ts
     → length (get_or (fixed_ticks ts rs) tx []) + eager_of (get_or rs tx (At [])) ≡ jobs_of (get_or rs tx (At []))
 jobs_there [] [] tx same = omega arith
 jobs_there [] (r ∷ rs) tx same = absurd (omega (arith, same))

@@ -1,5 +1,5 @@
 -- The next job of an eager transaction can always be planned, and so in the run of a scenario.
-use Rattle.std.specs.Prelude.{◌≡◌, ℕ, ◌+◌, ◌<◌, false, List, [], length, Ok, Err}
+use Rattle.std.specs.Prelude.{◌≡◌, ℕ, ◌+◌, ◌<◌, ◌≤◌, false, List, [], length, Ok, Err}
 use Rattle.std.specs.List.{list_any}
 use Rattle.rt_base.specs.declared.release.PlanRefused.{PlanRefused}
 use Rattle.txn_set.specs.Set.{IsCompiled}
@@ -9,11 +9,11 @@ use Rattle.step_journal.specs.History.{state_of}
 use Rattle.board.specs.Answers.{next_tick_for}
 use Rattle.board.specs.Stories.{plan_next_answer}
 use Rattle.txn_threads.specs.Rounds.{IsCause}
-use Rattle.counting_laws.specs.Counting.{plan_count}
+use Rattle.counting_laws.specs.Counting.{plan_count, room_of_jobs}
 use Rattle.sim_history.specs.Sim.{Workload}
 use Rattle.sim_run.specs.Workloads.{ticks_of}
 use Rattle.plant_history.specs.Histories.{IsRunSoFar}
-use Rattle.scenario.specs.Shown.{Shown}
+use Rattle.scenario.specs.Shown.{Shown, set_of}
 use Rattle.scenario.specs.Releases.{is_eager, jobs_of, releases_of}
 use Rattle.scenario.specs.Scenarios.{IsScenario}
 use Rattle.workload_laws.specs.Runs.{workload_of}
@@ -40,6 +40,13 @@ NextIsGiven =
     → plan_next_answer w.set history kept room tx
     ≡ Ok (next_job (state_of w.set history) tx, next_tick_for w.set (state_of w.set history) tx)
 
+-- A run so far has at most the entries for which its jobs have room: those of its releases, and those that eager
+-- transactions plan themselves.
+abbrev pub RunFits : Type 0
+RunFits =
+    (w : Workload) (own : ℕ → ℕ) (history : List Entry) → IsCompiled w.set → IsRunSoFar w own history
+    → length history ≤ room_of_jobs w.set.txns (λ tx. length (ticks_of w.releases tx) + own tx)
+
 -- the eager jobs of a scenario can be planned
 abbrev pub ScenarioIsPlannable : Type 0
 ScenarioIsPlannable = (s : Shown) → IsScenario s → ArePlannable (workload_of s) (own_of s)
@@ -57,3 +64,18 @@ AllJobsAre =
 -- where no releases are eager no transaction plans a job itself
 abbrev pub NoneEager : Type 0
 NoneEager = (s : Shown) → list_any is_eager s.releases ≡ false → (tx : ℕ) → own_of s tx ≡ 0
+
+-- a scenario has room for the entries of all its jobs, eager ones too, and for more
+abbrev pub ScenarioHasRoom : Type 0
+ScenarioHasRoom =
+    (s : Shown) → IsScenario s
+    → room_of_jobs s.txns (λ tx. length (ticks_of (workload_of s).releases tx) + own_of s tx) < s.room
+
+-- so in each run of a scenario so far the next job of a transaction that has jobs left is planned, by a board of its room
+-- that keeps no more than the run's entries
+abbrev pub ScenarioPlansNext : Type 0
+ScenarioPlansNext =
+    (s : Shown) (history : List Entry) (tx kept : ℕ) → IsScenario s → IsCompiled (set_of s)
+    → HasJobsLeft (workload_of s) (own_of s) history tx → kept ≤ length history
+    → plan_next_answer (set_of s) history kept s.room tx
+    ≡ Ok (next_job (state_of (set_of s) history) tx, next_tick_for (set_of s) (state_of (set_of s) history) tx)

@@ -5,10 +5,13 @@
 ghost use Rattle.eager_laws.specs.Laws.{
   NextIsPlanned,
   NextIsGiven,
+  RunFits,
   ScenarioIsPlannable,
   EagerHaveNoReleases,
   AllJobsAre,
   NoneEager,
+  ScenarioHasRoom,
+  ScenarioPlansNext,
 };
 
 /// In a run so far of a workload whose eager jobs are few and near enough, the next job of a transaction that has jobs left
@@ -19,6 +22,11 @@ pub fn next_is_planned()
     ensures given { NextIsGiven }
 {}
 
+/// A run so far has at most the entries for which its jobs have room.
+pub fn run_fits()
+    ensures { RunFits }
+{}
+
 /// The workload of a scenario is such a workload. In it a transaction has releases or plans jobs itself, and these are its
 /// jobs; where no releases are eager no transaction plans any.
 pub fn scenario_is_plannable()
@@ -26,4 +34,11 @@ pub fn scenario_is_plannable()
     ensures eager { EagerHaveNoReleases }
     ensures jobs { AllJobsAre }
     ensures none_eager { NoneEager }
+{}
+
+/// The room of a scenario is greater than that of its jobs, eager ones too. So where a board of that room keeps no more
+/// than the run's entries it plans the next job of each transaction that has jobs left.
+pub fn scenario_plans_next()
+    ensures room { ScenarioHasRoom }
+    ensures next { ScenarioPlansNext }
 {}
