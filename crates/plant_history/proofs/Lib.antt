@@ -1,1 +1,6 @@
 mod Fixed
+mod Places
+mod Counts
+mod Owners
+mod Walk
+mod SoFar
