@@ -4,3 +4,5 @@ mod Counts
 mod Owners
 mod Walk
 mod SoFar
+mod Whole
+mod Refusals
