@@ -1,5 +1,5 @@
 -- Whose each entry of a closed plant's history is.
-use Rattle.std.proofs.Common.{◌≡◌, ◌≢◌, ◌⊎◌, ℕ, zero, suc, ◌+◌, ◌<◌, ◌≤◌, Bool, false, cond, List, [], ◌∷◌, ◌++◌, length, Option, None, Some, refl, ap, sym, ◌∙◌, subst, inl, inr, arith, append_assoc, append-nil}
+use Rattle.std.proofs.Common.{◌≡◌, ℕ, suc, ◌+◌, ◌<◌, ◌≤◌, Bool, false, cond, List, [], ◌∷◌, ◌++◌, length, Option, None, Some, refl, ap, sym, ◌∙◌, subst, inl, inr, arith}
 use mathlib.Core.Option.{some, some-injective}
 use lib.ListN.{get_elem?}
 use Rattle.std.proofs.lemmas.Bool.{cases_eq, ne_eqb, false_from_ne_true}
@@ -20,10 +20,9 @@ use Rattle.turn_cell.proofs.Lists.{chained}
 use Rattle.shared_plant.specs.Seats.{PlantFacts, SeatFacts, Closed, times_of, operators_in}
 use Rattle.txn_threads.specs.Scripts.{IsAsked, AreAsked}
 use Rattle.txn_threads.specs.Plans.{plan_number, IsPlanned, ArePlanned}
-use Rattle.txn_threads.specs.Plans as own
 use Rattle.sim_history.specs.Sim.{Workload, plans}
 use Rattle.sim_run.specs.Workloads.{ticks_of}
-use Rattle.plant_history.specs.Seats.{Rise, HasPlanned, IsSeatRun, AreSeats, HaveRun}
+use Rattle.plant_history.specs.Seats.{IsSeatRun, AreSeats, HaveRun}
 use Rattle.plant_history.proofs.Places.{at_middle, bit_other, below_in, below_out, total_some}
 
 -- one of the entries of a seat, with what is known of it
@@ -127,12 +126,12 @@ module _ (w : Workload) (own : ℕ → ℕ) (seats : List SeatFacts) (story : Li
       let zero_here : times n o.seat.mine ≡ 0 = subst (λ (t : SeatFacts). times n t.mine ≡ 0) seat none in
       omega (arith, o.has, zero_here) in
       subst (IsForeign tx) same (foreign (w.bodies o.tx.0) w.set o.seat.seen tx o.tx plan.eager plan.jobs n m.entry apart m.made)
-      where
-        in_story : (before after : List Entry) (e : Entry) → story ≡ before ++ e ∷ after → length before < length story
-        in_story before after e parts = omega (arith, ap (λ (l : List Entry). length l) parts, long before e after) where
-          long : (before : List Entry) (e : Entry) (after : List Entry) → length before < length (before ++ e ∷ after)
-          long [] e after = omega arith
-          long (b ∷ bs) e after = omega (arith, long bs e after)
+    where
+      in_story : (before after : List Entry) (e : Entry) → story ≡ before ++ e ∷ after → length before < length story
+      in_story before after e parts = omega (arith, ap (λ (l : List Entry). length l) parts, long before e after) where
+        long : (before : List Entry) (e : Entry) (after : List Entry) → length before < length (before ++ e ∷ after)
+        long [] e after = omega arith
+        long (b ∷ bs) e after = omega (arith, long bs e after)
 
 -- a closed plant whose seats ran a workload
 pub lies : {B : Type 0} (stands : B → List Entry → Type 0) (set : B → Set) (room first : B → ℕ) (kept : B → List Entry) (w : Workload) (own : ℕ → ℕ) (p : PlantFacts) (b : B) (seats : List SeatFacts)

@@ -1,12 +1,12 @@
 -- Lists in parts, and entries at places that rise.
-use Rattle.std.proofs.Common.{◌≡◌, ◌≢◌, ◌⊎◌, ℕ, zero, suc, ◌+◌, ◌<◌, ◌≤◌, Bool, cond, List, [], ◌∷◌, ◌++◌, length, refl, ap, sym, ◌∙◌, inl, inr, arith, nat_eq}
-use mathlib.Core.Option.{some, some-ne-none}
+use Rattle.std.proofs.Common.{◌≡◌, ◌≢◌, ℕ, zero, suc, ◌+◌, ◌<◌, ◌≤◌, Bool, cond, List, [], ◌∷◌, ◌++◌, length, refl, ap, sym, ◌∙◌, inl, inr, arith, nat_eq}
+use mathlib.Core.Option.{some}
 use lib.ListN.{get_elem?}
 use Rattle.std.proofs.lemmas.Bool.{cases_eq, eq-eqb, ne_eqb}
 use Rattle.std.proofs.lemmas.Bool.Decides.{nat_tests}
 use Rattle.step_journal.specs.declared.entry.Entry.{Entry}
 use Rattle.turn_cell.specs.Turn.{times, total, below}
-use Rattle.plant_history.specs.Seats.{Rise}
+use Rattle.txn_threads.specs.Rising.{AreRising}
 
 -- lists in parts
 
@@ -60,20 +60,20 @@ total_some g (x ∷ xs) lt = elim (cases_eq (g x) 0) [
 
 -- places that rise
 
-pub rise_le : (xs : List (ℕ × Entry)) (a b : ℕ) → Rise a xs b → a ≤ b
+pub rise_le : (xs : List (ℕ × Entry)) (a b : ℕ) → AreRising a b xs → a ≤ b
 rise_le [] a b h = h
 rise_le (x ∷ xs) a b h = omega (arith, h.0, rise_le xs (x.0 + 1) b h.1)
 
-pub rise_up : (xs : List (ℕ × Entry)) (a b c : ℕ) → Rise a xs b → b ≤ c → Rise a xs c
+pub rise_up : (xs : List (ℕ × Entry)) (a b c : ℕ) → AreRising a b xs → b ≤ c → AreRising a c xs
 rise_up [] a b c h le = omega (arith, h, le)
 rise_up (x ∷ xs) a b c h le = (h.0, rise_up xs (x.0 + 1) b c h.1 le)
 
 -- no place below the first, and none from the last number on
-pub rise_low : (xs : List (ℕ × Entry)) (a b n : ℕ) → Rise a xs b → n < a → times n xs ≡ 0
+pub rise_low : (xs : List (ℕ × Entry)) (a b n : ℕ) → AreRising a b xs → n < a → times n xs ≡ 0
 rise_low [] a b n h lt = refl
 rise_low (x ∷ xs) a b n h lt = omega (arith, bit_other n x.0 (λ e. omega (arith, e, lt, h.0)), rise_low xs (x.0 + 1) b n h.1 (omega (arith, lt, h.0)))
 
-pub rise_high : (xs : List (ℕ × Entry)) (a b n : ℕ) → Rise a xs b → b ≤ n → times n xs ≡ 0
+pub rise_high : (xs : List (ℕ × Entry)) (a b n : ℕ) → AreRising a b xs → b ≤ n → times n xs ≡ 0
 rise_high [] a b n h le = refl
 rise_high (x ∷ xs) a b n h le = omega (arith, bit_other n x.0 (λ e. omega (arith, e, le, rise_le xs (x.0 + 1) b h.1)), rise_high xs (x.0 + 1) b n h.1 le)
 
@@ -83,7 +83,7 @@ pub record IsFirst (n : ℕ) (xs : List (ℕ × Entry)) : Type 0 where
   pub others : List (ℕ × Entry)
   pub is : xs ≡ (n, entry) ∷ others
 
-pub rise_first : (xs : List (ℕ × Entry)) (a b : ℕ) → Rise a xs b → 0 < times a xs → IsFirst a xs
+pub rise_first : (xs : List (ℕ × Entry)) (a b : ℕ) → AreRising a b xs → 0 < times a xs → IsFirst a xs
 rise_first [] a b h lt = absurd (omega arith)
 rise_first (x ∷ xs) a b h lt = elim (cases_eq x.0 a) [
   | inl here ↦ record { entry = x.1; others = xs; is = ap (λ (n : ℕ). (n, x.1) ∷ xs) here }
@@ -91,7 +91,7 @@ rise_first (x ∷ xs) a b h lt = elim (cases_eq x.0 a) [
 ]
 
 -- where it does not, the places rise from the next one on
-pub rise_next : (xs : List (ℕ × Entry)) (a b : ℕ) → Rise a xs b → times a xs ≡ 0 → a < b → Rise (a + 1) xs b
+pub rise_next : (xs : List (ℕ × Entry)) (a b : ℕ) → AreRising a b xs → times a xs ≡ 0 → a < b → AreRising (a + 1) b xs
 rise_next [] a b h none lt = omega (arith, lt)
 rise_next (x ∷ xs) a b h none lt = elim (cases_eq x.0 a) [
   | inl here ↦ absurd (omega (arith, none, bit_same a x.0 (sym here)))

@@ -1,12 +1,11 @@
 -- A closed plant's history is a script run, and each plan in it after those of the releases is an eager transaction's own.
-use Rattle.std.proofs.Common.{◌≡◌, ◌≢◌, ◌⊎◌, ℕ, zero, ◌+◌, ◌<◌, ◌≤◌, Bool, true, if◌then◌else◌, List, [], ◌∷◌, ◌++◌, length, Option, None, Some, refl, ap, sym, ◌∙◌, subst, inl, inr, arith, append_assoc, append-nil, length-append}
+use Rattle.std.proofs.Common.{◌≡◌, ℕ, ◌+◌, ◌≤◌, Bool, true, if◌then◌else◌, List, [], ◌∷◌, ◌++◌, length, Some, refl, ap, sym, ◌∙◌, subst, inl, inr, arith, append_assoc, append-nil, length-append}
 use mathlib.Core.Option.{some}
 use lib.ListN.{get_elem?}
-use Rattle.std.proofs.lemmas.Bool.{cases_lt, cases_eq}
+use Rattle.std.proofs.lemmas.Bool.{cases_lt}
 use Rattle.rt_base.specs.declared.ids.TxId.{TxId}
 use Rattle.rt_base.specs.declared.ids.JobId.{JobId}
 use Rattle.rt_base.specs.declared.operation.Op.{Op}
-use Rattle.rt_base.specs.declared.operation.Outcome.{Outcome}
 use Rattle.txn_set.specs.Set.{Set}
 use Rattle.step_journal.specs.declared.entry.Entry.{Entry}
 use Rattle.step_journal.specs.declared.entry.Entry.TheVariants.{Planned, Step, Blocked, Idle}
@@ -23,13 +22,14 @@ use Rattle.shared_plant.specs.Seats.{SeatFacts}
 use Rattle.txn_threads.specs.Scripts.{own_outcomes, IsOwnOp, IsAsked, AreAsked}
 use Rattle.txn_threads.specs.Plans.{IsPlanned, ArePlanned, IsNextPlan}
 use Rattle.txn_threads.specs.Plans.{plans_in as own_plans}
+use Rattle.txn_threads.specs.Rising.{AreRising}
 use Rattle.sim_history.specs.Sim.{Workload, IsScriptRun, plans, op_asked}
 use Rattle.sim_history.specs.Sim.{IsAsked as IsAskedIn}
 use Rattle.sim_run.specs.Workloads.{ticks_of}
 use Rattle.sim_run.proofs.Histories.{legal_parts}
 use Rattle.sim_run.proofs.Runs.{begins}
 use Rattle.plant_history.specs.Histories.{IsOwnPlan, IsLater, IsRunSoFar}
-use Rattle.plant_history.specs.Seats.{Rise, IsTold}
+use Rattle.plant_history.specs.Seats.{IsTold}
 use Rattle.plant_history.specs.Laws.{ClosedSoFar}
 use Rattle.plant_history.proofs.Places.{part_after, part_before, bit_same, rise_high}
 use Rattle.plant_history.proofs.Counts.{count_append, count_plans}
@@ -142,10 +142,10 @@ module _ (w : Workload) (own : ℕ → ℕ) (seats : List SeatFacts) (story : Li
 
   -- what the seat's own entries told
 
-  none_left : (tx : TxId) (s : SeatFacts) (before : List Entry) (r : Reached w s tx (length story) before) (left : List (ℕ × Entry)) → r.left ≡ left → Rise (length (plans w)) s.mine (length before) → r.left ≡ []
+  none_left : (tx : TxId) (s : SeatFacts) (before : List Entry) (r : Reached w s tx (length story) before) (left : List (ℕ × Entry)) → r.left ≡ left → AreRising (length (plans w)) (length before) s.mine → r.left ≡ []
   none_left tx s before r [] is rising = is
   none_left tx s before r (p ∷ ps) is rising =
-      let rises : Rise (length before) (p ∷ ps) (length story) = subst (λ (l : List (ℕ × Entry)). Rise (length before) l (length story)) is r.rises in
+      let rises : AreRising (length before) (length story) (p ∷ ps) = subst (λ (l : List (ℕ × Entry)). AreRising (length before) (length story) l) is r.rises in
       let parts : s.mine ≡ r.past ++ p ∷ ps = r.parts ∙ ap (λ (l : List (ℕ × Entry)). r.past ++ l) is in
       absurd (omega (arith, rise_high s.mine (length (plans w)) (length before) p.0 rising rises.0, ap (times p.0) parts, times-append p.0 r.past (p ∷ ps), bit_same p.0 p.0 refl))
 
@@ -155,7 +155,7 @@ module _ (w : Workload) (own : ℕ → ℕ) (seats : List SeatFacts) (story : Li
       let more : List Entry = e.0.began.0 in
       let seen : s.seen ≡ plans w ++ more = e.0.began.1 in
       let r = walk w own seats story f k s job.tx at is more e.1.0 (e.1.1 ∙ ap (λ (l : List Entry). l ++ e.1.0) seen) in
-      let none = none_left job.tx s (plans w ++ more) r r.left refl (subst (λ (l : List Entry). Rise (length (plans w)) s.mine (length l)) seen e.0.rising) in
+      let none = none_left job.tx s (plans w ++ more) r r.left refl (subst (λ (l : List Entry). AreRising (length (plans w)) (length l) s.mine) seen e.0.rising) in
       let mine : s.mine ≡ r.past = r.parts ∙ (ap (λ (l : List (ℕ × Entry)). r.past ++ l) none ∙ append-nil r.past) in
       ap (λ (l : List Entry). outcomes_of l job) seen ∙ (r.told job refl ∙ ap (λ (l : List (ℕ × Entry)). own_outcomes l job) (sym mine))
 

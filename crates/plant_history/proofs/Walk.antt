@@ -1,6 +1,6 @@
 -- Along a closed plant's history: which of a seat's entries came before a place, what they told its jobs, and how many
 -- plans they are.
-use Rattle.std.proofs.Common.{◌≡◌, ◌≢◌, ◌⊎◌, ℕ, zero, suc, ◌+◌, ◌<◌, ◌≤◌, Bool, true, cond, List, [], ◌∷◌, ◌++◌, length, Option, None, Some, refl, ap, sym, ◌∙◌, subst, inl, inr, arith, append_assoc, append-nil, length-append}
+use Rattle.std.proofs.Common.{◌≡◌, ℕ, ◌+◌, ◌<◌, ◌≤◌, Bool, cond, List, [], ◌∷◌, ◌++◌, length, None, Some, refl, ap, sym, ◌∙◌, subst, inl, inr, arith, append_assoc, append-nil, length-append}
 use mathlib.Core.Option.{some, some-injective}
 use lib.ListN.{get_elem?}
 use Rattle.std.proofs.lemmas.Bool.{cases_eq, eq-eqb}
@@ -16,7 +16,7 @@ use Rattle.step_journal.specs.Serial.{outcome_in, outcomes_of}
 use Rattle.counting_laws.specs.Counting.{plans_in, plan_count}
 use Rattle.counting_laws.proofs.Rooms.{count_more}
 use Rattle.history_laws.proofs.Alone.{outcomes_more_in}
-use Rattle.turn_cell.specs.Turn.{Begins, Stand, times}
+use Rattle.turn_cell.specs.Turn.{times}
 use Rattle.turn_cell.proofs.Sums.{times-append}
 use Rattle.turn_cell.proofs.Lists.{at_after}
 use Rattle.shared_plant.specs.Seats.{SeatFacts}
@@ -25,10 +25,10 @@ use Rattle.txn_threads.specs.Plans.{plan_number, IsPlanned, ArePlanned}
 use Rattle.txn_threads.specs.Plans.{plans_in as own_plans}
 use Rattle.txn_threads.proofs.Scripting.{outcomes_snoc}
 use Rattle.txn_threads.proofs.Planning.{plans_append}
+use Rattle.txn_threads.specs.Rising.{AreRising}
 use Rattle.sim_history.specs.Sim.{Workload, plans}
 use Rattle.sim_run.specs.Turns.{job_of}
 use Rattle.sim_run.proofs.Runs.{follows_first}
-use Rattle.plant_history.specs.Seats.{Rise, HasPlanned, IsSeatRun}
 use Rattle.plant_history.proofs.Places.{at_middle, bit_other, rise_up, rise_first, rise_next}
 use Rattle.plant_history.proofs.Owners.{IsForeign, Lies, foreign_at}
 
@@ -69,20 +69,20 @@ pub record Reached (w : Workload) (s : SeatFacts) (tx : TxId) (end : ℕ) (befor
   pub past : List (ℕ × Entry)
   pub left : List (ℕ × Entry)
   pub parts : s.mine ≡ past ++ left
-  pub rises : Rise (length before) left end
+  pub rises : AreRising (length before) end left
   pub low : (n : ℕ) → length before ≤ n → times n past ≡ 0
   pub told : (job : JobId) → job.tx ≡ tx → outcomes_of before job ≡ own_outcomes past job
   pub planned : plan_count before tx.0 ≡ plan_count (plans w) tx.0 + own_plans past
 
 module _ (w : Workload) (own : ℕ → ℕ) (seats : List SeatFacts) (story : List Entry) (f : Lies w own seats story) (k : ℕ) (s : SeatFacts) (tx : TxId) (at : get_elem? seats k ≡ some s) (is : s.tx ≡ Some tx) where
   -- beyond an entry of another seat
-  past_foreign : (before : List Entry) (e : Entry) (r : Reached w s tx (length story) before) → IsForeign tx e → Rise (length before + 1) r.left (length story)
+  past_foreign : (before : List Entry) (e : Entry) (r : Reached w s tx (length story) before) → IsForeign tx e → AreRising (length before + 1) (length story) r.left
       → Reached w s tx (length story) (before ++ e ∷ [])
   past_foreign before e r h rises = record {
     past = r.past;
     left = r.left;
     parts = r.parts;
-    rises = subst (λ (n : ℕ). Rise n r.left (length story)) (sym (length-append before (e ∷ []))) rises;
+    rises = subst (λ (n : ℕ). AreRising n (length story) r.left) (sym (length-append before (e ∷ []))) rises;
     low = λ n le. r.low n (omega (arith, le, length-append before (e ∷ [])));
     told = λ job own_job. outcomes_more_in before e job None (h.outcome job own_job) ∙ (append-nil (outcomes_of before job) ∙ r.told job own_job);
     planned = omega (arith, count_more before e tx.0, h.plan, r.planned);
@@ -97,12 +97,12 @@ module _ (w : Workload) (own : ℕ → ℕ) (seats : List SeatFacts) (story : Li
       let plan = (f.each k s at).0.planned tx is in
       let counted : plans_in tx.0 e ≡ plan_number e = own_plan w.set s.seen tx plan.eager plan.jobs (0 + own_plans r.past) (length before) e
       (planned_at w.set s.seen tx plan.eager plan.jobs 0 r.past p others (subst (ArePlanned w.set s.seen tx plan.eager plan.jobs 0) parts plan.plans)) in
-      let rises : Rise (length before) (p ∷ others) (length story) = subst (λ (l : List (ℕ × Entry)). Rise (length before) l (length story)) first r.rises in
+      let rises : AreRising (length before) (length story) (p ∷ others) = subst (λ (l : List (ℕ × Entry)). AreRising (length before) (length story) l) first r.rises in
       record {
         past = r.past ++ p ∷ [];
         left = others;
         parts = parts ∙ sym (append_assoc r.past (p ∷ []) others);
-        rises = subst (λ (n : ℕ). Rise n others (length story)) (sym (length-append before (e ∷ []))) rises.1;
+        rises = subst (λ (n : ℕ). AreRising n (length story) others) (sym (length-append before (e ∷ []))) rises.1;
         low = λ n le. omega (arith, times-append n r.past (p ∷ []), r.low n (omega (arith, le, length-append before (e ∷ []))), bit_other n (length before) (λ q. omega (arith, q, le, length-append before (e ∷ []))));
         told = λ job own_job.
             outcomes_more_in before e job (outcome_in job e) refl
