@@ -1,8 +1,8 @@
-mod Fixed
-mod Places
-mod Counts
-mod Owners
-mod Walk
-mod SoFar
-mod Whole
-mod Refusals
+pub mod Fixed
+pub mod Places
+pub mod Counts
+pub mod Owners
+pub mod Walk
+pub mod SoFar
+pub mod Whole
+pub mod Refusals

@@ -1,5 +1,5 @@
 -- Whose each entry of a closed plant's history is.
-use Rattle.std.proofs.Common.{◌≡◌, ℕ, suc, ◌+◌, ◌<◌, ◌≤◌, Bool, false, cond, List, [], ◌∷◌, ◌++◌, length, Option, None, Some, refl, ap, sym, ◌∙◌, subst, inl, inr, arith}
+use Rattle.std.proofs.Common.{length-append, ◌≡◌, ℕ, suc, ◌+◌, ◌<◌, ◌≤◌, Bool, false, cond, List, [], ◌∷◌, ◌++◌, length, Option, None, Some, refl, ap, sym, ◌∙◌, subst, inl, inr, arith}
 use mathlib.Core.Option.{some, some-injective}
 use lib.ListN.{get_elem?}
 use Rattle.std.proofs.lemmas.Bool.{cases_eq, ne_eqb, false_from_ne_true}
@@ -109,29 +109,32 @@ module _ (w : Workload) (own : ℕ → ℕ) (seats : List SeatFacts) (story : Li
       let t = total_some (times_of n) seats (omega (arith, f.placed n, below_out n (length (plans w)) from, below_in n (length story) to)) in
       owner_by n t.0 t.1 t.1.tx refl t.2 t.3
 
+  -- a seat without an entry at the place is another transaction's than the seat that has it
+  owners_apart : (n k : ℕ) (s : SeatFacts) (tx : TxId) (o : Owner seats n) → get_elem? seats k ≡ some s → s.tx ≡ Some tx → times n s.mine ≡ 0 → tx ≡ o.tx → ⊥
+  owners_apart n k s tx o at is none q =
+      let one : k ≡ o.place = f.apart.one k o.place s o.seat tx at o.at is (o.is ∙ ap Some (sym q)) in
+      let there : get_elem? seats o.place ≡ some s = subst (λ (m : ℕ). get_elem? seats m ≡ some s) one at in
+      let seat : s ≡ o.seat = some-injective s o.seat (sym there ∙ o.at) in
+      let zero_here : times n o.seat.mine ≡ 0 = subst (λ (t : SeatFacts). times n t.mine ≡ 0) seat none in
+      omega (arith, o.has, zero_here)
+
+  foreign_by : (n : ℕ) (e : Entry) (tx : TxId) (o : Owner seats n) → get_elem? story n ≡ some e → (tx ≡ o.tx → ⊥) → IsForeign tx e
+  foreign_by n e tx o here apart =
+      let run = (f.each o.place o.seat o.at).0 in
+      let plan = run.planned o.tx o.is in
+      let m : MadeIn (w.bodies o.tx.0) w.set o.seat.seen o.tx plan.eager plan.jobs n o.seat.mine =
+      made_in (w.bodies o.tx.0) w.set o.seat.seen o.tx plan.eager plan.jobs n [] 0 o.seat.mine (run.asked o.tx o.is) plan.plans o.has in
+      let stands : get_elem? story n ≡ some m.entry = (f.each o.place o.seat o.at).2 m.place (n, m.entry) m.at in
+      let same : m.entry ≡ e = some-injective m.entry e (sym stands ∙ here) in
+      subst (IsForeign tx) same (foreign (w.bodies o.tx.0) w.set o.seat.seen tx o.tx plan.eager plan.jobs n m.entry apart m.made)
+
   -- the entry at a place that no entry of this seat has is foreign to its transaction
   pub foreign_at : (k : ℕ) (s : SeatFacts) (tx : TxId) (before after : List Entry) (e : Entry) → get_elem? seats k ≡ some s → s.tx ≡ Some tx
       → story ≡ before ++ e ∷ after → length (plans w) ≤ length before → times (length before) s.mine ≡ 0 → IsForeign tx e
   foreign_at k s tx before after e at is parts from none =
-      let n : ℕ = length before in
-      let here : get_elem? story n ≡ some e = ap (λ (l : List Entry). get_elem? l n) parts ∙ at_middle before e after in
-      let o = owner_of n from (in_story before after e parts) in
-      let run = (f.each o.place o.seat o.at).0 in
-      let plan = run.planned o.tx o.is in
-      let m = made_in (w.bodies o.tx.0) w.set o.seat.seen o.tx plan.eager plan.jobs n [] 0 o.seat.mine (run.asked o.tx o.is) plan.plans o.has in
-      let same : m.entry ≡ e = some-injective m.entry e (sym ((f.each o.place o.seat o.at).2 m.place (n, m.entry) m.at) ∙ here) in
-      let apart : tx ≡ o.tx → ⊥ = λ q.
-      let one : k ≡ o.place = f.apart.one k o.place s o.seat tx at o.at is (o.is ∙ ap Some (sym q)) in
-      let seat : s ≡ o.seat = some-injective s o.seat (sym at ∙ (ap (get_elem? seats) one ∙ o.at)) in
-      let zero_here : times n o.seat.mine ≡ 0 = subst (λ (t : SeatFacts). times n t.mine ≡ 0) seat none in
-      omega (arith, o.has, zero_here) in
-      subst (IsForeign tx) same (foreign (w.bodies o.tx.0) w.set o.seat.seen tx o.tx plan.eager plan.jobs n m.entry apart m.made)
-    where
-      in_story : (before after : List Entry) (e : Entry) → story ≡ before ++ e ∷ after → length before < length story
-      in_story before after e parts = omega (arith, ap (λ (l : List Entry). length l) parts, long before e after) where
-        long : (before : List Entry) (e : Entry) (after : List Entry) → length before < length (before ++ e ∷ after)
-        long [] e after = omega arith
-        long (b ∷ bs) e after = omega (arith, long bs e after)
+      let here : get_elem? story (length before) ≡ some e = ap (λ (l : List Entry). get_elem? l (length before)) parts ∙ at_middle before e after in
+      let o : Owner seats (length before) = owner_of (length before) from (omega (arith, ap (λ (l : List Entry). length l) parts, length-append before (e ∷ after))) in
+      foreign_by (length before) e tx o here (owners_apart (length before) k s tx o at is none)
 
 -- a closed plant whose seats ran a workload
 pub lies : {B : Type 0} (stands : B → List Entry → Type 0) (set : B → Set) (room first : B → ℕ) (kept : B → List Entry) (w : Workload) (own : ℕ → ℕ) (p : PlantFacts) (b : B) (seats : List SeatFacts)

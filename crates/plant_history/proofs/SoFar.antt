@@ -1,5 +1,5 @@
 -- A closed plant's history is a script run, and each plan in it after those of the releases is an eager transaction's own.
-use Rattle.std.proofs.Common.{◌≡◌, ℕ, ◌+◌, ◌≤◌, Bool, true, if◌then◌else◌, List, [], ◌∷◌, ◌++◌, length, Some, refl, ap, sym, ◌∙◌, subst, inl, inr, arith, append_assoc, append-nil, length-append}
+use Rattle.std.proofs.Common.{◌<◌, ◌≡◌, ℕ, ◌+◌, ◌≤◌, Bool, true, if◌then◌else◌, List, [], ◌∷◌, ◌++◌, length, Some, refl, ap, sym, ◌∙◌, subst, inl, inr, arith, append_assoc, append-nil, length-append}
 use mathlib.Core.Option.{some}
 use lib.ListN.{get_elem?}
 use Rattle.std.proofs.lemmas.Bool.{cases_lt}
@@ -33,7 +33,7 @@ use Rattle.plant_history.specs.Seats.{IsTold}
 use Rattle.plant_history.specs.Laws.{ClosedSoFar}
 use Rattle.plant_history.proofs.Places.{part_after, part_before, bit_same, rise_high}
 use Rattle.plant_history.proofs.Counts.{count_append, count_plans}
-use Rattle.plant_history.proofs.Owners.{Lies, lies, owner_of}
+use Rattle.plant_history.proofs.Owners.{Lies, Owner, lies, owner_of}
 use Rattle.plant_history.proofs.Walk.{asked_at, planned_at, Reached, own_first, walk}
 
 -- what a seat asked by its own entries it asked by the history
@@ -62,14 +62,18 @@ record Made (w : Workload) (own : ℕ → ℕ) (seats : List SeatFacts) (story b
   parts : seat.mine ≡ reached.past ++ (length before, e) ∷ others
 
 module _ (w : Workload) (own : ℕ → ℕ) (seats : List SeatFacts) (story : List Entry) (f : Lies w own seats story) where
+  made_by : (before after : List Entry) (e : Entry) (o : Owner seats (length before)) → story ≡ before ++ e ∷ after → Reached w o.seat o.tx (length story) before
+      → Made w own seats story before e
+  made_by before after e o parts r =
+      let here : 0 < times (length before) r.left = omega (arith, o.has, ap (times (length before)) r.parts, times-append (length before) r.past r.left, r.low (length before) (omega arith)) in
+      let i = own_first w own seats story f o.place o.seat o.tx o.at o.is before after e parts r here in
+      record { place = o.place; seat = o.seat; at = o.at; tx = o.tx; is = o.is; reached = r; others = i.0; parts = r.parts ∙ ap (λ (l : List (ℕ × Entry)). r.past ++ l) i.1 }
+
   made : (more after : List Entry) (e : Entry) → story ≡ plans w ++ more ++ e ∷ after → Made w own seats story (plans w ++ more) e
   made more after e parts =
       let before : List Entry = plans w ++ more in
-      let o = owner_of w own seats story f (length before) (omega (arith, length-append (plans w) more)) (omega (arith, ap (λ (l : List Entry). length l) parts, length-append before (e ∷ after))) in
-      let r = walk w own seats story f o.place o.seat o.tx o.at o.is more (e ∷ after) parts in
-      let i = own_first w own seats story f o.place o.seat o.tx o.at o.is before after e parts r
-      (omega (arith, o.has, ap (times (length before)) r.parts, times-append (length before) r.past r.left, r.low (length before) (omega arith))) in
-      record { place = o.place; seat = o.seat; at = o.at; tx = o.tx; is = o.is; reached = r; others = i.0; parts = r.parts ∙ ap (λ (l : List (ℕ × Entry)). r.past ++ l) i.1 }
+      let o : Owner seats (length before) = owner_of w own seats story f (length before) (omega (arith, length-append (plans w) more)) (omega (arith, ap (λ (l : List Entry). length l) parts, length-append before (e ∷ after))) in
+      made_by before after e o parts (walk w own seats story f o.place o.seat o.tx o.at o.is more (e ∷ after) parts)
 
   made_asked : (before : List Entry) (e : Entry) → Made w own seats story before e → IsAskedIn w before e
   made_asked before e m =
