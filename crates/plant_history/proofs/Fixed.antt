@@ -1,7 +1,6 @@
 -- Where no transaction plans jobs itself, each entry after the plans is that of the event that the state fixes.
-use Rattle.std.proofs.Common.{◌≡◌, ℕ, ◌+◌, ◌<◌, Bool, true, false, cond, List, [], ◌∷◌, ◌++◌, length, Option, None, Some, slice_get, refl, ap, sym, ◌∙◌, subst, arith, append_assoc, append-nil}
+use Rattle.std.proofs.Common.{◌≡◌, ℕ, Bool, true, false, cond, List, [], ◌∷◌, ◌++◌, length, Option, None, Some, slice_get, refl, ap, sym, ◌∙◌, subst, arith, append_assoc, append-nil}
 use Rattle.std.specs.Option.{option_map, option_and_then}
-use Rattle.rt_base.specs.declared.ids.TxId.{TxId}
 use Rattle.rt_base.specs.declared.ids.JobId.{JobId}
 use Rattle.rt_base.specs.declared.operation.Op.{Op}
 use Rattle.rt_base.specs.declared.release.Release.{Release}
@@ -14,12 +13,10 @@ use Rattle.step_journal.specs.Running.{running, followed, of_job}
 use Rattle.step_journal.specs.Instant.{arrived}
 use Rattle.step_journal.specs.Step.{ask, idle, asked, idled, next_tick, step}
 use Rattle.step_journal.specs.History.{event_of, entry_given, IsLegalEntry, IsLegalFrom, IsLegal, state_of}
-use Rattle.counting_laws.specs.Counting.{plan_count}
 use Rattle.history_laws.proofs.Invariant.{same_job_is}
-use Rattle.sim_history.specs.Sim.{Workload, IsAsked, IsScriptRun, IsFixed, IsSim, plans, next_event, event_for, event_in, op_asked}
-use Rattle.sim_run.specs.Turns.{IsUnderWay}
+use Rattle.sim_history.specs.Sim.{Workload, IsAsked, IsFixed, plans, next_event, event_for, event_in, op_asked}
 use Rattle.sim_run.proofs.Histories.{legal_split, state_next}
-use Rattle.plant_history.specs.Histories.{IsOwnPlan, IsLater, IsRunSoFar, IsRunOf}
+use Rattle.plant_history.specs.Histories.{IsLater, IsRunSoFar}
 use Rattle.plant_history.specs.Laws.{FixedIsSim, FixedIsUnderWay}
 
 -- an operation that is legal is asked for by the running job
@@ -100,12 +97,13 @@ all_fixed : (w : Workload) (before rest : List Entry) → IsLegalFrom w.set (sta
     → IsFixed w before rest
 all_fixed w before [] legal each = tt
 all_fixed w before (e ∷ rest) legal each =
-    let first = each [] rest e refl in
-    (entry_fixed w before e legal.0 (subst (λ (l : List Entry). IsAsked w l e) (append-nil before) first.0) first.1,
+    let first = each [] rest e refl in (
+      entry_fixed w before e legal.0 (subst (λ (l : List Entry). IsAsked w l e) (append-nil before) first.0) first.1,
       all_fixed w (before ++ e ∷ []) rest (subst (λ (s : State). IsLegalFrom w.set s rest) (sym (state_next w.set before e)) legal.1)
-      (λ more after x is.
-      let next = each (e ∷ more) after x (ap (λ (l : List Entry). e ∷ l) is) in
-      (subst (λ (l : List Entry). IsAsked w l x) (sym (append_assoc before (e ∷ []) more)) next.0, next.1)))
+          (λ more after x is.
+          let next = each (e ∷ more) after x (ap (λ (l : List Entry). e ∷ l) is) in
+          (subst (λ (l : List Entry). IsAsked w l x) (sym (append_assoc before (e ∷ []) more)) next.0, next.1)),
+    )
 
 -- with no jobs of its own no transaction has a later plan
 no_later : (w : Workload) (own : ℕ → ℕ) (more : List Entry) (e : Entry) → ((tx : ℕ) → own tx ≡ 0) → IsLater w own more e → IsNoPlan e

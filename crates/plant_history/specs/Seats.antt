@@ -1,10 +1,9 @@
 -- The seats of a plant after a run of the bodies of a workload.
-use Rattle.std.specs.Prelude.{◌≡◌, ℕ, ◌+◌, ◌<◌, ◌≤◌, Bool, if◌then◌else◌, List, [], ◌∷◌, length, Some, None}
+use Rattle.std.specs.Prelude.{◌≡◌, ℕ, ◌+◌, ◌<◌, ◌≤◌, Bool, if◌then◌else◌, List, [], length, Some, None}
 use mathlib.Core.Option.{some}
 use lib.ListN.{get_elem?}
 use Rattle.rt_base.specs.declared.ids.TxId.{TxId}
 use Rattle.rt_base.specs.declared.ids.JobId.{JobId}
-use Rattle.step_journal.specs.declared.entry.Entry.{Entry}
 use Rattle.step_journal.specs.Serial.{outcomes_of}
 use Rattle.txn_set.specs.Set.{Set}
 use Rattle.board.specs.Stories.{ended_of}
@@ -12,13 +11,9 @@ use Rattle.turn_cell.specs.Turn.{Begins}
 use Rattle.shared_plant.specs.Seats.{PlantFacts, SeatFacts, tx_of}
 use Rattle.txn_threads.specs.Scripts.{own_outcomes, AreAsked}
 use Rattle.txn_threads.specs.Plans.{ArePlanned}
+use Rattle.txn_threads.specs.Rising.{AreRising}
 use Rattle.sim_history.specs.Sim.{Workload, plans}
 use Rattle.sim_run.specs.Workloads.{ticks_of}
-
--- the places of the entries rise, from the one number on and below the other
-abbrev pub Rise : ℕ → List (ℕ × Entry) → ℕ → Type 0
-Rise from [] to = from ≤ to
-Rise from (p ∷ ps) to = (from ≤ p.0) × Rise (p.0 + 1) ps to
 
 -- the seat's plans are those of a member that plans so many jobs itself, or of one that is not eager and plans none
 pub record HasPlanned (set : Set) (s : SeatFacts) (tx : TxId) (own : ℕ) : Type 0 where
@@ -31,7 +26,7 @@ pub record HasPlanned (set : Set) (s : SeatFacts) (tx : TxId) (own : ℕ) : Type
 -- its transaction's body and its own plans, in the order of their places. The operator's seat has none.
 pub record IsSeatRun (w : Workload) (own : ℕ → ℕ) (s : SeatFacts) : Type 0 where
   pub began : Begins (plans w) s.seen
-  pub rising : Rise (length (plans w)) s.mine (length s.seen)
+  pub rising : AreRising (length (plans w)) (length s.seen) s.mine
   pub asked : (tx : TxId) → s.tx ≡ Some tx → AreAsked (w.bodies tx.0) tx [] s.mine
   pub planned : (tx : TxId) → s.tx ≡ Some tx → HasPlanned w.set s tx (own tx.0)
   pub operator : s.tx ≡ None → s.mine ≡ []
