@@ -4,3 +4,4 @@ mod Near
 mod Open
 mod Scenario
 mod Fits
+mod Closing

@@ -1,18 +1,26 @@
--- The next job of an eager transaction can always be planned, and so in the run of a scenario.
-use Rattle.std.specs.Prelude.{◌≡◌, ℕ, ◌+◌, ◌<◌, ◌≤◌, false, List, [], length, Ok, Err}
+-- The next job of an eager transaction can always be planned, and so in the run of a scenario and on a closed plant.
+use Rattle.std.specs.Prelude.{◌≡◌, ℕ, ◌+◌, ◌<◌, ◌≤◌, false, List, [], length, Some, Ok, Err}
 use Rattle.std.specs.List.{list_any}
+use mathlib.Core.Option.{some}
+use lib.ListN.{get_elem?}
+use Rattle.rt_base.specs.declared.ids.TxId.{TxId}
 use Rattle.rt_base.specs.declared.release.PlanRefused.{PlanRefused}
-use Rattle.txn_set.specs.Set.{IsCompiled}
+use Rattle.txn_set.specs.Set.{Set, IsCompiled}
 use Rattle.step_journal.specs.declared.entry.Entry.{Entry}
 use Rattle.step_journal.specs.Step.{next_job}
 use Rattle.step_journal.specs.History.{state_of}
 use Rattle.board.specs.Answers.{next_tick_for}
 use Rattle.board.specs.Stories.{plan_next_answer}
-use Rattle.txn_threads.specs.Rounds.{IsCause}
+use Rattle.turn_cell.specs.Turn.{Begins}
+use Rattle.shared_plant.specs.Seats.{PlantFacts, SeatFacts, IsOf, Closed}
+use Rattle.txn_threads.specs.declared.member.Member.{Member}
+use Rattle.txn_threads.specs.Plans.{plans_in}
+use Rattle.txn_threads.specs.Rounds.{IsCause, IsUnplanned}
 use Rattle.counting_laws.specs.Counting.{plan_count, room_of_jobs}
-use Rattle.sim_history.specs.Sim.{Workload}
+use Rattle.sim_history.specs.Sim.{Workload, plans}
 use Rattle.sim_run.specs.Workloads.{ticks_of}
 use Rattle.plant_history.specs.Histories.{IsRunSoFar}
+use Rattle.plant_history.specs.Seats.{HaveRun}
 use Rattle.scenario.specs.Shown.{Shown, set_of}
 use Rattle.scenario.specs.Releases.{is_eager, jobs_of, releases_of}
 use Rattle.scenario.specs.Scenarios.{IsScenario}
@@ -79,3 +87,50 @@ ScenarioPlansNext =
     → HasJobsLeft (workload_of s) (own_of s) history tx → kept ≤ length history
     → plan_next_answer (set_of s) history kept s.room tx
     ≡ Ok (next_job (state_of (set_of s) history) tx, next_tick_for (set_of s) (state_of (set_of s) history) tx)
+
+-- a beginning of a run so far that has the plans of all releases is a run so far
+abbrev pub FrontSoFar : Type 0
+FrontSoFar =
+    (w : Workload) (own : ℕ → ℕ) (history story : List Entry) → IsRunSoFar w own history → Begins story history
+    → Begins (plans w) story → IsRunSoFar w own story
+
+-- The jobs of its transaction that a seat of a closed plant has seen planned are those of the releases, and those that it
+-- planned itself.
+abbrev pub PlansAreOwn : {B : Type 0} → (B → List Entry → Type 0) → (B → Set) → (B → ℕ) → (B → ℕ) → (B → List Entry)
+    → Type 0
+PlansAreOwn {B} stands set room first kept =
+    (w : Workload) (own : ℕ → ℕ) (p : PlantFacts) (b : B) (seats : List SeatFacts)
+    → Closed stands set room first kept p b seats → HaveRun w own p seats
+    → (k : ℕ) (s : SeatFacts) (tx : TxId) → get_elem? seats k ≡ some s → s.tx ≡ Some tx
+    → plan_count s.seen tx.0 ≡ length (ticks_of w.releases tx.0) + plans_in s.mine
+
+-- So a seat that is to plan more jobs has jobs left at all that it has seen.
+abbrev pub SeatHasJobsLeft : {B : Type 0} → (B → List Entry → Type 0) → (B → Set) → (B → ℕ) → (B → ℕ)
+    → (B → List Entry) → Type 0
+SeatHasJobsLeft {B} stands set room first kept =
+    (w : Workload) (own : ℕ → ℕ) (p : PlantFacts) (b : B) (seats : List SeatFacts)
+    → Closed stands set room first kept p b seats → HaveRun w own p seats
+    → (k : ℕ) (s : SeatFacts) (tx : TxId) → get_elem? seats k ≡ some s → s.tx ≡ Some tx → tx.0 < length w.set.txns
+    → plans_in s.mine < own tx.0
+    → HasJobsLeft w own s.seen tx.0
+
+-- No refusal of its next job, at all that it has seen, stops a worker.
+abbrev pub ClosedNoPlan : {B : Type 0} → (B → List Entry → Type 0) → (B → Set) → (B → ℕ) → (B → ℕ) → (B → List Entry)
+    → Type 0
+ClosedNoPlan {B} stands set room first kept =
+    (w : Workload) (own : ℕ → ℕ) (p : PlantFacts) (b : B) (seats : List SeatFacts)
+    → Closed stands set room first kept p b seats → HaveRun w own p seats → ArePlannable w own
+    → (k : ℕ) (s : SeatFacts) (tx : TxId) (held places : ℕ) (e : PlanRefused) → get_elem? seats k ≡ some s
+    → s.tx ≡ Some tx → tx.0 < length w.set.txns → plans_in s.mine < own tx.0
+    → Err e ≡ plan_next_answer w.set s.seen held places tx.0 → IsCause e → ⊥
+
+-- A member of such a seat, which planned the seat's plans and is to plan its transaction's own jobs, does not stop for want
+-- of a plan.
+abbrev pub NeverUnplanned : {B : Type 0} → Type 0 → (B → List Entry → Type 0) → (B → Set) → (B → ℕ) → (B → ℕ)
+    → (B → List Entry) → Type 0
+NeverUnplanned {B} Y stands set room first kept =
+    (w : Workload) (own : ℕ → ℕ) (p : PlantFacts) (b : B) (seats : List SeatFacts)
+    → Closed stands set room first kept p b seats → HaveRun w own p seats → ArePlannable w own
+    → (k : ℕ) (m : Member B Y) (tx : TxId) (e : PlanRefused) → get_elem? seats k ≡ some m.seat → IsOf p m.seat
+    → m.planned ≡ plans_in m.seat.mine → m.jobs ≡ own tx.0
+    → IsUnplanned p m tx e → ⊥

@@ -94,7 +94,7 @@ step_fine set s held places job op may =
     (running_fine set s held places job op (running set s.rows) may) (λ h. h)
 
 -- a history's beginning is a script run too
-run_front : (w : Workload) (seen rest story : List Entry) → story ≡ seen ++ rest → IsScriptRun w story → IsScriptRun w seen
+pub run_front : (w : Workload) (seen rest story : List Entry) → story ≡ seen ++ rest → IsScriptRun w story → IsScriptRun w seen
 run_front w seen rest story is run = λ before after e parts.
     run before (after ++ rest) e (is ∙ (ap (λ (l : List Entry). l ++ rest) parts ∙ append_assoc before (e ∷ after) rest))
 

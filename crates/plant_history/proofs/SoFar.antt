@@ -153,15 +153,21 @@ module _ (w : Workload) (own : ℕ → ℕ) (seats : List SeatFacts) (story : Li
       let parts : s.mine ≡ r.past ++ p ∷ ps = r.parts ∙ ap (λ (l : List (ℕ × Entry)). r.past ++ l) is in
       absurd (omega (arith, rise_high s.mine (length (plans w)) (length before) p.0 rising rises.0, ap (times p.0) parts, times-append p.0 r.past (p ∷ ps), bit_same p.0 p.0 refl))
 
-  pub seat_told : (k : ℕ) (s : SeatFacts) → get_elem? seats k ≡ some s → IsTold s
-  seat_told k s at = λ job is.
+  -- all that a seat has seen, with all of its own entries before its end
+  pub seat_reached : (k : ℕ) (s : SeatFacts) (tx : TxId) → get_elem? seats k ≡ some s → s.tx ≡ Some tx → (r : Reached w s tx (length story) s.seen) × (s.mine ≡ r.past)
+  seat_reached k s tx at is =
       let e = f.each k s at in
       let more : List Entry = e.0.began.0 in
       let seen : s.seen ≡ plans w ++ more = e.0.began.1 in
-      let r = walk w own seats story f k s job.tx at is more e.1.0 (e.1.1 ∙ ap (λ (l : List Entry). l ++ e.1.0) seen) in
-      let none = none_left job.tx s (plans w ++ more) r r.left refl (subst (λ (l : List Entry). AreRising (length (plans w)) (length l) s.mine) seen e.0.rising) in
+      let r = walk w own seats story f k s tx at is more e.1.0 (e.1.1 ∙ ap (λ (l : List Entry). l ++ e.1.0) seen) in
+      let none = none_left tx s (plans w ++ more) r r.left refl (subst (λ (l : List Entry). AreRising (length (plans w)) (length l) s.mine) seen e.0.rising) in
       let mine : s.mine ≡ r.past = r.parts ∙ (ap (λ (l : List (ℕ × Entry)). r.past ++ l) none ∙ append-nil r.past) in
-      ap (λ (l : List Entry). outcomes_of l job) seen ∙ (r.told job refl ∙ ap (λ (l : List (ℕ × Entry)). own_outcomes l job) (sym mine))
+      subst (λ (l : List Entry). (q : Reached w s tx (length story) l) × (s.mine ≡ q.past)) (sym seen) (r, mine)
+
+  pub seat_told : (k : ℕ) (s : SeatFacts) → get_elem? seats k ≡ some s → IsTold s
+  seat_told k s at = λ job is.
+      let r = seat_reached k s job.tx at is in
+      r.0.told job refl ∙ ap (λ (l : List (ℕ × Entry)). own_outcomes l job) (sym r.1)
 
 pub closed_so_far : {B : Type 0} (stands : B → List Entry → Type 0) (set : B → Set) (room first : B → ℕ) (kept : B → List Entry) → ClosedSoFar stands set room first kept
 closed_so_far stands set room first kept = λ w own p b seats c h.
