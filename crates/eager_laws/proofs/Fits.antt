@@ -10,10 +10,10 @@ use Rattle.scenario.specs.declared.releases.Releases.{Releases}
 use Rattle.scenario.specs.declared.releases.Releases.TheVariants.{At}
 use Rattle.scenario.specs.Releases.{jobs_of, entries_of, entries_in}
 use Rattle.workload_laws.specs.Runs.{workload_of}
+use Rattle.plant_history.proofs.Counts.{count_append, count_plans}
 use Rattle.eager_laws.specs.Plannable.{own_of}
 use Rattle.eager_laws.specs.Laws.{RunFits, ScenarioHasRoom, ScenarioPlansNext}
 use Rattle.eager_laws.proofs.Near.{run_near}
-use Rattle.eager_laws.proofs.Plans.{count_append, releases_counted}
 use Rattle.eager_laws.proofs.Open.{next_given}
 use Rattle.eager_laws.proofs.Scenario.{plannable, jobs_of_each}
 
@@ -21,7 +21,7 @@ pub run_fits : RunFits
 run_fits = λ w own history ok r.
     let h = run_near w own history ok r in
     (entries_few w.set history ok r.legal).jobs (λ tx. length (ticks_of w.releases tx) + own tx)
-    (λ n lt. omega (arith, ap (λ (l : List Entry). plan_count l n) r.begins, count_append (plans w) r.rest n, releases_counted 0 n n w.releases (omega arith), h.jobs n))
+    (λ n lt. omega (arith, ap (λ (l : List Entry). plan_count l n) r.begins, count_append (plans w) r.rest n, count_plans w n, h.jobs n))
 
 as_many : (jobs b steps : ℕ) → jobs ≡ b → jobs * (steps + 3) ≡ entries_of b steps
 as_many jobs b steps e = ap (λ (n : ℕ). n * (steps + 3)) e ∙ omega (arith, mul-add b (steps + 2) 1, mul-one b)

@@ -20,10 +20,11 @@ use Rattle.counting_laws.proofs.Rooms.{count_more}
 use Rattle.counting_laws.proofs.CountingAll.{time_bounded}
 use Rattle.sim_history.specs.Sim.{Workload, plans}
 use Rattle.txn_threads.specs.Rounds.{IsCause}
+use Rattle.plant_history.proofs.Counts.{count_append, count_plans}
 use Rattle.eager_laws.specs.Plannable.{own_jobs, ArePlannable}
 use Rattle.eager_laws.specs.Laws.{HasJobsLeft, NextIsPlanned, NextIsGiven}
 use Rattle.eager_laws.proofs.Near.{IsNear, plan_more, next_near, run_near}
-use Rattle.eager_laws.proofs.Plans.{own_sum, count_append, count_few, releases_counted}
+use Rattle.eager_laws.proofs.Plans.{own_sum, count_few}
 
 -- what a plan for the next tick needs
 pub record IsOpen (set : Set) (es : List Entry) (tx : ℕ) : Type 0 where
@@ -41,7 +42,7 @@ next_open w own history tx ok few j =
     let legal : IsLegal w.set (plans w ++ rest) = subst (IsLegal w.set) r.begins r.legal in
     let timed = time_bounded w.set (plans w ++ rest) ok legal in
     let counted : plan_count history tx ≡ plan_count (plans w) tx + plan_count rest tx = ap (λ (l : List Entry). plan_count l tx) r.begins ∙ count_append (plans w) rest tx in
-    let mine : plan_count rest tx < own tx = omega (arith, left, counted, releases_counted 0 tx tx w.releases (omega arith)) in
+    let mine : plan_count rest tx < own tx = omega (arith, left, counted, count_plans w tx) in
     let e : Entry = Planned (record { 0 = tx }) 0 in
     let more = plan_more w own rest (record { 0 = tx }) 0 h lt mine (omega arith) in
     let below : sum_below (plan_count (rest ++ e ∷ [])) (length w.set.txns) ≤ sum_below own (length w.set.txns) =
