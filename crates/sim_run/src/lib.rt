@@ -31,8 +31,10 @@ pub fn runs_exist()
     ensures goes_on { StoriesGoOn }
 {}
 
-// Hands on all entries that the board keeps.
-fn hand_on<B: Board, O: EntryOut>(
+/// Hands on all entries that the board keeps, as one piece, through `spare`, which is empty before and after and has
+/// places for them. Err comes only where the out stopped in this call: it got none of them then, and lost them all. It
+/// takes no memory.
+pub fn hand_on<B: Board, O: EntryOut>(
     board: &mut B,
     spare: &mut Vec<Entry>,
     out: &mut O,
@@ -180,8 +182,11 @@ fn plan_each<B: Board, O: EntryOut>(
     Ok(())
 }
 
-// Plans all releases, by transaction and then by index, and hands on each piece.
-fn plan_all<B: Board, O: EntryOut>(
+/// Plans all releases, by transaction and then by index, and hands on a piece of `PIECE` at a time; the board keeps what
+/// is left. Releases are in ticks, with a place for each transaction of the board's set; the history with their plans
+/// has to be legal, so each plan is granted. Err comes only where the out stopped in this call: it got the first of the
+/// entries then, and lost the piece that came next. `spare` is empty before and after. It takes no memory.
+pub fn plan_all<B: Board, O: EntryOut>(
     board: &mut B,
     releases: &[List<Tick>],
     spare: &mut Vec<Entry>,

@@ -90,17 +90,15 @@ module _ {O : Type 0} (got : O → List Entry → Type 0) where
     lost_is = gone;
   }
 
-  pub may_drain_more : (legal : List Entry → Type 0) (good : O → List Entry → Type 0) (s t : SeatFacts) (o p : O) (l : List Entry) → MayDrain legal got good s o l → Operated s t → t.drained ≤ length t.seen → ((k : List Entry) → good o k → good p k) → got p (l ++ part t.seen s.drained t.drained) → MayDrain legal got good t p (l ++ part t.seen s.drained t.drained)
-  may_drain_more legal good s t o p l m q within same is = record {
-    got_is = is;
-    fine = λ h to leg b.
-        let d = t.drained in let u = max d to in let more = q.more in
-        let cut : to - d ≡ u - d = omega arith in
-        let low : d ≤ u = omega arith in
-        let whole_part : (l ++ part t.seen s.drained d) ++ part h d to ≡ l ++ part h s.drained u =
-        ap (λ k. (l ++ part t.seen s.drained d) ++ take k (drop d h)) cut ∙ (append_assoc l (part t.seen s.drained d) (part h d u) ∙ ap (λ x. l ++ x) (part_join t.seen h s.drained d u b more low within)) in
-        same ((l ++ part t.seen s.drained d) ++ part h d to) (subst (good o) (sym whole_part) (m.fine h u leg (chained s.seen t.seen h q.seen b)));
-  }
+  pub may_drain_more : (legal : List Entry → Type 0) (good : O → List Entry → Type 0) (s t : SeatFacts) (o p : O) → MayDrain legal got good s o → Operated s t → t.drained ≤ length t.seen → ((k : List Entry) → good o k → good p k) → GotMore got o p (part t.seen s.drained t.drained) → MayDrain legal got good t p
+  may_drain_more legal good s t o p m q within same more h to leg b =
+      let d = t.drained in let u = max d to in let up = q.more in
+      let cut : to - d ≡ u - d = omega arith in
+      let low : d ≤ u = omega arith in
+      let r = m h u leg (chained s.seen t.seen h q.seen b) in let l = r.0 in
+      let whole_part : (l ++ part t.seen s.drained d) ++ part h d to ≡ l ++ part h s.drained u =
+      ap (λ k. (l ++ part t.seen s.drained d) ++ take k (drop d h)) cut ∙ (append_assoc l (part t.seen s.drained d) (part h d u) ∙ ap (λ x. l ++ x) (part_join t.seen h s.drained d u b up low within)) in
+      (l ++ part t.seen s.drained d, more l r.1, same ((l ++ part t.seen s.drained d) ++ part h d to) (subst (good o) (sym whole_part) r.2))
 
 pub rose_later : (a b c : ℕ) → a ≤ b → Rose b c → Rose a c
 rose_later a b c le r = omega (arith, le, r)

@@ -1,5 +1,5 @@
 -- Tries of members, and rounds.
-use Rattle.std.proofs.Common.{◌≡◌, ℕ, ◌+◌, ◌-◌, ◌<◌, ◌≤◌, List, [], ◌∷◌, ◌++◌, Option, Some, None, IfSome, length, All, Bool, slice_index_or, slice_set, refl, sym, ap, subst, ◌∙◌, arith, append_assoc, append-nil}
+use Rattle.std.proofs.Common.{◌≡◌, ℕ, ◌+◌, ◌-◌, ◌<◌, ◌≤◌, le_refl, length-append, List, [], ◌∷◌, ◌++◌, Option, Some, None, IfSome, length, All, Bool, slice_index_or, slice_set, refl, sym, ap, subst, ◌∙◌, arith, append_assoc, append-nil}
 use Rattle.std.proofs.lemmas.List.{length-set, get_or-set_same, get_or-set_other, get_or_default}
 use Rattle.std.proofs.lemmas.Option.{slice_get-get_or}
 use mathlib.Core.Logic.{dite}
@@ -22,10 +22,12 @@ use Rattle.txn_threads.specs.declared.round.Came.{Came}
 use Rattle.txn_threads.specs.declared.round.Came.TheVariants as came
 use Rattle.txn_threads.specs.Scripts.{job_of, own_outcomes, AreAsked}
 use Rattle.txn_threads.specs.Plans.{plans_in, ArePlanned}
+use Rattle.txn_threads.specs.Rising.{AreRising}
 use Rattle.txn_threads.specs.Tasks.{Tied}
 use Rattle.txn_threads.specs.Rounds.{Each, Sits, Ran, IsRefusal, IsRefused, Met, MetIn, IfStop}
 use Rattle.txn_threads.proofs.Counting.{ended_grow}
 use Rattle.txn_threads.proofs.Scripting.{asked_append}
+use Rattle.txn_threads.proofs.Rises.{rising_append}
 use Rattle.txn_threads.proofs.Planning.{plans_append, are_planned_later, are_planned_append}
 
 -- lists of pairs at one place
@@ -66,6 +68,11 @@ pub noted_begins : (seen story : List Entry) (own : Option Entry) → Begins see
 noted_begins seen story None b = b
 noted_begins seen story (Some e) b = longer seen story e b
 
+-- the place of one entry
+own_rises : (seen story : List Entry) (own : Option Entry) → Begins seen story → AreRising (length seen) (length (noted story own)) (own_pairs story own)
+own_rises seen story None b = omega (arith, ap (λ (l : List Entry). length l) b.1, length-append seen b.0)
+own_rises seen story (Some e) b = (omega (arith, ap (λ (l : List Entry). length l) b.1, length-append seen b.0), omega (arith, length-append story (e ∷ [])))
+
 pub of_same : (p : PlantFacts) (s t : SeatFacts) → t.plant ≡ s.plant → t.tx ≡ s.tx → IsOf p s → IsOf p t
 of_same p s t plant tx of = (plant ∙ of.0, λ x e. of.1 x (sym tx ∙ e))
 
@@ -80,6 +87,7 @@ module _ {B Y : Type 0} (gives : Y → ℕ → List Outcome → Op) (stands : Y 
     seen = whole m.seat.seen;
     added = [];
     mine = sym (append-nil m.seat.mine);
+    rising = le_refl (length m.seat.seen);
     asked = λ tx is. tt;
     plans = λ tx is. tt;
     planned = omega arith;
@@ -96,6 +104,7 @@ module _ {B Y : Type 0} (gives : Y → ℕ → List Outcome → Op) (stands : Y 
     seen = chained a.seat.seen b.seat.seen c.seat.seen x.seen y.seen;
     added = x.added ++ y.added;
     mine = y.mine ∙ (ap (λ l. l ++ y.added) x.mine ∙ append_assoc a.seat.mine x.added y.added);
+    rising = rising_append (length a.seat.seen) (length b.seat.seen) (length c.seat.seen) x.added y.added x.rising y.rising;
     asked = λ tx is. asked_append (gives a.task.body) tx a.seat.mine x.added y.added (x.asked tx is)
         (subst (λ l. AreAsked (gives a.task.body) tx l y.added) x.mine (subst (λ (f : ℕ → List Outcome → Op). AreAsked f tx b.seat.mine y.added) x.gives_is (y.asked tx (x.tx ∙ is))));
     plans = λ tx is. are_planned_append p.set c.seat.seen tx a.eager a.jobs a.planned x.added y.added
@@ -130,6 +139,7 @@ module _ {B Y : Type 0} (gives : Y → ℕ → List Outcome → Op) (stands : Y 
         seen = subst (Begins m.seat.seen) (sym seen) (noted_begins m.seat.seen story own begins);
         added = own_pairs story own;
         mine = mine ∙ own_is m.seat.mine story own;
+        rising = subst (λ (l : List Entry). AreRising (length m.seat.seen) (length l) (own_pairs story own)) (sym seen) (own_rises m.seat.seen story own begins);
         asked = asked;
         plans = λ tx is. subst (λ (l : List Entry). ArePlanned p.set l tx m.eager m.jobs m.planned (own_pairs story own)) (sym seen) (plans tx is);
         planned = planned;
@@ -159,6 +169,7 @@ module _ {B Y : Type 0} (gives : Y → ℕ → List Outcome → Op) (stands : Y 
         seen = subst (Begins m.seat.seen) (sym seen) (whole m.seat.seen);
         added = [];
         mine = mine ∙ sym (append-nil m.seat.mine);
+        rising = subst (λ (l : List Entry). length m.seat.seen ≤ length l) (sym seen) (le_refl (length m.seat.seen));
         asked = λ tx is. tt;
         plans = λ tx is. tt;
         planned = omega (arith, planned);

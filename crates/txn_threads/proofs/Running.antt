@@ -18,6 +18,7 @@ use Rattle.txn_threads.specs.declared.member.Member.{Member}
 use Rattle.txn_threads.specs.declared.member.Worker.{Worker}
 use Rattle.txn_threads.specs.Scripts.{AreAsked}
 use Rattle.txn_threads.specs.Plans.{plans_in, ArePlanned}
+use Rattle.txn_threads.specs.Rising.{AreRising}
 use Rattle.txn_threads.specs.Tasks.{Tied}
 use Rattle.txn_threads.specs.Rounds.{Each, Sits, Ran, Halted, WorkerSits, WorkerRan}
 use Rattle.txn_threads.specs.Runs.{MayRun, HasRun, IsDone, FirstStop, FirstHalt, HaltIs, StopIs, run_stop, IfStopped, Cleared, WorkerCleared}
@@ -108,6 +109,7 @@ module _ {B Y : Type 0} (gives : Y → ℕ → List Outcome → Op) (stands : Y 
         seen = subst (λ (s : SeatFacts). Begins s.seen n.seat.seen) same r.seen;
         added = r.added;
         mine = r.mine ∙ ap (λ (s : SeatFacts). s.mine ++ r.added) same;
+        rising = subst (λ (s : SeatFacts). AreRising (length s.seen) (length n.seat.seen) r.added) same r.rising;
         asked = λ t e. subst (λ (l : List (ℕ × Entry)). AreAsked (gives m.task.body) t l r.added) (ap (λ (s : SeatFacts). s.mine) same)
             (subst (λ (f : ℕ → List Outcome → Op). AreAsked f t c.seat.mine r.added) k.gives_is (r.asked t (of_tx ∙ e)));
         plans = plans;

@@ -20,6 +20,7 @@ use Rattle.txn_threads.specs.declared.round.Came.{Came}
 use Rattle.txn_threads.specs.declared.round.Came.TheVariants as came
 use Rattle.txn_threads.specs.Scripts.{own_outcomes, AreAsked}
 use Rattle.txn_threads.specs.Plans.{plans_in, ArePlanned}
+use Rattle.txn_threads.specs.Rising.{AreRising}
 use Rattle.txn_threads.specs.Tasks.{Tied}
 
 -- each element of the first list and the one of the second at its place
@@ -95,6 +96,7 @@ module _ {B Y : Type 0} (gives : Y → ℕ → List Outcome → Op) (stands : Y 
     pub seen : Begins m.seat.seen n.seat.seen
     pub added : List (ℕ × Entry)
     pub mine : n.seat.mine ≡ m.seat.mine ++ added
+    pub rising : AreRising (length m.seat.seen) (length n.seat.seen) added
     pub asked : (tx : TxId) → m.seat.tx ≡ Some tx → AreAsked (gives m.task.body) tx m.seat.mine added
     pub plans : (tx : TxId) → m.seat.tx ≡ Some tx → ArePlanned p.set n.seat.seen tx m.eager m.jobs m.planned added
     pub planned : n.planned ≡ m.planned + plans_in added

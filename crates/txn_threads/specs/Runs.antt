@@ -15,6 +15,7 @@ use Rattle.txn_threads.specs.declared.member.Member.{Member}
 use Rattle.txn_threads.specs.declared.member.Worker.{Worker}
 use Rattle.txn_threads.specs.Scripts.{NoSteps, AreAsked}
 use Rattle.txn_threads.specs.Plans.{plans_in, ArePlanned}
+use Rattle.txn_threads.specs.Rising.{AreRising}
 use Rattle.txn_threads.specs.Tasks.{Tied}
 use Rattle.txn_threads.specs.Rounds.{Each, MetIn}
 
@@ -25,7 +26,7 @@ pub record MayRun {B Y : Type 0} (p : PlantFacts) (m : Member B Y) : Type 0 wher
   pub fresh : (tx : TxId) → m.seat.tx ≡ Some tx → NoSteps tx m.seat.mine
 
 -- A member before and after a run: its seat has seen more, and what it added to its own entries is its body's and its own
--- plans, at most as many as it is to have.
+-- plans, at most as many as it is to have. The places of what it added rise, from the end of what the seat had seen.
 pub record HasRun {B Y : Type 0} (gives : Y → ℕ → List Outcome → Op) (p : PlantFacts) (m n : Member B Y) : Type 0 where
   pub of : IsOf p n.seat
   pub tx : n.seat.tx ≡ m.seat.tx
@@ -35,6 +36,7 @@ pub record HasRun {B Y : Type 0} (gives : Y → ℕ → List Outcome → Op) (p 
   pub seen : Begins m.seat.seen n.seat.seen
   pub added : List (ℕ × Entry)
   pub mine : n.seat.mine ≡ m.seat.mine ++ added
+  pub rising : AreRising (length m.seat.seen) (length n.seat.seen) added
   pub asked : (tx : TxId) → m.seat.tx ≡ Some tx → AreAsked (gives m.task.body) tx m.seat.mine added
   pub plans : (tx : TxId) → m.seat.tx ≡ Some tx → ArePlanned p.set n.seat.seen tx m.eager m.jobs 0 added
   pub few : plans_in added ≤ m.jobs
@@ -60,11 +62,11 @@ pub record Operated (s t : SeatFacts) : Type 0 where
 abbrev pub GotMore : {O : Type 0} → (O → List Entry → Type 0) → O → O → List Entry → Type 0
 GotMore got o q new = (l : List Entry) → got o l → got q (l ++ new)
 
--- The out has got these entries, and may get after them any part of a legal history that goes on from what the seat has
--- drained.
-pub record MayDrain {O : Type 0} (legal : List Entry → Type 0) (got good : O → List Entry → Type 0) (s : SeatFacts) (o : O) (l : List Entry) : Type 0 where
-  pub got_is : got o l
-  pub fine : (h : List Entry) (to : ℕ) → legal h → Begins s.seen h → good o (l ++ part h s.drained to)
+-- Of each legal history that begins with what the seat has seen, the out may get any part from what the seat has drained
+-- on, after entries that it has got.
+abbrev pub MayDrain : {O : Type 0} → (legal : List Entry → Type 0) → (got good : O → List Entry → Type 0) → SeatFacts → O → Type 0
+MayDrain legal got good s o =
+    (h : List Entry) (to : ℕ) → legal h → Begins s.seen h → (l : List Entry) × got o l × good o (l ++ part h s.drained to)
 
 -- The run came to its end without a fault of the out, which got all that was drained.
 abbrev pub Collected : {O : Type 0} → (got lost : O → List Entry → Type 0) → SeatFacts → SeatFacts → O → O → Type 0

@@ -52,13 +52,14 @@ fn drain_all<R: Wait, B: Board, O: EntryOut>(
     requires operator { operator.old.tx ≡ None }
     requires spare { spare.old.items ≡ [] }
     requires lost { O.lost out.old [] }
-    requires good { (l : List Noted) × MayDrain (IsLegal plant.now.set) O.got O.good operator.old out.old l }
+    requires good { MayDrain (IsLegal plant.now.set) O.got O.good operator.old out.old }
     ensures operated { Operated operator.old operator.new }
     ensures within { operator.new.drained ≤ length operator.new.seen }
     ensures spare { (spare.new.items ≡ []) × (vec_capacity spare.new ≡ vec_capacity spare.old) }
     ensures stops { O.stops out.old ≤ O.stops out.new }
     ensures ok { IfOk result (λ _. O.lost out.new [] × GotMore O.got out.old out.new (part operator.new.seen operator.old.drained operator.new.drained)) }
-    ensures good { IfOk result (λ _. (l : List Noted) → MayDrain (IsLegal plant.now.set) O.got O.good operator.old out.old l → (k : List Noted) × MayDrain (IsLegal plant.now.set) O.got O.good operator.new out.new k) }
+    ensures may { IfOk result (λ _. MayDrain (IsLegal plant.now.set) O.got O.good operator.new out.new) }
+    ensures good { (story : List Noted) → O.good out.old story → O.good out.new story }
     ensures err { IfErr result (λ _. Rose (O.stops out.old) (O.stops out.new) × O.lost out.new (part operator.new.seen operator.old.drained operator.new.drained) × GotMore O.got out.old out.new []) }
 {
     plant.drain(rt, operator, usize::MAX, spare);
@@ -169,12 +170,14 @@ fn rounds<R: Threads + Wait + Sync, B: Board + Send, Y: Body + Send, G: Gate + S
     requires operator { operator.old.tx ≡ None }
     requires spare { spare.old.items ≡ [] }
     requires lost { O.lost out.old [] }
-    requires good { (l : List Noted) × MayDrain (IsLegal plant.now.set) O.got O.good operator.old out.old l }
+    requires good { MayDrain (IsLegal plant.now.set) O.got O.good operator.old out.old }
     ensures ran { Each (WorkerRan Y.gives Y.stands plant.now) workers.old workers.new }
     ensures done { IfOk result (λ _. All (λ w. All (λ m. m.jobs ≤ m.ended) w.members.items) workers.new) }
     ensures none { IfOk result (λ _. All (λ w. w.halt ≡ None) workers.new) }
     ensures stop { IfErr result (λ s. HaltIs workers.new s) }
     ensures operated { Operated operator.old operator.new }
+    ensures within { operator.new.drained ≤ length operator.new.seen }
+    ensures good { (story : List Noted) → O.good out.old story → O.good out.new story }
     ensures spare { (spare.new.items ≡ []) × (vec_capacity spare.new ≡ vec_capacity spare.old) }
     ensures stops { O.stops out.old ≤ O.stops out.new }
     ensures got { IfStopped result (Rose (O.stops out.old) (O.stops out.new) × CollectedTo O.got O.lost operator.old operator.new out.old out.new) (Collected O.got O.lost operator.old operator.new out.old out.new) }
@@ -232,12 +235,14 @@ pub fn run_all<
     requires operator { operator.old.tx ≡ None }
     requires spare { spare.old.items ≡ [] }
     requires lost { O.lost out.old [] }
-    requires good { (l : List Noted) × MayDrain (IsLegal plant.now.set) O.got O.good operator.old out.old l }
+    requires good { MayDrain (IsLegal plant.now.set) O.got O.good operator.old out.old }
     ensures members { Each (λ w u. Each (HasRun Y.gives plant.now) w.members.items u.members.items) workers.old workers.new }
     ensures done { IfOk result (λ _. All (λ w. All (IsDone plant.now) w.members.items) workers.new) }
     ensures none { IfOk result (λ _. All (λ w. w.halt ≡ None) workers.new) }
     ensures stop { IfErr result (λ s. StopIs Y.gives plant.now workers.new s) }
     ensures operated { Operated operator.old operator.new }
+    ensures within { operator.old.drained ≤ length operator.old.seen → operator.new.drained ≤ length operator.new.seen }
+    ensures good { (story : List Noted) → O.good out.old story → O.good out.new story }
     ensures spare { (spare.new.items ≡ []) × (vec_capacity spare.new ≡ vec_capacity spare.old) }
     ensures stops { O.stops out.old ≤ O.stops out.new }
     ensures got { IfStopped result (Rose (O.stops out.old) (O.stops out.new) × CollectedTo O.got O.lost operator.old operator.new out.old out.new) (Collected O.got O.lost operator.old operator.new out.old out.new) }

@@ -25,8 +25,9 @@ loop-init g c = let e = c.in-Ok.ensures in (
   c.drain_all.ensures.spare.0,
   c.drain_all.ensures.spare.1,
   (e.ok.1, e.ok.0),
-  e.good c.requires.good.0 c.requires.good.1,
+  e.may,
   c.drain_all.ensures.stops,
+  c.drain_all.ensures.good,
 )
 
 pub round_all-requires-clause-sit : goal.round_all-requires-clause-sit
@@ -40,6 +41,15 @@ drain_all-requires-in-loop-clause-operator g c = c.loop.invariant.4.tx ∙ c.req
 
 pub drain_all-requires-in-loop-clause-lost : goal.drain_all-requires-in-loop-clause-lost
 drain_all-requires-in-loop-clause-lost g c = c.loop.invariant.8.1
+
+pub drain_all-requires-in-loop-clause-good : goal.drain_all-requires-in-loop-clause-good
+drain_all-requires-in-loop-clause-good g c = c.loop.invariant.9
+
+pub returns-in_default-drain_all-clause-good : goal.returns-in_default-drain_all-clause-good
+returns-in_default-drain_all-clause-good g c = λ story fine. c.drain_all-in-loop.ensures.good story (c.loop.invariant.11 story fine)
+
+pub returns-in-Some-first_halt-clause-good : goal.returns-in-Some-first_halt-clause-good
+returns-in-Some-first_halt-clause-good g c = λ story fine. c.drain_all-in-loop.ensures.good story (c.loop.invariant.11 story fine)
 
 pub returns-in_default-drain_all-clause-ran : goal.returns-in_default-drain_all-clause-ran
 returns-in_default-drain_all-clause-ran g c = workers_trans g.Y.Body.gives g.Y.Body.stands c.args.plant.now c.args.workers.now c.loop.workers c.round_all.new.workers c.loop.invariant.2 c.round_all.ensures.ran
@@ -86,6 +96,7 @@ loop-preserved g c = let i = c.loop.invariant in let d = c.drain_all-in-loop.ens
   d.spare.0,
   d.spare.1 ∙ i.7,
   (got_more g.O.EntryOut.got c.args.operator.now c.loop.operator c.drain_all-in-loop.new.operator c.args.out.now c.loop.out c.drain_all-in-loop.new.out i.4 i.5 d.operated i.8.0 c.in-Ok-drain_all.ensures.ok.1, c.in-Ok-drain_all.ensures.ok.0),
-  c.in-Ok-drain_all.ensures.good i.9.0 i.9.1,
+  c.in-Ok-drain_all.ensures.may,
   omega (arith, was, rose),
+  (λ story fine. d.good story (i.11 story fine)),
 )

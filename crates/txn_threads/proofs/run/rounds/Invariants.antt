@@ -17,5 +17,6 @@ invariant-loop g l =
     × (l.spare.items ≡ [])
     × (vec_capacity l.spare ≡ vec_capacity l.fn.spare)
     × Collected g.O.EntryOut.got g.O.EntryOut.lost l.fn.operator l.operator l.fn.out l.out
-    × ((k : List Entry) × MayDrain (IsLegal l.fn.plant.set) g.O.EntryOut.got g.O.EntryOut.good l.operator l.out k)
+    × MayDrain (IsLegal l.fn.plant.set) g.O.EntryOut.got g.O.EntryOut.good l.operator l.out
     × (g.O.EntryOut.stops l.fn.out ≤ g.O.EntryOut.stops l.out)
+    × ((story : List Entry) → g.O.EntryOut.good l.fn.out story → g.O.EntryOut.good l.out story)

@@ -1,0 +1,2 @@
+pub mod Plannable
+pub mod Laws

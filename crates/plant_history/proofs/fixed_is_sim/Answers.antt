@@ -1,0 +1,8 @@
+use Rattle.plant_history.proofs.Fixed.{fixed_sim, fixed_under_way}
+use Rattle.plant_history.proofs.fixed_is_sim.Goals as goal
+
+pub returns-clause-sim : goal.returns-clause-sim
+returns-clause-sim c = fixed_sim
+
+pub returns-clause-under_way : goal.returns-clause-under_way
+returns-clause-under_way c = fixed_under_way
