@@ -58,21 +58,3 @@ planned_sim w history h =
     let first : planned_jobs (plans w) ≡ sum (map length w.releases) = planned_plans 0 w.releases in
     let rest : planned_jobs h.rest ≡ 0 = planned_fixed w (plans w) h.rest h.fixed in
     omega (arith, all, first, rest)
-
--- what stands at the front plans no more
-planned_one : (e : Entry) (xs : List Entry) → planned_jobs (e ∷ xs) ≡ planned_jobs (e ∷ []) + planned_jobs xs
-planned_one e xs = planned_append (e ∷ []) xs
-
-pub planned_front : (n : ℕ) (xs : List Entry) → planned_jobs (take n xs) ≤ planned_jobs xs
-planned_front zero xs = omega arith
-planned_front (suc n) [] = omega arith
-planned_front (suc n) (e ∷ xs) = omega (arith, planned_one e (take n xs), planned_one e xs, planned_front n xs)
-
-legal_from : (set : Set) (s : State) (n : ℕ) (xs : List Entry) → IsLegalFrom set s xs → IsLegalFrom set s (take n xs)
-legal_from set s zero xs h = tt
-legal_from set s (suc n) [] h = tt
-legal_from set s (suc n) (e ∷ xs) h = (h.0, legal_from set (state_after set s e) n xs h.1)
-
--- and is legal where the whole is
-pub legal_front : (set : Set) (n : ℕ) (xs : List Entry) → IsLegal set xs → IsLegal set (take n xs)
-legal_front set n xs h = legal_from set _ n xs h

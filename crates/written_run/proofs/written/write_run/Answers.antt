@@ -28,7 +28,7 @@ pub returns-in-Err-clause-front : goal.returns-in-Err-clause-front
 returns-in-Err-clause-front g c = λ admitted e.
     let w : Workload = workload (g.B.Board.set c.args.board) (map g.Y.Body.gives c.args.bodies.now) c.args.ticks.now in
     in_lines c.args.names.now admitted w c.args.head.now (g.K.Sink.taken c.args.sink.now) e (g.K.Sink.taken c.write_all.new.sink) (g.K.Sink.taken c.hand_lines-handed.new.sink)
-    c.in_ok-write_all.ensures.all c.in-Err.ensures.cut
+    c.in_ok-write_all.ensures.all c.in-Err.ensures.front
 
 pub returns-in_err-finish-clause-front : goal.returns-in_err-finish-clause-front
 returns-in_err-finish-clause-front g c = λ admitted e.
@@ -43,7 +43,7 @@ returns-in_err-write_all-2-clause-front g c = λ admitted e.
     c.in_ok-write_all.ensures.all c.in-Ok.ensures.lines
     (g.K.Sink.taken c.write_all-2.new.sink) c.in_err-write_all-2.ensures.prefix.0 c.deref.result.now (closing_is c.args.names.now admitted w c.args.head.now (g.K.Sink.taken c.args.sink.now) e (g.B.Board.stands c.hand_lines-handed.new.board) (g.K.Sink.taken c.write_all.new.sink) _ _ (g.K.Sink.taken c.hand_lines-handed.new.sink)
     c.in_ok-write_all.ensures.all c.in-Ok.ensures.lines
-    _ _ _ _ refl (c.in_ok-finish.ensures w.set c.in-Ok.ensures.lines.history c.in-Ok.ensures.lines.going.follows)
+    _ _ _ _ refl (c.in_ok-finish.ensures w.set c.in-Ok.ensures.lines.history c.in-Ok.ensures.lines.follows)
     (c.into_parts-items.ensures.items c.in-Ok.ensures.lines.history c.in-Ok.ensures.lines.stood ∙ ap (λ (s : Set). (state_of s c.in-Ok.ensures.lines.history).items) c.hand_lines-handed.ensures.set)
     c.deref.ensures.value) c.in_err-write_all-2.ensures.prefix.1)
 
@@ -54,6 +54,6 @@ returns-clause-whole g c = λ admitted e.
     c.in_ok-write_all.ensures.all c.in-Ok.ensures.lines
     (g.K.Sink.taken c.write_all-2.new.sink) c.deref.result.now (closing_is c.args.names.now admitted w c.args.head.now (g.K.Sink.taken c.args.sink.now) e (g.B.Board.stands c.hand_lines-handed.new.board) (g.K.Sink.taken c.write_all.new.sink) _ _ (g.K.Sink.taken c.hand_lines-handed.new.sink)
     c.in_ok-write_all.ensures.all c.in-Ok.ensures.lines
-    _ _ _ _ refl (c.in_ok-finish.ensures w.set c.in-Ok.ensures.lines.history c.in-Ok.ensures.lines.going.follows)
+    _ _ _ _ refl (c.in_ok-finish.ensures w.set c.in-Ok.ensures.lines.history c.in-Ok.ensures.lines.follows)
     (c.into_parts-items.ensures.items c.in-Ok.ensures.lines.history c.in-Ok.ensures.lines.stood ∙ ap (λ (s : Set). (state_of s c.in-Ok.ensures.lines.history).items) c.hand_lines-handed.ensures.set)
     c.deref.ensures.value) c.in_ok-write_all-2.ensures.all
