@@ -1,15 +1,14 @@
 -- What a sink has once its out has stopped.
-use Rattle.std.proofs.Common.{◌≡◌, ◌≢◌, ℕ, ◌+◌, ◌<◌, ◌≤◌, List, [], ◌++◌, take, length, Option, None, Some, refl, sym, ap, subst, ◌∙◌, arith, length-append, append-nil}
+use Rattle.std.proofs.Common.{◌≡◌, ◌≢◌, ℕ, ◌<◌, ◌≤◌, List, [], ◌++◌, take, length, Option, None, Some, sym, ap, subst, ◌∙◌, arith, length-append, append-nil}
 use Rattle.std.proofs.lemmas.List.{append_cancel_left}
 use Rattle.std.proofs.Math.Seq.{take-append_seam, take-length}
 use Rattle.std.specs.Io.KnownBytes.{Appends}
 use Rattle.step_journal.specs.declared.entry.Entry.{Entry}
-use Rattle.step_journal.specs.History.{IsLegal}
 use Rattle.job_rows.specs.Upkeep.{planned_jobs}
 use Rattle.report_lines.specs.Texts.{entries_text}
 use Rattle.report_out.specs.declared.standing.Standing.{Standing}
 use Rattle.report_out.specs.declared.standing.Standing.TheVariants.{Going, Cut, Full}
-use Rattle.report_out.specs.Outs.{Begun, OutSeen, IsGoing, IsBefore, IsCut, IsOver, TakenAt, LostAt, HasTaken, IsLost}
+use Rattle.report_out.specs.Outs.{Begun, OutSeen, IsGoing, IsBefore, IsCut, IsOver, TakenAt, LostAt}
 use Rattle.report_out.specs.Laws.{IsFrontOf, AfterCut, AfterFull, HasFront}
 use Rattle.report_out.proofs.Texts.{legal_front, planned_append, text_append, front_of}
 

@@ -1,5 +1,5 @@
 -- What the out of a run has got when the run ends, and when the out stopped.
-use Rattle.std.proofs.Common.{◌≡◌, ◌≢◌, ℕ, ◌+◌, ◌≤◌, List, [], ◌++◌, take, drop, map, length, Option, Result, Ok, Err, IfOk, OnErr, refl, sym, ap, subst, ◌∙◌, arith, append-nil, append_assoc}
+use Rattle.std.proofs.Common.{◌≡◌, ◌≢◌, ℕ, ◌+◌, ◌≤◌, List, [], ◌++◌, take, drop, map, length, Result, Ok, Err, IfOk, OnErr, refl, sym, ap, subst, ◌∙◌, arith, append-nil, append_assoc}
 use Rattle.std.specs.List.{sum}
 use Rattle.std.specs.Io.KnownBytes.{Appends}
 use Rattle.std.proofs.lemmas.List.{take-append-drop}
@@ -17,7 +17,7 @@ use Rattle.report_out.specs.declared.standing.Standing.TheVariants.{Going, Cut, 
 use Rattle.report_out.specs.Outs.{Begun, OutSeen, IsGoing, HasTaken, IsLost, full_stops}
 use Rattle.report_out.specs.Laws.{IsFrontOf}
 use Rattle.report_out.proofs.Texts.{legal_front, planned_front, text_append}
-use Rattle.report_out.proofs.Taking.{going, goes}
+use Rattle.report_out.proofs.Taking.{going}
 use Rattle.report_out.proofs.Stopping.{has_front}
 use Rattle.written_run.specs.Lines.{HasLines, HasFirstLines}
 use Rattle.written_run.proofs.Plans.{planned_sim}

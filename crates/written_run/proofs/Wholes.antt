@@ -1,11 +1,11 @@
 -- The report of a run, in the parts in which it is written.
-use Rattle.std.proofs.Common.{◌≡◌, ℕ, Bool, List, [], ◌++◌, take, drop, map, length, Option, Result, Ok, Err, OnOk, OnErr, refl, sym, ap, subst, ◌∙◌, append_assoc}
+use Rattle.std.proofs.Common.{◌≡◌, ℕ, Bool, List, [], ◌++◌, take, drop, Option, Result, Ok, Err, OnOk, OnErr, refl, sym, ap, subst, ◌∙◌, append_assoc}
 use Rattle.std.specs.Io.KnownBytes.{Appends}
 use Rattle.std.proofs.lemmas.List.{take-append-drop}
 use Rattle.io_edge.proofs.Known.{appends_then}
 use Rattle.rt_base.specs.declared.name.Names.{Names}
 use Rattle.item_model.specs.declared.stored.Stored.{Stored}
-use Rattle.txn_set.specs.Set.{Set, IsCompiled}
+use Rattle.txn_set.specs.Set.{IsCompiled}
 use Rattle.step_journal.specs.declared.entry.Entry.{Entry}
 use Rattle.step_journal.specs.History.{state_of}
 use Rattle.sim_history.specs.Sim.{Workload, IsSim}
@@ -13,8 +13,8 @@ use Rattle.sim_run.specs.Workloads.{AreAccepted, IsObedient}
 use Rattle.sim_run.proofs.Exist.{runs_are as runs}
 use Rattle.job_rows.specs.Rows.{job_rows}
 use Rattle.job_rows.specs.Upkeep.{RowsSeen, Follows}
-use Rattle.report_lines.specs.Texts.{entries_text, NamesSet}
-use Rattle.run_report.specs.Report.{opening_text, closing_text, report_of, Closes}
+use Rattle.report_lines.specs.Texts.{entries_text}
+use Rattle.run_report.specs.Report.{opening_text, closing_text, Closes}
 use Rattle.report_out.proofs.Texts.{appends_none}
 use Rattle.written_run.specs.Written.{IsTextBy, Wrote, WroteFront}
 use Rattle.written_run.specs.Lines.{HasLines, HasFirstLines}
