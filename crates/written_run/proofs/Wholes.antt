@@ -4,24 +4,21 @@ use Rattle.std.specs.Io.KnownBytes.{Appends}
 use Rattle.std.proofs.lemmas.List.{take-append-drop}
 use Rattle.io_edge.proofs.Known.{appends_then}
 use Rattle.rt_base.specs.declared.name.Names.{Names}
-use Rattle.item_model.specs.declared.stored.Stored.{Stored}
 use Rattle.txn_set.specs.Set.{IsCompiled}
 use Rattle.step_journal.specs.declared.entry.Entry.{Entry}
-use Rattle.step_journal.specs.History.{state_of}
 use Rattle.sim_history.specs.Sim.{Workload, IsSim}
 use Rattle.sim_run.specs.Workloads.{AreAccepted, IsObedient}
 use Rattle.sim_run.proofs.Exist.{runs_are as runs}
-use Rattle.job_rows.specs.Rows.{job_rows}
-use Rattle.job_rows.specs.Upkeep.{RowsSeen, Follows}
+use Rattle.job_rows.specs.Upkeep.{RowsSeen}
 use Rattle.report_lines.specs.Texts.{entries_text}
-use Rattle.run_report.specs.Report.{opening_text, closing_text, Closes}
+use Rattle.run_report.specs.Report.{opening_text}
 use Rattle.report_out.proofs.Texts.{appends_none}
 use Rattle.written_run.specs.Written.{IsTextBy, Wrote, WroteFront}
-use Rattle.written_run.specs.Lines.{HasLines, HasFirstLines}
+use Rattle.written_run.specs.Lines.{HasLines, HasFirstLines, closing_of}
 
 module _ (names : Names) (admitted : Bool) (w : Workload) (head : List ℕ) (taken : Option (List ℕ)) (is_head : head ≡ opening_text names w.set admitted) where
   abbrev closing : List Entry → List ℕ
-  closing history = closing_text names (job_rows w.set history) (state_of w.set history).items
+  closing history = closing_of names w.set history
 
   abbrev IsText : List ℕ → Type 0
   IsText text = IsTextBy names admitted w text
@@ -80,53 +77,25 @@ module _ (names : Names) (admitted : Bool) (w : Workload) (head : List ℕ) (tak
     has_all = appends_then taken mid then head (entries_text names h.history) first
         h.has
 
-    pub closes : (items : List Stored) → items ≡ (state_of w.set h.history).items → Closes names rows items
-    closes items last = record {
-      set = w.set;
-      story = h.history;
-      follows = h.follows;
-      one_each = h.one_each;
-      last = last;
-    }
+    -- the front of the closing lines
+    pub in_closing : (taken' : Option (List ℕ)) (n : ℕ) → Appends then taken' (take n (closing h.history)) → WroteFront IsText taken taken'
+    in_closing taken' n has =
+        let last = closing h.history in
+        record {
+          front = (head ++ entries_text names h.history) ++ take n last;
+          left = drop n last;
+          is = by_parts h.history _ h.sim
+              (append_assoc (head ++ entries_text names h.history) (take n last) (drop n last)
+              ∙ (ap (λ (t : List ℕ). (head ++ entries_text names h.history) ++ t) (take-append-drop n last)
+              ∙ append_assoc head (entries_text names h.history) last));
+          written = appends_then taken then taken' (head ++ entries_text names h.history) (take n last) has_all has;
+        }
 
-    pub follows : Follows w.set rows h.history
-    follows = h.follows
-
-    pub no_lines : lines ≡ []
-    no_lines = h.sent
-
-    -- the closing lines, after no others
-    pub closing_is : (old new last : List ℕ) (items : List Stored) → old ≡ lines → new ≡ old ++ closing_text names (job_rows w.set h.history) items
-        → items ≡ (state_of w.set h.history).items → last ≡ new → last ≡ closing h.history
-    closing_is old new last items e f k l =
-        l ∙ (f ∙ (ap (λ (t : List ℕ). t ++ closing_text names (job_rows w.set h.history) items) (e ∙ h.sent)
-        ∙ ap (λ (i : List Stored). closing_text names (job_rows w.set h.history) i) k))
-
-    -- the head and all lines
-    pub before_closing : WroteFront IsText taken then
-    before_closing = record {
-      front = head ++ entries_text names h.history;
-      left = closing h.history;
+    pub whole : (taken' : Option (List ℕ)) → Appends then taken' (closing h.history) → Wrote IsText taken taken'
+    whole taken' has = record {
+      text = (head ++ entries_text names h.history) ++ closing h.history;
       is = by_parts h.history _ h.sim (append_assoc head (entries_text names h.history) (closing h.history));
-      written = has_all;
-    }
-
-    pub in_closing : (taken' : Option (List ℕ)) (n : ℕ) (last : List ℕ) → last ≡ closing h.history → Appends then taken' (take n last) → WroteFront IsText taken taken'
-    in_closing taken' n last is has = record {
-      front = (head ++ entries_text names h.history) ++ take n last;
-      left = drop n last;
-      is = by_parts h.history _ h.sim
-          (append_assoc (head ++ entries_text names h.history) (take n last) (drop n last)
-          ∙ (ap (λ (t : List ℕ). (head ++ entries_text names h.history) ++ t) (take-append-drop n last ∙ is)
-          ∙ append_assoc head (entries_text names h.history) (closing h.history)));
-      written = appends_then taken then taken' (head ++ entries_text names h.history) (take n last) has_all has;
-    }
-
-    pub whole : (taken' : Option (List ℕ)) (last : List ℕ) → last ≡ closing h.history → Appends then taken' last → Wrote IsText taken taken'
-    whole taken' last is has = record {
-      text = (head ++ entries_text names h.history) ++ last;
-      is = by_parts h.history _ h.sim (append_assoc head (entries_text names h.history) last ∙ ap (λ (t : List ℕ). head ++ (entries_text names h.history ++ t)) is);
-      written = appends_then taken then taken' (head ++ entries_text names h.history) last has_all has;
+      written = appends_then taken then taken' (head ++ entries_text names h.history) (closing h.history) has_all has;
     }
 
 -- by the answer
@@ -135,9 +104,9 @@ pub always_err : {A E P : Type 0} (r : Result A E) → P → OnErr r P
 always_err (Ok x) h = tt
 always_err (Err e) h = h
 
-pub always_ok : {A E P : Type 0} (r : Result A E) → P → OnOk r P
-always_ok (Ok x) h = h
-always_ok (Err e) h = tt
+pub on_ok : {A E : Type 0} {P Q : Type 0} (r : Result A E) → (P → Q) → OnOk r P → OnOk r Q
+on_ok (Ok x) f h = f h
+on_ok (Err e) f h = tt
 
 -- by names and bytes that are the same
 
