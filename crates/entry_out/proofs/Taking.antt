@@ -1,5 +1,5 @@
 -- What an out that never stops has taken.
-use Rattle.std.proofs.Common.{◌≡◌, ℕ, ◌+◌, ◌≤◌, List, [], ◌++◌, length, Result, Ok, Err, IfOk, OnErr, refl, ap, ◌∙◌, arith, length-append}
+use Rattle.std.proofs.Common.{◌≡◌, ℕ, ◌+◌, ◌≤◌, List, [], ◌++◌, length, Result, Ok, Err, IfOk, refl, ap, arith, length-append}
 use Rattle.io_edge.specs.Causes.{HasCause}
 use Rattle.step_journal.specs.declared.entry.Entry.{Entry}
 

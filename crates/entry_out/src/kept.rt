@@ -62,7 +62,7 @@ impl EntryOut for KeptEntries {
     }
 }
 
-fn append(into: &mut Vec<Entry>, entries: &[Entry])
+pub(crate) fn append(into: &mut Vec<Entry>, entries: &[Entry])
     requires places { vec_len into.old + length entries.now ≤ vec_capacity into.old }
     ensures items { into.new.items ≡ into.old.items ++ entries.now }
     ensures places { vec_capacity into.new ≡ vec_capacity into.old }

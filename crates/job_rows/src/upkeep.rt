@@ -178,6 +178,13 @@ impl JobRows {
         }
     }
 
+    /// How many jobs more have a place.
+    pub fn places_left(&self) -> usize
+        ensures { self.now.planned + result ≡ self.now.room }
+    {
+        self.room - self.planned
+    }
+
     /// The rows: the ended jobs in order of ending, and then the pending ones in falling priority. It takes no memory.
     pub fn into_rows(self) -> List<JobRow>
         ensures { (set : Set) (story : Many Noted) → Follows set self story → result ≡ job_rows set story }

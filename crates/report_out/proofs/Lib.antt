@@ -1,3 +1,4 @@
 pub mod Texts
 pub mod Taking
+pub mod Stopping
 pub mod Pieces

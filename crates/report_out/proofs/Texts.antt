@@ -1,7 +1,8 @@
 -- The lines of entries, as far as they were handed on.
-use Rattle.std.proofs.Common.{◌≡◌, ℕ, zero, suc, ◌+◌, ◌<◌, ◌≤◌, List, [], ◌∷◌, ◌++◌, take, drop, length, get_or, Option, None, Some, Result, Ok, Err, OnOk, OnErr, refl, sym, ap, subst, ◌∙◌, arith, length-append, append_assoc, append-nil, drop-cons, add-one}
+use Rattle.std.proofs.Common.{◌≡◌, ℕ, zero, suc, ◌+◌, ◌*◌, ◌<◌, ◌≤◌, List, [], ◌∷◌, ◌++◌, take, drop, length, get_or, Option, None, Some, Result, Ok, Err, OnOk, OnErr, refl, sym, ap, subst, ◌∙◌, arith, length-append, append_assoc, append-nil, drop-cons, add-one}
 use Rattle.std.proofs.lemmas.List.{take-append-drop}
 use Rattle.std.proofs.Math.Seq.{take-append_seam}
+use Rattle.std.proofs.Math.ListN.{drop_of_length-le}
 use Rattle.std.specs.List.{filter}
 use Rattle.std.specs.Io.KnownBytes.{Appends}
 use Rattle.std.proofs.lemmas.List.Elements.{filter-append}
@@ -26,7 +27,7 @@ legal_from set s (e ∷ xs) ys h = (h.0, legal_from set (state_after set s e) xs
 pub legal_front : (set : Set) (xs ys : List Entry) → IsLegal set (xs ++ ys) → IsLegal set xs
 legal_front set xs ys h = legal_from set _ xs ys h
 
-planned_append : (xs ys : List Entry) → planned_jobs (xs ++ ys) ≡ planned_jobs xs + planned_jobs ys
+pub planned_append : (xs ys : List Entry) → planned_jobs (xs ++ ys) ≡ planned_jobs xs + planned_jobs ys
 planned_append xs ys = ap (λ (l : List Entry). length l) (filter-append is_plan xs ys) ∙ length-append (filter is_plan xs) (filter is_plan ys)
 
 pub planned_front : (xs ys : List Entry) → planned_jobs xs ≤ planned_jobs (xs ++ ys)
@@ -175,6 +176,28 @@ has_come names rows now now' entries i e d taken now_taken then lines lines' h l
   follows = λ set story f legal. follows_next set rows now now' entries story i e d lt is (h.follows set story) (next set) f legal;
   places = places ∙ h.places;
 }
+
+-- how many bytes the lines have so far
+pub record AreCounted (names : Names) (entries : List Entry) (i bytes : ℕ) : Type 0 where
+  pub all : bytes + length (entries_text names (drop i entries)) ≡ length (entries_text names entries)
+  pub short : bytes ≤ 256 * i
+
+pub counted_none : (names : Names) (entries : List Entry) → AreCounted names entries 0 0
+counted_none names entries = record { all = omega arith; short = omega arith }
+
+pub counted_next : (names : Names) (entries : List Entry) (i bytes n : ℕ) (e d : Entry) → AreCounted names entries i bytes → i < length entries
+    → e ≡ get_or entries i d → n ≡ length (whole_entry_line names 0 e) → n ≤ 256 → AreCounted names entries (i + 1) (bytes + n)
+counted_next names entries i bytes n e d c lt is line few =
+    let next = ap (λ (t : List ℕ). length t) (text_cons names entries i e d lt is) ∙ length-append (whole_entry_line names 0 e) (entries_text names (drop (i + 1) entries)) in
+    record { all = omega (arith, c.all, next, line); short = omega (arith, c.short, few) }
+
+pub counted_all : (names : Names) (entries : List Entry) (i bytes : ℕ) → AreCounted names entries i bytes → length entries ≤ i → i ≤ length entries
+    → (bytes ≡ length (entries_text names entries)) × (bytes ≤ 256 * length entries)
+counted_all names entries i bytes c le within =
+    let none = ap (λ (l : List Entry). length (entries_text names l)) (drop_of_length-le entries le) in (
+      omega (arith, c.all, none),
+      omega (arith, c.short, within),
+    )
 
 -- ---- by the answer
 

@@ -1,5 +1,5 @@
 //! The lines of entries, handed to a sink.
-ghost use Rattle.std.specs.Prelude.{◌≡◌, ◌≤◌, ◌+◌, ℕ, ◌++◌, ◌∷◌, [], List as Many, take, vec_len, vec_capacity, OnOk, OnErr};
+ghost use Rattle.std.specs.Prelude.{◌≡◌, ◌<◌, ◌≤◌, ◌+◌, ◌*◌, ◌^◌, ℕ, ◌++◌, ◌∷◌, [], List as Many, take, length, vec_len, vec_capacity, IfOk, OnOk, OnErr};
 ghost use Rattle.std.specs.Io.KnownBytes.{Appends};
 ghost use Rattle.io_edge.specs.Causes.{HasCause};
 ghost use Rattle.txn_set.specs.Set.{Set};
@@ -47,18 +47,19 @@ fn make_room<K: Sink>(lines: &mut Vec<u8>, sink: &mut K) -> Result<(), WriteFaul
     }
 }
 
-// Adds the line of the next entry after the others.
+// Adds the line of the next entry after the others, and answers how many bytes it has.
 fn add_line<K: Sink>(
     writer: &mut ReportWriter,
     names: &Names,
     entry: Entry,
     lines: &mut Vec<u8>,
     sink: &mut K,
-) -> Result<(), WriteFault>
+) -> Result<u64, WriteFault>
     requires next { Writes names.now writer.old entry }
     requires room { 256 ≤ vec_capacity lines.old }
     ensures added { OnOk result ((sent : Many ℕ) × Appends (K.taken sink.old) (K.taken sink.new) sent ×
         (sent ++ lines.new.items ≡ lines.old.items ++ whole_entry_line names.now 0 entry)) }
+    ensures bytes { IfOk result (λ n. (n ≡ length (whole_entry_line names.now 0 entry)) × (n ≤ 256)) }
     ensures front { OnErr result ((n : ℕ) × Appends (K.taken sink.old) (K.taken sink.new) (take n lines.old.items)) }
     ensures follows { OnOk result ((set : Set) (story : Many Noted) → Follows set writer.old story →
         IsLegal set (story ++ entry ∷ []) → Follows set writer.new (story ++ entry ∷ [])) }
@@ -67,23 +68,26 @@ fn add_line<K: Sink>(
     ensures cause { HasCause (K.faults sink.old) (K.faults sink.new) result }
 {
     make_room(lines, sink)?;
+    let before = lines.len();
     writer.push(names, entry, lines);
-    Ok(())
+    Ok((lines.len() - before) as u64)
 }
 
-/// Hands the lines of the next entries to the sink. `lines` is a place for them, of at least 256 bytes: as many of them
-/// as it holds are handed on at once. It takes no memory.
+/// Hands the lines of the next entries to the sink, and answers how many bytes they have. `lines` is a place for them, of
+/// at least 256 bytes: as many of them as it holds are handed on at once. It takes no memory.
 pub(crate) fn add_lines<K: Sink>(
     writer: &mut ReportWriter,
     names: &Names,
     entries: &[Entry],
     lines: &mut Vec<u8>,
     sink: &mut K,
-) -> Result<(), WriteFault>
+) -> Result<u64, WriteFault>
     requires next { Continues names.now writer.old entries.now }
     requires room { 256 ≤ vec_capacity lines.old }
     requires empty { lines.old.items ≡ [] }
+    requires few { length entries.now < 2 ^ 42 }
     ensures all { OnOk result (Appends (K.taken sink.old) (K.taken sink.new) (entries_text names.now entries.now) × (lines.new.items ≡ [])) }
+    ensures bytes { IfOk result (λ n. (n ≡ length (entries_text names.now entries.now)) × (n ≤ 256 * length entries.now)) }
     ensures front { OnErr result ((n : ℕ) × Appends (K.taken sink.old) (K.taken sink.new) (take n (entries_text names.now entries.now))) }
     ensures follows { OnOk result ((set : Set) (story : Many Noted) → Follows set writer.old story →
         IsLegal set (story ++ entries.now) → Follows set writer.new (story ++ entries.now)) }
@@ -91,8 +95,10 @@ pub(crate) fn add_lines<K: Sink>(
     ensures room { vec_capacity lines.old ≤ vec_capacity lines.new }
     ensures cause { HasCause (K.faults sink.old) (K.faults sink.new) result }
 {
+    let mut bytes = 0;
     for i in 0..entries.len() {
-        add_line(writer, names, entries[i], lines, sink)?;
+        bytes += add_line(writer, names, entries[i], lines, sink)?;
     }
-    send(lines, sink)
+    send(lines, sink)?;
+    Ok(bytes)
 }

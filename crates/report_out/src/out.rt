@@ -1,27 +1,23 @@
 //! An out for entries whose lines go to a sink.
-ghost use Rattle.std.specs.Prelude.{◌≤◌, List as Many, vec_capacity};
-ghost use Rattle.step_journal.specs.declared.entry.Entry.{Entry as Noted};
+ghost use Rattle.std.specs.Prelude.{◌≤◌, vec_capacity};
 ghost use Rattle.report_out.specs.Outs.{Begun, nothing};
 
 use crate::lines::add_lines;
+use crate::standing::Standing;
 use entry_out::{EntryOut, Stopped};
 use io_edge::Sink;
 use rt_base::Names;
-use run_report::ReportWriter;
+use run_report::{ReportWriter, planned};
 use std::marker::{Brand, PhantomData};
 use step_journal::Entry;
 
-/// The report that an out writes: with what it began, and the histories that it may have.
+/// The report that an out writes: with what it began.
 pub trait Reported {
     ghost begun: { Begun };
-
-    ghost may: { Many Noted → Type 0 };
 }
 
 impl Reported for Brand {
     ghost begun = { nothing };
-
-    ghost may = { λ story. ⊥ };
 }
 
 /// The lines of a report's entries, handed to a sink as the entries come.
@@ -31,15 +27,18 @@ pub struct ReportOut<'a, K, T> {
     pub writer: ReportWriter,
     /// A place for lines, of at least 256 bytes; it holds none between two calls.
     pub lines: Vec<u8>,
-    /// Whether the sink has failed.
-    pub stopped: bool,
+    /// How many bytes the lines of all that it got have.
+    pub bytes: u64,
+    /// Whether it takes pieces.
+    pub standing: Standing,
     pub sink: &'a mut K,
     pub of: PhantomData<T>,
     ghost room: { 256 ≤ vec_capacity lines },
 }
 
 impl<'a, K: Sink, T: Reported> ReportOut<'a, K, T> {
-    ghost use Rattle.std.specs.Prelude.{◌≡◌, ◌≤◌, [], false, vec_capacity};
+    ghost use Rattle.std.specs.Prelude.{◌≡◌, ◌≤◌, [], vec_capacity};
+    ghost use Rattle.report_out.specs.declared.standing.Standing.TheVariants.{Going};
 
     /// An out that has taken nothing yet, for a report as `ReportWriter::begin` left it. It takes no memory.
     pub fn new(
@@ -53,7 +52,8 @@ impl<'a, K: Sink, T: Reported> ReportOut<'a, K, T> {
         ensures names { result.names.now ≡ names.now }
         ensures writer { result.writer ≡ writer }
         ensures lines { result.lines.items ≡ [] }
-        ensures stopped { result.stopped ≡ false }
+        ensures bytes { result.bytes ≡ 0 }
+        ensures standing { result.standing ≡ Going }
         ensures sink { result.sink.now ≡ sink.entry.now }
         ensures same_sink { result.sink.ghost_name ≡ sink.entry.ghost_name }
     {
@@ -61,33 +61,41 @@ impl<'a, K: Sink, T: Reported> ReportOut<'a, K, T> {
             names,
             writer,
             lines,
-            stopped: false,
+            bytes: 0,
+            standing: Standing::Going,
             sink,
             of: PhantomData,
         }
     }
 }
 
-/// What it got is what the sink has taken the lines of, and what it lost is the piece at which the sink failed, of which
-/// the sink may have taken the first lines. It stops only where the sink counts a fault.
+/// What it got is what the sink has taken the lines of. It loses a piece at which the sink failed, of which the sink may
+/// have taken the first lines, and one with more plans than places are left, of which it writes nothing. It can take
+/// every legal history. It stops where the sink counts a fault, and once for want of places.
 impl<'a, K: Sink, T: Reported> EntryOut for ReportOut<'a, K, T> {
-    ghost use Rattle.std.specs.Prelude.{◌≡◌};
-    ghost use Rattle.report_out.specs.Outs.{HasTaken, IsGood, IsLost};
+    ghost use Rattle.std.specs.Prelude.{◌≡◌, ◌+◌};
+    ghost use Rattle.step_journal.specs.History.{IsLegal};
+    ghost use Rattle.report_out.specs.Outs.{HasTaken, IsLost, seen, full_stops};
 
     ghost got = { λ out story. (T.begun.sink ≡ out.sink.ghost_name) ×
-        HasTaken out.stopped T.begun T.may out.names.now out.writer out.lines.items (K.taken out.sink.now) story };
+        HasTaken T.begun (seen out.standing out.names.now out.writer out.lines.items out.bytes (K.taken out.sink.now)) story };
 
-    ghost lost = { λ out story. IsLost out.stopped story };
+    ghost lost = { λ out story.
+        IsLost T.begun (seen out.standing out.names.now out.writer out.lines.items out.bytes (K.taken out.sink.now)) story };
 
-    ghost good = { λ out story. IsGood T.begun T.may out.writer.room story };
+    ghost good = { λ out story. IsLegal T.begun.set story };
 
-    ghost stops = { λ out. K.faults out.sink.now };
+    ghost stops = { λ out. K.faults out.sink.now + full_stops out.standing };
 
     /// A line costs what its bytes do, and the rows of the jobs a step for each transaction. The sink is called once for
     /// each filling of the place for lines, and once at the end.
     fn put(&mut self, entries: &[Entry]) -> Result<(), Stopped> {
         if entries.is_empty() {
             return Ok(());
+        }
+        if planned(entries) > self.writer.places_left() {
+            self.standing = Standing::Full;
+            return Err(Stopped);
         }
         match add_lines(
             &mut self.writer,
@@ -96,9 +104,12 @@ impl<'a, K: Sink, T: Reported> EntryOut for ReportOut<'a, K, T> {
             &mut self.lines,
             self.sink,
         ) {
-            Ok(()) => Ok(()),
+            Ok(bytes) => {
+                self.bytes += bytes;
+                Ok(())
+            }
             Err(_) => {
-                self.stopped = true;
+                self.standing = Standing::Cut;
                 Err(Stopped)
             }
         }

@@ -1,10 +1,11 @@
 //! The report of a worked history, whose entries are put in pieces.
-ghost use Rattle.std.specs.Prelude.{◌≡◌, ◌≤◌, ◌<◌, ℕ, [], true, false, take, List as Many, IfOk};
+ghost use Rattle.std.specs.Prelude.{◌≡◌, ◌≤◌, ◌<◌, ℕ, [], true, take, List as Many, IfOk};
 ghost use Rattle.std.specs.Io.KnownBytes.{Appends};
 ghost use Rattle.step_journal.specs.declared.entry.Entry.{Entry as Noted};
 ghost use Rattle.step_journal.specs.History.{IsLegal, state_of};
-ghost use Rattle.job_rows.specs.Upkeep.{Follows, planned_jobs};
+ghost use Rattle.job_rows.specs.Upkeep.{Follows};
 ghost use Rattle.report_lines.specs.Texts.{NamesSet, entries_text};
+ghost use Rattle.report_out.specs.declared.standing.Standing.TheVariants.{Going};
 
 use super::*;
 use entry_out::{EntryOut, Stopped};
@@ -67,6 +68,15 @@ step control/1 25 commit end committed
 idle 26 30
 step sample/3 30 write temp 11
 step sample/3 31 commit end committed
+";
+
+// Those of the first six.
+const SIX_PLANS: &str = "plan sample 0
+plan sample 10
+plan sample 20
+plan sample 30
+plan control 0
+plan control 20
 ";
 
 fn job(tx: u32, serial: u32) -> JobId {
@@ -245,14 +255,13 @@ fn put_all<K: Sink, T: Reported>(
     size: usize,
 ) -> Result<(), Stopped>
     requires some { 0 < size }
-    requires begun { T.begun ≡ record { sink = out.old.sink.ghost_name; front = K.taken out.old.sink.now; names = out.old.names.now; set = set.now } }
-    requires may { (story : Many Noted) → T.may story }
-    requires going { out.old.stopped ≡ false }
+    requires begun { T.begun ≡ record { sink = out.old.sink.ghost_name; front = K.taken out.old.sink.now; names = out.old.names.now; set = set.now; room = out.old.writer.room } }
+    requires going { out.old.standing ≡ Going }
+    requires bytes { out.old.bytes ≡ 0 }
     requires empty { out.old.lines.items ≡ [] }
     requires named { NamesSet out.old.names.now set.now }
     requires follows { Follows set.now out.old.writer [] }
     requires legal { IsLegal set.now entries.now }
-    requires places { planned_jobs entries.now ≤ out.old.writer.room }
     ensures names { IfOk result (λ _. out.new.names.now ≡ out.old.names.now) }
     ensures follows { IfOk result (λ _. Follows set.now out.new.writer entries.now) }
     ensures taken { IfOk result (λ _.
@@ -261,14 +270,15 @@ fn put_all<K: Sink, T: Reported>(
     put_pieces(out, entries, size)
 }
 
-// What stands before the entries, and after them where the out did not stop.
+// What stands before the entries of a report with places for so many jobs, and after them; or how the out stopped.
 fn put_worked(
     alloc: Global,
     worked: &Worked,
+    jobs: usize,
     size: usize,
     room: usize,
     sink: &mut MemSink,
-) -> Result<(Vec<u8>, Option<Vec<u8>>), OutOfMemory>
+) -> Result<(Vec<u8>, Result<Vec<u8>, Standing>), OutOfMemory>
     requires some { 0 < size }
     requires room { 256 ≤ room }
     requires named { NamesSet worked.now.names worked.now.set }
@@ -276,7 +286,6 @@ fn put_worked(
     requires last { worked.now.items ≡ (state_of worked.now.set worked.now.entries.items).items }
 {
     let mut front = Vec::new(alloc);
-    let jobs = worked.entries.len();
     let writer = ReportWriter::begin(alloc, &worked.names, &worked.set, None, jobs, &mut front)?;
     let lines = Vec::with_capacity(alloc, room)?;
     let mut out: ReportOut<MemSink, Brand> = ReportOut::new(&worked.names, writer, lines, sink);
@@ -285,7 +294,8 @@ fn put_worked(
         names: _,
         writer,
         lines: _,
-        stopped: _,
+        bytes: _,
+        standing,
         sink: _,
         of: _,
     } = out;
@@ -293,9 +303,9 @@ fn put_worked(
         Ok(()) => {
             let mut close = Vec::new(alloc);
             writer.finish(&worked.names, &worked.items, &mut close)?;
-            Ok((front, Some(close)))
+            Ok((front, Ok(close)))
         }
-        Err(Stopped) => Ok((front, None)),
+        Err(Stopped) => Ok((front, Err(standing))),
     }
 }
 
@@ -308,8 +318,8 @@ fn is_whole(alloc: Global, worked: &Worked, size: usize, room: usize) -> Result<
     requires last { worked.now.items ≡ (state_of worked.now.set worked.now.entries.items).items }
 {
     let mut sink = MemSink::new(alloc, 65536, 65536, Vec::new(alloc))?;
-    let (mut text, close) = put_worked(alloc, worked, size, room, &mut sink)?;
-    let Some(close) = close else {
+    let (mut text, close) = put_worked(alloc, worked, 7, size, room, &mut sink)?;
+    let Ok(close) = close else {
         return Ok(false);
     };
     text.extend_from_slice(sink.bytes())?;
@@ -339,19 +349,27 @@ fn pieces(rt: HostRuntime) -> Result<(), Fail> {
     Ok(())
 }
 
-// What a sink has that takes 10 bytes a call and fails at its third call. None where the out did not stop.
-fn cut_off(alloc: Global, worked: &Worked, room: usize) -> Result<Option<Vec<u8>>, OutOfMemory>
+// What a sink has that takes 10 bytes a call and fails at these calls, and how the out stopped. None where it did not.
+fn cut_off(
+    alloc: Global,
+    worked: &Worked,
+    jobs: usize,
+    size: usize,
+    room: usize,
+    failing: &[u64],
+) -> Result<Option<(Vec<u8>, Standing)>, OutOfMemory>
+    requires some { 0 < size }
     requires room { 256 ≤ room }
     requires named { NamesSet worked.now.names worked.now.set }
     requires legal { IsLegal worked.now.set worked.now.entries.items }
     requires last { worked.now.items ≡ (state_of worked.now.set worked.now.entries.items).items }
 {
-    let mut sink = MemSink::new(alloc, 65536, 10, [2].to_vec(alloc)?)?;
-    let (_, close) = put_worked(alloc, worked, 32, room, &mut sink)?;
-    if close.is_some() {
+    let mut sink = MemSink::new(alloc, 65536, 10, failing.to_vec(alloc)?)?;
+    let (_, close) = put_worked(alloc, worked, jobs, size, room, &mut sink)?;
+    let Err(standing) = close else {
         return Ok(None);
-    }
-    Ok(Some(sink.bytes().to_vec(alloc)?))
+    };
+    Ok(Some((sink.bytes().to_vec(alloc)?, standing)))
 }
 
 #[test]
@@ -359,10 +377,25 @@ fn stopped(rt: HostRuntime) -> Result<(), Fail> {
     let worked = base_run(rt.alloc())?;
     // a place for one line sends it alone, in two calls
     for (room, want) in [(256, "plan sample 0\n"), (65536, "plan sample 0\nplan s")] {
-        let Some(bytes) = cut_off(rt.alloc(), &worked, room)? else {
+        let Some((bytes, standing)) = cut_off(rt.alloc(), &worked, 7, 32, room, &[2])? else {
             return Err("not stopped".into());
         };
         assert_eq!(rt; bytes.as_slice(), want.as_bytes());
+        assert_eq!(rt; standing, Standing::Cut);
+    }
+    Ok(())
+}
+
+#[test]
+fn too_many_plans(rt: HostRuntime) -> Result<(), Fail> {
+    let worked = base_run(rt.alloc())?;
+    // seven plans, and places for six: the piece with the seventh is refused as a whole
+    for (size, want) in [(7, ""), (3, SIX_PLANS), (6, SIX_PLANS)] {
+        let Some((bytes, standing)) = cut_off(rt.alloc(), &worked, 6, size, 65536, &[])? else {
+            return Err("not stopped".into());
+        };
+        assert_eq!(rt; bytes.as_slice(), want.as_bytes());
+        assert_eq!(rt; standing, Standing::Full);
     }
     Ok(())
 }

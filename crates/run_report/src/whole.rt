@@ -16,8 +16,8 @@ use std::alloc::Global;
 use step_journal::Entry;
 use txn_set::CompiledSet;
 
-// How many jobs the entries plan.
-pub(crate) fn planned(entries: &[Entry]) -> usize
+/// How many jobs the entries plan.
+pub fn planned(entries: &[Entry]) -> usize
     ensures { result ≡ planned_jobs entries.now }
 {
     let mut count = 0;

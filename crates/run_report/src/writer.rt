@@ -120,6 +120,13 @@ impl ReportWriter {
         write_entry(names, &entry, into);
     }
 
+    /// How many planned jobs more have a place.
+    pub fn places_left(&self) -> usize
+        ensures { self.now.planned + result ≡ self.now.room }
+    {
+        self.rows.places_left()
+    }
+
     /// Ends the report: adds the jobs, the last items and the last line.
     pub fn finish(self, names: &Names, items: &Items, into: &mut Vec<u8>) -> Result<(), OutOfMemory>
         requires { Closes names.now self items.now }

@@ -1,99 +1,130 @@
--- What the out of a run has got when the run ends, and when the sink failed.
-use Rattle.std.proofs.Common.{◌≡◌, ℕ, ◌≤◌, Bool, true, false, List, [], ◌++◌, take, drop, map, length, Option, None, Some, Result, Ok, Err, IfOk, OnOk, OnErr, refl, sym, ap, subst, ◌∙◌, arith, append-nil}
+-- What the out of a run has got when the run ends, and when the out stopped.
+use Rattle.std.proofs.Common.{◌≡◌, ◌≢◌, ℕ, ◌+◌, ◌≤◌, List, [], ◌++◌, take, drop, map, length, Result, Ok, Err, IfOk, OnErr, refl, sym, ap, subst, ◌∙◌, arith, append-nil, append_assoc}
 use Rattle.std.specs.List.{sum}
 use Rattle.std.specs.Io.KnownBytes.{Appends}
 use Rattle.std.proofs.lemmas.List.{take-append-drop}
-use Rattle.std.proofs.Math.Seq.{take-length}
-use Rattle.rt_base.specs.declared.name.Names.{Names}
+use Rattle.std.proofs.Math.Seq.{take-append_seam}
+use Rattle.io_edge.specs.Causes.{HasCause, Rose}
 use Rattle.txn_set.specs.Set.{Set}
 use Rattle.step_journal.specs.declared.entry.Entry.{Entry}
 use Rattle.step_journal.specs.History.{IsLegal}
 use Rattle.sim_history.specs.Sim.{Workload, IsSim}
-use Rattle.sim_run.specs.Handed.{CanAppend}
-use Rattle.sim_run.specs.Runs.{IsWhole, IsStopped, HasRun}
-use Rattle.job_rows.specs.Upkeep.{RowsSeen, Follows, planned_jobs}
+use Rattle.sim_run.specs.Runs.{IsWhole, IsStopped}
+use Rattle.job_rows.specs.Upkeep.{Follows, planned_jobs}
 use Rattle.report_lines.specs.Texts.{entries_text, NamesSet}
-use Rattle.report_out.specs.Outs.{Begun, IsGood, IsGoing, IsCut, HasTaken, IsLost}
-use Rattle.written_run.specs.Lines.{IsBegun, HasLines}
-use Rattle.written_run.proofs.Plans.{planned_sim, planned_front, legal_front}
+use Rattle.report_out.specs.declared.standing.Standing.{Standing}
+use Rattle.report_out.specs.declared.standing.Standing.TheVariants.{Going, Cut, Full}
+use Rattle.report_out.specs.Outs.{Begun, OutSeen, IsGoing, HasTaken, IsLost, full_stops}
+use Rattle.report_out.specs.Laws.{IsFrontOf}
+use Rattle.report_out.proofs.Texts.{legal_front, planned_front, text_append}
+use Rattle.report_out.proofs.Taking.{going}
+use Rattle.report_out.proofs.Stopping.{has_front}
+use Rattle.written_run.specs.Lines.{HasLines, HasFirstLines}
+use Rattle.written_run.proofs.Plans.{planned_sim}
 
-pub same_known : (a : Option (List ℕ)) → Appends a a []
-same_known None = tt
-same_known (Some xs) = sym (append-nil xs)
+-- what an out got, as its trait says it
+abbrev pub Got : Begun → ℕ → OutSeen → List Entry → Type 0
+Got begun sink out story = (begun.sink ≡ sink) × HasTaken begun out story
 
-opens_with : (sink : ℕ) (taken : Option (List ℕ)) (names : Names) (set : Set) (may : List Entry → Type 0) (rows : RowsSeen) (lines : List ℕ)
-    → lines ≡ [] → NamesSet names set → Follows set rows []
-    → HasTaken false (record { sink = sink; front = taken; names = names; set = set }) may names rows lines taken []
-opens_with sink taken names set may rows lines none one follows = λ legal few. record {
-  names_are = refl;
-  one_each = one;
-  follows = follows;
-  sent = none;
-  has = same_known taken;
-}
+-- each front of a run is a legal history
+pub fronts_legal : (begun : Begun) (w : Workload) (history : List Entry) (n : ℕ) → begun.set ≡ w.set → IsSim w history → IsLegal begun.set (take n history)
+fronts_legal begun w history n set sim =
+    subst (λ (s : Set). IsLegal s (take n history)) (sym set)
+    (legal_front w.set (take n history) (drop n history) (subst (IsLegal w.set) (sym (take-append-drop n history)) sim.legal))
 
-pub opens : (begun : Begun) (sink : ℕ) (taken : Option (List ℕ)) (names : Names) (set : Set) (may : List Entry → Type 0) (rows : RowsSeen) (lines : List ℕ) (stopped : Bool)
-    → IsBegun begun sink taken names set → stopped ≡ false → lines ≡ [] → NamesSet names set → Follows set rows []
-    → HasTaken stopped begun may names rows lines taken []
-opens begun sink taken names set may rows lines stopped b going none one follows =
-    subst (λ (s : Bool). HasTaken s begun may names rows lines taken []) (sym going)
-    (subst (λ (x : Begun). HasTaken false x may names rows lines taken []) (sym b) (opens_with sink taken names set may rows lines none one follows))
+-- a front of a front
+front_front : (xs ys : List ℕ) (n : ℕ) → take n xs ≡ take (length (take n xs)) (xs ++ ys)
+front_front xs ys n =
+    sym (take-append_seam (take n xs) (drop n xs ++ ys))
+    ∙ ap (take (length (take n xs))) (sym (append_assoc (take n xs) (drop n xs) ys) ∙ ap (λ (t : List ℕ). t ++ ys) (take-append-drop n xs))
 
-pub front_run : (w : Workload) (history : List Entry) (n : ℕ) → IsSim w history → HasRun w (take n history)
-front_run w history n sim = record { history = history; sim = sim; rest = drop n history; begins = sym (take-append-drop n history) }
+module _ (begun : Begun) (w : Workload) (out : OutSeen) (set : begun.set ≡ w.set) where
+  -- a run of which the out got the first entries, and lost the next ones or none
+  module _ (history : List Entry) (passed missed : ℕ) (sim : IsSim w history) (places : sum (map length w.releases) ≤ begun.room) where
+    abbrev Both : List Entry
+    Both = take passed history ++ take missed (drop passed history)
 
-pub good_front : (begun : Begun) (may : List Entry → Type 0) (w : Workload) (places : ℕ) (history : List Entry) (n : ℕ) → begun.set ≡ w.set
-    → ((story : List Entry) → HasRun w story → may story) → sum (map length w.releases) ≤ places → IsSim w history
-    → IsGood begun may places (take n history)
-good_front begun may w places history n set may_be few sim = record {
-  may_be = may_be (take n history) (front_run w history n sim);
-  legal = subst (λ (s : Set). IsLegal s (take n history)) (sym set) (legal_front w.set n history sim.legal);
-  few = omega (arith, planned_front n history, planned_sim w history sim, few);
-}
+    abbrev Rest : List Entry
+    Rest = drop missed (drop passed history)
 
-pub good_whole : (begun : Begun) (may : List Entry → Type 0) (w : Workload) (places : ℕ) (history : List Entry) → begun.set ≡ w.set
-    → ((story : List Entry) → HasRun w story → may story) → sum (map length w.releases) ≤ places → IsSim w history
-    → IsGood begun may places history
-good_whole begun may w places history set may_be few sim =
-    subst (λ (l : List Entry). IsGood begun may places l) (take-length history) (good_front begun may w places history (length history) set may_be few sim)
+    parts : Both ++ Rest ≡ history
+    parts =
+        append_assoc (take passed history) (take missed (drop passed history)) Rest
+        ∙ (ap (λ (l : List Entry). take passed history ++ l) (take-append-drop missed (drop passed history)) ∙ take-append-drop passed history)
 
-module _ (begun : Begun) (may : List Entry → Type 0) (sink : ℕ) (names : Names) (rows : RowsSeen) (lines : List ℕ) (taken : Option (List ℕ)) where
-  abbrev Got : Bool → List Entry → Type 0
-  Got stopped story = (begun.sink ≡ sink) × HasTaken stopped begun may names rows lines taken story
+    few : planned_jobs Both ≤ begun.room
+    few =
+        let less : planned_jobs Both ≤ planned_jobs history = subst (λ (l : List Entry). planned_jobs Both ≤ planned_jobs l) parts (planned_front Both Rest) in
+        omega (arith, less, planned_sim w history sim, places)
 
-  going_now : (stopped : Bool) (story : List Entry) → IsLost stopped [] → HasTaken stopped begun may names rows lines taken story → IsGood begun may rows.room story
-      → IsGoing begun names rows lines taken story
-  going_now false story h t good = t good.legal good.few
-  going_now true story h t good = absurd (omega (arith, h))
+    legal : IsLegal begun.set Both
+    legal = subst (λ (s : Set). IsLegal s Both) (sym set) (legal_front w.set Both Rest (subst (IsLegal w.set) (sym parts) sim.legal))
 
-  pub has_lines : (w : Workload) (stands got : List Entry → Type 0) (stopped : Bool) → got []
-      → (h : IsWhole w stands got (Got stopped)) → IsLost stopped [] → IsGood begun may rows.room h.history → HasLines w stands begun names rows lines taken
-  has_lines w stands got stopped at h lost good = record {
-    history = h.history;
-    sim = h.sim;
-    stood = h.stood;
-    going = going_now stopped h.history lost (h.grown [] at).1 good;
-  }
+    first_of : IsFrontOf begun out Both → HasFirstLines w begun.names begun.front out.taken
+    first_of front =
+        let text = entries_text begun.names Both in
+        let all : text ++ entries_text begun.names Rest ≡ entries_text begun.names history = sym (text_append begun.names Both Rest) ∙ ap (entries_text begun.names) parts in
+        record {
+          history = history;
+          sim = sim;
+          count = length (take front.count text);
+          has = subst (λ (t : List ℕ). Appends begun.front out.taken t)
+              (front_front text (entries_text begun.names Rest) front.count ∙ ap (take (length (take front.count text))) all) front.has;
+        }
 
-  cut_now : (stopped : Bool) (story : List Entry) → HasTaken stopped begun may names rows lines taken story → IsGood begun may rows.room story → IsCut begun may taken
-  cut_now true story t good = t
-  cut_now false story t good =
-      let going : IsGoing begun names rows lines taken story = t good.legal good.few in
+    pub first_lines : HasTaken begun out (take passed history) → IsLost begun out (take missed (drop passed history))
+        → (out.standing ≢ Full) × HasFirstLines w begun.names begun.front out.taken
+    first_lines got lost =
+        let is = has_front begun out (take passed history) (take missed (drop passed history)) legal few got lost in
+        (is.0, first_of is.1)
+
+  -- a run that the out got whole
+  pub has_lines : (stands got : List Entry → Type 0) (sink : ℕ) → got [] → (h : IsWhole w stands got (Got begun sink out)) → IsLost begun out []
+      → HasLines w stands begun.names out.rows out.lines begun.front out.taken
+  has_lines stands got sink at h lost =
+      let legal : IsLegal begun.set (h.history ++ []) =
+      subst (IsLegal begun.set) (sym (append-nil h.history)) (subst (λ (s : Set). IsLegal s h.history) (sym set) h.sim.legal) in
+      let is : IsGoing begun out h.history = going begun out [] h.history lost (h.grown [] at).1 legal in
       record {
-        story = story;
-        may_be = good.may_be;
-        count = length (entries_text begun.names story);
-        has = subst (λ (x : List ℕ). Appends begun.front taken x) (sym (take-length (entries_text begun.names story))) going.has;
+        history = h.history;
+        sim = h.sim;
+        stood = h.stood;
+        one_each = subst (NamesSet begun.names) set is.one_each;
+        follows = subst (λ (s : Set). Follows s out.rows h.history) set is.follows;
+        sent = is.sent;
+        has = is.has;
       }
 
-  pub is_cut : (w : Workload) (got lost : List Entry → Type 0) (stopped : Bool) → got []
-      → (h : IsStopped w got (Got stopped) lost) → IsGood begun may rows.room (take h.passed h.history) → IsCut begun may taken
-  is_cut w got lost stopped at h good = cut_now stopped (take h.passed h.history) (h.grown [] at).1 good
+  -- and one at which it stopped
+  pub stopped_lines : (got : List Entry → Type 0) (sink : ℕ) → sum (map length w.releases) ≤ begun.room → got []
+      → (h : IsStopped w got (Got begun sink out) (IsLost begun out))
+      → (out.standing ≢ Full) × HasFirstLines w begun.names begun.front out.taken
+  stopped_lines got sink places at h = first_lines h.history h.passed h.missed h.sim places (h.grown [] at).1 h.is_lost
 
-  pub same_sink : {E : Type 0} (w : Workload) (stands got lost : List Entry → Type 0) (stopped : Bool) (r : Result (Unit {0}) E) → got []
-      → IfOk r (λ _. IsWhole w stands got (Got stopped)) → OnErr r (IsStopped w got (Got stopped) lost) → begun.sink ≡ sink
-  same_sink w stands got lost stopped (Ok x) at h k = (h.grown [] at).0
-  same_sink w stands got lost stopped (Err e) at h k = (k.grown [] at).0
+pub same_sink : {E : Type 0} (begun : Begun) (out : OutSeen) (sink : ℕ) (w : Workload) (stands got lost : List Entry → Type 0) (r : Result (Unit {0}) E) → got []
+    → IfOk r (λ _. IsWhole w stands got (Got begun sink out)) → OnErr r (IsStopped w got (Got begun sink out) lost) → begun.sink ≡ sink
+same_sink begun out sink w stands got lost (Ok x) at h k = (h.grown [] at).0
+same_sink begun out sink w stands got lost (Err e) at h k = (k.grown [] at).0
+
+-- stops that are none for want of places are faults of the sink
+
+none_full : (standing : Standing) → standing ≢ Full → full_stops standing ≡ 0
+none_full Going h = refl
+none_full Cut h = refl
+none_full Full h = absurd (h refl)
+
+pub not_full : (standing : Standing) → standing ≡ Going → standing ≢ Full
+not_full standing e = subst (λ (s : Standing). s ≢ Full) (sym e) (λ f. absurd cc)
+
+pub sink_cause : {E : Type 0} (old new : Standing) (before now : ℕ) (r : Result (Unit {0}) E) → old ≡ Going → IfOk r (λ _. new ≢ Full) → OnErr r (new ≢ Full)
+    → HasCause (before + full_stops old) (now + full_stops new) r → HasCause before now r
+sink_cause old new before now (Ok x) e ok err cause =
+    record { later = omega (arith, cause.later, none_full new ok, none_full old (not_full old e)); failed = tt }
+sink_cause old new before now (Err x) e ok err cause =
+    let was = none_full old (not_full old e) in
+    let is = none_full new err in
+    let rose : Rose (before + full_stops old) (now + full_stops new) = cause.failed in
+    record { later = omega (arith, cause.later, is, was); failed = omega (arith, rose, is, was) }
 
 -- by the answer
 

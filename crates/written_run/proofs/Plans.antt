@@ -1,21 +1,17 @@
 -- The plans of a run: as many as the releases of its workload.
-use Rattle.std.proofs.Common.{◌≡◌, ℕ, zero, suc, ◌+◌, ◌≤◌, List, [], ◌∷◌, ◌++◌, take, map, length, Option, None, Some, refl, sym, ap, ◌∙◌, subst, arith, length-append}
-use Rattle.std.specs.List.{filter, sum, fold}
-use Rattle.std.proofs.lemmas.List.Elements.{filter-append}
+use Rattle.std.proofs.Common.{◌≡◌, ℕ, suc, ◌+◌, List, [], ◌∷◌, ◌++◌, map, length, Option, None, Some, refl, sym, ap, ◌∙◌, arith}
+use Rattle.std.specs.List.{sum, fold}
 use Rattle.rt_base.specs.declared.ids.TxId.{TxId}
 use Rattle.rt_base.specs.declared.release.Release.{Release}
-use Rattle.txn_set.specs.Set.{Set}
 use Rattle.step_journal.specs.declared.entry.Entry.{Entry}
 use Rattle.step_journal.specs.declared.entry.Entry.TheVariants.{Planned, Step, Blocked, Idle}
 use Rattle.step_journal.specs.State.{State, Row}
-use Rattle.step_journal.specs.Step.{Event, plan, ask, idle}
+use Rattle.step_journal.specs.Step.{plan}
 use Rattle.step_journal.specs.Running.{running}
-use Rattle.step_journal.specs.History.{IsLegal, IsLegalFrom, state_of, state_after, event_of}
-use Rattle.sim_history.specs.Sim.{Workload, IsSim, IsFixed, plans, plans_from, event_in, event_for, next_event}
-use Rattle.job_rows.specs.Upkeep.{is_plan, planned_jobs}
-
-planned_append : (xs ys : List Entry) → planned_jobs (xs ++ ys) ≡ planned_jobs xs + planned_jobs ys
-planned_append xs ys = ap (λ (l : List Entry). length l) (filter-append is_plan xs ys) ∙ length-append (filter is_plan xs) (filter is_plan ys)
+use Rattle.step_journal.specs.History.{state_of}
+use Rattle.sim_history.specs.Sim.{Workload, IsSim, IsFixed, plans, plans_from, event_in, event_for}
+use Rattle.job_rows.specs.Upkeep.{planned_jobs}
+use Rattle.report_out.proofs.Texts.{planned_append}
 
 planned_each : (tx : TxId) (ticks : List ℕ) → planned_jobs (map (Planned tx) ticks) ≡ length ticks
 planned_each tx [] = refl
@@ -58,21 +54,3 @@ planned_sim w history h =
     let first : planned_jobs (plans w) ≡ sum (map length w.releases) = planned_plans 0 w.releases in
     let rest : planned_jobs h.rest ≡ 0 = planned_fixed w (plans w) h.rest h.fixed in
     omega (arith, all, first, rest)
-
--- what stands at the front plans no more
-planned_one : (e : Entry) (xs : List Entry) → planned_jobs (e ∷ xs) ≡ planned_jobs (e ∷ []) + planned_jobs xs
-planned_one e xs = planned_append (e ∷ []) xs
-
-pub planned_front : (n : ℕ) (xs : List Entry) → planned_jobs (take n xs) ≤ planned_jobs xs
-planned_front zero xs = omega arith
-planned_front (suc n) [] = omega arith
-planned_front (suc n) (e ∷ xs) = omega (arith, planned_one e (take n xs), planned_one e xs, planned_front n xs)
-
-legal_from : (set : Set) (s : State) (n : ℕ) (xs : List Entry) → IsLegalFrom set s xs → IsLegalFrom set s (take n xs)
-legal_from set s zero xs h = tt
-legal_from set s (suc n) [] h = tt
-legal_from set s (suc n) (e ∷ xs) h = (h.0, legal_from set (state_after set s e) n xs h.1)
-
--- and is legal where the whole is
-pub legal_front : (set : Set) (n : ℕ) (xs : List Entry) → IsLegal set xs → IsLegal set (take n xs)
-legal_front set n xs h = legal_from set _ n xs h

@@ -1,14 +1,12 @@
 //! The entry lines of a run, handed to a sink as they come.
-ghost use Rattle.std.specs.Prelude.{◌≡◌, ◌<◌, ◌≤◌, [], List as Many, length, map, vec_capacity, IfOk, OnOk, OnErr, false};
+ghost use Rattle.std.specs.Prelude.{◌≡◌, ◌<◌, ◌≤◌, [], length, map, vec_capacity, IfOk, OnErr};
 ghost use Rattle.std.specs.List.{sum};
 ghost use Rattle.io_edge.specs.Causes.{HasCause};
-ghost use Rattle.step_journal.specs.declared.entry.Entry.{Entry as Noted};
 ghost use Rattle.job_rows.specs.Upkeep.{Follows};
 ghost use Rattle.sim_run.specs.Workloads.{workload, AreAccepted, IsObedient};
-ghost use Rattle.sim_run.specs.Runs.{HasRun};
 ghost use Rattle.report_lines.specs.Texts.{NamesSet};
-ghost use Rattle.report_out.specs.Outs.{IsCut};
-ghost use Rattle.written_run.specs.Lines.{IsBegun, HasLines, begun_with};
+ghost use Rattle.report_out.specs.declared.standing.Standing.TheVariants.{Going};
+ghost use Rattle.written_run.specs.Lines.{IsBegun, HasLines, HasFirstLines};
 
 use board::Board;
 use entry_out::Stopped;
@@ -37,16 +35,16 @@ fn run_lines<B: Board, Y: Body, K: Sink, T: Reported>(
     requires obedient { IsObedient (workload (B.set board.old) (map Y.gives bodies.old) ticks.now) }
     requires room { 1024 < B.room board.old }
     requires spare { (spare.old.items ≡ []) × (B.room board.old ≤ vec_capacity spare.old) }
-    requires begun { IsBegun T.begun out.old.sink.ghost_name (K.taken out.old.sink.now) out.old.names.now (B.set board.old) }
-    requires may { (story : Many Noted) → HasRun (workload (B.set board.old) (map Y.gives bodies.old) ticks.now) story → T.may story }
+    requires begun { IsBegun T.begun out.old.sink.ghost_name (K.taken out.old.sink.now) out.old.names.now (B.set board.old) out.old.writer.room }
     requires one_each { NamesSet out.old.names.now (B.set board.old) }
     requires rows { Follows (B.set board.old) out.old.writer [] }
     requires places { sum (map length ticks.now) ≤ out.old.writer.room }
-    requires fresh { (out.old.lines.items ≡ []) × (out.old.stopped ≡ false) }
+    requires fresh { (out.old.standing ≡ Going) × (out.old.bytes ≡ 0) × (out.old.lines.items ≡ []) }
     ensures same_sink { out.new.sink.ghost_name ≡ out.old.sink.ghost_name }
     ensures lines { let w = workload (B.set board.old) (map Y.gives bodies.old) ticks.now in
-        IfOk result (λ _. HasLines w (B.stands board.new) T.begun out.new.names.now out.new.writer out.new.lines.items (K.taken out.new.sink.now)) }
-    ensures cut { OnErr result (IsCut T.begun T.may (K.taken out.new.sink.now)) }
+        IfOk result (λ _. HasLines w (B.stands board.new) out.old.names.now out.new.writer out.new.lines.items (K.taken out.old.sink.now) (K.taken out.new.sink.now)) }
+    ensures front { let w = workload (B.set board.old) (map Y.gives bodies.old) ticks.now in
+        OnErr result (HasFirstLines w out.old.names.now (K.taken out.old.sink.now) (K.taken out.new.sink.now)) }
     ensures cause { HasCause (K.faults out.old.sink.now) (K.faults out.new.sink.now) result }
     ensures set { B.set board.new ≡ B.set board.old }
 {
@@ -79,9 +77,9 @@ pub(crate) fn hand_lines<B: Board, Y: Body, K: Sink>(
     requires places { sum (map length ticks.now) ≤ writer.room }
     requires lines { (lines.items ≡ []) × (256 ≤ vec_capacity lines) }
     ensures lines { let w = workload (B.set board.old) (map Y.gives bodies.old) ticks.now in
-        IfOk result (λ r. HasLines w (B.stands board.new) (begun_with (K.taken sink.old) names.now (B.set board.old)) names.now r.0 r.1.items (K.taken sink.new)) }
-    ensures cut { let w = workload (B.set board.old) (map Y.gives bodies.old) ticks.now in
-        OnErr result (IsCut (begun_with (K.taken sink.old) names.now (B.set board.old)) (HasRun w) (K.taken sink.new)) }
+        IfOk result (λ r. HasLines w (B.stands board.new) names.now r.0 r.1.items (K.taken sink.old) (K.taken sink.new)) }
+    ensures front { let w = workload (B.set board.old) (map Y.gives bodies.old) ticks.now in
+        OnErr result (HasFirstLines w names.now (K.taken sink.old) (K.taken sink.new)) }
     ensures cause { HasCause (K.faults sink.old) (K.faults sink.new) result }
     ensures set { B.set board.new ≡ B.set board.old }
 {
@@ -91,7 +89,8 @@ pub(crate) fn hand_lines<B: Board, Y: Body, K: Sink>(
         names: _,
         writer,
         lines,
-        stopped: _,
+        bytes: _,
+        standing: _,
         sink: _sink,
         of: _,
     } = out;

@@ -9,6 +9,7 @@ ghost use Rattle.run_report.specs.Report.{opening_text};
 ghost use Rattle.written_run.specs.declared.written.RunFault.TheVariants.{Memory};
 ghost use Rattle.written_run.specs.Written.{IsTextBy, Wrote, WroteFront};
 
+use crate::closing::write_closing;
 use crate::lines::hand_lines;
 use board::Board;
 use io_edge::{Sink, WriteFault, write_all};
@@ -92,12 +93,8 @@ pub fn write_run<B: Board + Drop, Y: Body, K: Sink>(
     let handed = hand_lines(
         &mut board, names, writer, lines, bodies, serials, ticks, &mut spare, sink,
     );
-    let (writer, mut lines) = match handed {
-        Ok(parts) => parts,
-        Err(_) => return Err(RunFault::Writing),
-    };
-    let (items, _) = board.into_parts();
-    writer.finish(names, &items, &mut lines)?;
-    write_all(sink, &lines)?;
-    Ok(())
+    match handed {
+        Ok((writer, lines)) => write_closing(board, names, writer, lines, sink),
+        Err(_) => Err(RunFault::Writing),
+    }
 }

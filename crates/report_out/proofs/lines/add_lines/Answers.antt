@@ -4,7 +4,7 @@ use Rattle.std.proofs.lemmas.List.{take_all}
 use Rattle.step_journal.specs.declared.entry.Entry.{Entry as Noted}
 use Rattle.report_lines.specs.Texts.{entries_text}
 use Rattle.job_rows.specs.Upkeep.{Follows}
-use Rattle.report_out.proofs.Texts.{next_writes, cut_short, all_sent, has_come, on_ok, on_err, always_ok, always_err}
+use Rattle.report_out.proofs.Texts.{next_writes, cut_short, all_sent, has_come, counted_next, always_err}
 use Rattle.report_out.proofs.lines.add_lines.Goals as goal
 
 pub add_line-requires-clause-next : goal.add_line-requires-clause-next
@@ -13,39 +13,40 @@ add_line-requires-clause-next g c =
     next_writes c.args.names.now c.args.writer.now c.loop-i.writer c.args.entries.now c.loop-i.i _ _ c.requires.next lt refl
     c.loop-i.invariant.0.places c.loop-i.invariant.0.follows
 
-pub returns-in_err-add_line-clause-front : goal.returns-in_err-add_line-clause-front
-returns-in_err-add_line-clause-front g c =
+pub returns-in_err-bytes-clause-front : goal.returns-in_err-bytes-clause-front
+returns-in_err-bytes-clause-front g c =
     always_err c.from_residual.result (cut_short (g.K.Sink.taken c.args.sink.now) (g.K.Sink.taken c.loop-i.sink) (g.K.Sink.taken c.add_line.new.sink) c.loop-i.lines.items
     (entries_text c.args.names.now (drop c.loop-i.i c.args.entries.now)) (entries_text c.args.names.now c.args.entries.now)
-    c.in_err-add_line.ensures.front.0 c.loop-i.invariant.0.way c.in_err-add_line.ensures.front.1)
+    c.in_err-bytes.ensures.front.0 c.loop-i.invariant.0.way c.in_err-bytes.ensures.front.1)
 
 pub loop-i-preserved : goal.loop-i-preserved
 loop-i-preserved g c =
     let lt : c.loop-i.i < length c.args.entries.now = omega (arith, c.loop-i-test.true, c.loop-i.auto.i-end) in
-    let added = c.in_ok-add_line.ensures.added in (
+    let added = c.in_ok-bytes.ensures.added in (
       has_come c.args.names.now c.args.writer.now c.loop-i.writer c.add_line.new.writer c.args.entries.now c.loop-i.i _ _
           (g.K.Sink.taken c.args.sink.now) (g.K.Sink.taken c.loop-i.sink) (g.K.Sink.taken c.add_line.new.sink) c.loop-i.lines.items c.add_line.new.lines.items
-          c.loop-i.invariant.0 lt refl added.0 added.1 added.2 c.in_ok-add_line.ensures.follows c.add_line.ensures.places,
+          c.loop-i.invariant.0 lt refl added.0 added.1 added.2 c.in_ok-bytes.ensures.follows c.add_line.ensures.places,
       omega (arith, c.loop-i.invariant.1, c.add_line.ensures.room),
       omega (arith, c.loop-i.invariant.2, c.add_line.ensures.cause.later),
+      counted_next c.args.names.now c.args.entries.now c.loop-i.i c.loop-i.bytes c.in_ok-bytes.field-0 _ _ c.loop-i.invariant.3 lt refl c.in_ok-bytes.ensures.bytes.0 c.in_ok-bytes.ensures.bytes.1,
     )
 
 pub returns-clause-all : goal.returns-clause-all
 returns-clause-all g c =
     let le : length c.args.entries.now ≤ c.loop-i.i = omega (arith, c.loop-i-test.false, c.loop-i.auto.i-end) in
-    let none = ap (entries_text c.args.names.now) (drop_of_length-le c.args.entries.now le) in
-    on_ok c.send.result (λ h. (
+    let none = ap (entries_text c.args.names.now) (drop_of_length-le c.args.entries.now le) in (
       all_sent (g.K.Sink.taken c.args.sink.now) (g.K.Sink.taken c.loop-i.sink) (g.K.Sink.taken c.send.new.sink) c.loop-i.lines.items
-          (entries_text c.args.names.now (drop c.loop-i.i c.args.entries.now)) (entries_text c.args.names.now c.args.entries.now) c.loop-i.invariant.0.way none h.0,
-      h.1,
-    )) c.send.ensures.all
+          (entries_text c.args.names.now (drop c.loop-i.i c.args.entries.now)) (entries_text c.args.names.now c.args.entries.now) c.loop-i.invariant.0.way none c.in_ok-send.ensures.all.0,
+      c.in_ok-send.ensures.all.1,
+    )
 
-pub returns-clause-front : goal.returns-clause-front
-returns-clause-front g c =
-    on_err c.send.result (λ h. cut_short (g.K.Sink.taken c.args.sink.now) (g.K.Sink.taken c.loop-i.sink) (g.K.Sink.taken c.send.new.sink) c.loop-i.lines.items
-    (entries_text c.args.names.now (drop c.loop-i.i c.args.entries.now)) (entries_text c.args.names.now c.args.entries.now) h.0 c.loop-i.invariant.0.way h.1) c.send.ensures.front
+pub returns-in_err-send-clause-front : goal.returns-in_err-send-clause-front
+returns-in_err-send-clause-front g c =
+    always_err c.from_residual-in_err-send.result (cut_short (g.K.Sink.taken c.args.sink.now) (g.K.Sink.taken c.loop-i.sink) (g.K.Sink.taken c.send.new.sink) c.loop-i.lines.items
+    (entries_text c.args.names.now (drop c.loop-i.i c.args.entries.now)) (entries_text c.args.names.now c.args.entries.now)
+    c.in_err-send.ensures.front.0 c.loop-i.invariant.0.way c.in_err-send.ensures.front.1)
 
 pub returns-clause-follows : goal.returns-clause-follows
 returns-clause-follows g c =
     let le : length c.args.entries.now ≤ c.loop-i.i = omega (arith, c.loop-i-test.false, c.loop-i.auto.i-end) in
-    always_ok c.send.result (λ set story f legal. subst (λ (l : List Noted). Follows set c.loop-i.writer (story ++ l)) (take_all c.loop-i.i c.args.entries.now le) (c.loop-i.invariant.0.follows set story f legal))
+    λ set story f legal. subst (λ (l : List Noted). Follows set c.loop-i.writer (story ++ l)) (take_all c.loop-i.i c.args.entries.now le) (c.loop-i.invariant.0.follows set story f legal)

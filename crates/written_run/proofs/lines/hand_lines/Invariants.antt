@@ -1,6 +1,3 @@
-use Rattle.std.proofs.Common.{map}
-use Rattle.sim_run.specs.Workloads.{workload}
-use Rattle.sim_run.specs.Runs.{HasRun}
 use Rattle.written_run.proofs.lines.hand_lines.Given as goal
 
 abbrev pub ghosts-run_lines : goal.ghosts-run_lines
@@ -10,6 +7,6 @@ ghosts-run_lines g a = record {
     front = g.K.Sink.taken a.out.now.sink.now;
     names = a.out.now.names.now;
     set = g.B.Board.set a.board.now;
+    room = a.out.now.writer.room;
   };
-  may = HasRun (workload (g.B.Board.set a.board.now) (map g.Y.Body.gives a.bodies.now) a.ticks.now);
 }
