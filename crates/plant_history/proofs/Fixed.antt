@@ -1,4 +1,5 @@
--- Where no transaction plans jobs itself, each entry after the plans is that of the event that the state fixes.
+-- Where no transaction plans jobs itself, each entry after the plans is that of the event that the state fixes, and the other
+-- way round: no state fixes a plan.
 use Rattle.std.proofs.Common.{◌≡◌, ℕ, Bool, true, false, cond, List, [], ◌∷◌, ◌++◌, length, Option, None, Some, slice_get, refl, ap, sym, ◌∙◌, subst, arith, append_assoc, append-nil}
 use Rattle.std.specs.Option.{option_map, option_and_then}
 use Rattle.rt_base.specs.declared.ids.JobId.{JobId}
@@ -11,13 +12,15 @@ use Rattle.step_journal.specs.State.{State, Row, same_job, opening, pending}
 use Rattle.step_journal.specs.LockRule.{in_falling_priority, highest}
 use Rattle.step_journal.specs.Running.{running, followed, of_job}
 use Rattle.step_journal.specs.Instant.{arrived}
-use Rattle.step_journal.specs.Step.{ask, idle, asked, idled, next_tick, step}
+use Rattle.step_journal.specs.Step.{plan, ask, idle, asked, idled, next_tick, step}
 use Rattle.step_journal.specs.History.{event_of, entry_given, IsLegalEntry, IsLegalFrom, IsLegal, state_of}
 use Rattle.history_laws.proofs.Invariant.{same_job_is}
+use Rattle.counting_laws.specs.Counting.{plan_count, plans_in}
 use Rattle.sim_history.specs.Sim.{Workload, IsAsked, IsFixed, plans, next_event, event_for, event_in, op_asked}
 use Rattle.sim_run.proofs.Histories.{legal_split, state_next}
 use Rattle.plant_history.specs.Histories.{IsLater, IsRunSoFar}
-use Rattle.plant_history.specs.Laws.{FixedIsSim, FixedIsUnderWay}
+use Rattle.plant_history.specs.Laws.{FixedIsSim, FixedIsUnderWay, SimIsRun}
+use Rattle.plant_history.proofs.Counts.{count_append, count_plans}
 
 -- an operation that is legal is asked for by the running job
 
@@ -133,4 +136,57 @@ fixed_sim = λ w own history none r.
       fixed = rest_fixed w own history none r.so_far;
       none_pending = r.none_pending;
       none_planned = r.none_planned;
+    }
+
+-- no state fixes a plan, and so the entries of fixed events have none
+
+none_in : (tx tick : ℕ) (planned : List Release) → event_in planned ≡ Some (plan tx tick) → ⊥
+none_in tx tick [] h = cc
+none_in tx tick (r ∷ rs) h = cc
+
+none_for : (w : Workload) (before : List Entry) (s : State) (o : Option Row) (tx tick : ℕ)
+    → event_for w before s o ≡ Some (plan tx tick) → ⊥
+none_for w before s (Some row) tx tick h = cc
+none_for w before s None tx tick h = none_in tx tick s.planned h
+
+fixed_no_plan : (w : Workload) (before : List Entry) (e : Entry) → next_event w before ≡ Some (event_of e) → IsNoPlan e
+fixed_no_plan w before (Planned tx tick) h = none_for w before (state_of w.set before) (running w.set (state_of w.set before).rows) tx.0 tick h
+fixed_no_plan w before (Step job op outcome over tick) h = tt
+fixed_no_plan w before (Blocked job op by ceiling tick) h = tt
+fixed_no_plan w before (Idle from to) h = tt
+
+no_plan_at : (w : Workload) (before more after : List Entry) (e : Entry) → IsFixed w before (more ++ e ∷ after) → IsNoPlan e
+no_plan_at w before [] after e f = fixed_no_plan w before e f.0
+no_plan_at w before (x ∷ more) after e f = no_plan_at w (before ++ x ∷ []) more after e f.1
+
+no_plan_later : (w : Workload) (own : ℕ → ℕ) (more : List Entry) (e : Entry) → IsNoPlan e → IsLater w own more e
+no_plan_later w own more (Planned tx tick) no_plan = absurd no_plan
+no_plan_later w own more (Step job op outcome over tick) no_plan = tt
+no_plan_later w own more (Blocked job op by ceiling tick) no_plan = tt
+no_plan_later w own more (Idle from to) no_plan = tt
+
+no_plan_counts : (e : Entry) (n : ℕ) → IsNoPlan e → plans_in n e ≡ 0
+no_plan_counts (Planned tx tick) n no_plan = absurd no_plan
+no_plan_counts (Step job op outcome over tick) n no_plan = refl
+no_plan_counts (Blocked job op by ceiling tick) n no_plan = refl
+no_plan_counts (Idle from to) n no_plan = refl
+
+count_fixed : (w : Workload) (before rest : List Entry) (n : ℕ) → IsFixed w before rest → plan_count rest n ≡ 0
+count_fixed w before [] n f = refl
+count_fixed w before (e ∷ rest) n f = omega (arith, no_plan_counts e n (fixed_no_plan w before e f.0), count_fixed w (before ++ e ∷ []) rest n f.1)
+
+pub sim_is_run : SimIsRun
+sim_is_run = λ w own history none s.
+    record {
+      so_far =
+          record {
+            legal = s.legal;
+            script_run = s.script_run;
+            rest = s.rest;
+            begins = s.begins;
+            later = λ more after e is. no_plan_later w own more e (no_plan_at w (plans w) more after e (subst (IsFixed w (plans w)) is s.fixed));
+          };
+      jobs = λ tx lt. omega (arith, ap (λ (l : List Entry). plan_count l tx) s.begins, count_append (plans w) s.rest tx, count_plans w tx, count_fixed w (plans w) s.rest tx s.fixed, none tx);
+      none_pending = s.none_pending;
+      none_planned = s.none_planned;
     }

@@ -54,3 +54,9 @@ abbrev pub FixedIsUnderWay : Type 0
 FixedIsUnderWay =
     (w : Workload) (own : ℕ → ℕ) (history : List Entry) → ((tx : ℕ) → own tx ≡ 0) → IsRunSoFar w own history
     → IsUnderWay w history
+
+-- the other way round the one run of the workload is a whole run, whatever its set and its releases
+abbrev pub SimIsRun : Type 0
+SimIsRun =
+    (w : Workload) (own : ℕ → ℕ) (history : List Entry) → ((tx : ℕ) → own tx ≡ 0) → IsSim w history
+    → IsRunOf w own history

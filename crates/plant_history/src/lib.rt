@@ -2,7 +2,7 @@
 //! in whatever order they came. They are about the definitions alone.
 #![tactic(auto)]
 
-ghost use Rattle.plant_history.specs.Laws.{ClosedSoFar, ClosedWhole, NoRefusal, FixedIsSim, FixedIsUnderWay};
+ghost use Rattle.plant_history.specs.Laws.{ClosedSoFar, ClosedWhole, NoRefusal, FixedIsSim, FixedIsUnderWay, SimIsRun};
 
 use board::Board;
 
@@ -24,8 +24,9 @@ pub fn no_refusal<B: Board>()
 {}
 
 /// Where no transaction is eager, a whole run of a workload on a plant is its one run, whatever the order of the seats,
-/// and a run so far is on the way to it.
+/// and a run so far is on the way to it. The one run is a whole run too: the two are the same.
 pub fn fixed_is_sim()
     ensures sim { FixedIsSim }
     ensures under_way { FixedIsUnderWay }
+    ensures run { SimIsRun }
 {}
