@@ -2,7 +2,7 @@ use Rattle.std.proofs.Common.{◌≡◌, ℕ, ◌+◌, ◌<◌, ◌≤◌, ◌++
 use Rattle.txn_set.specs.Set.{Set, IsCompiled}
 use Rattle.step_journal.specs.declared.entry.Entry.{Entry}
 use Rattle.sim_history.specs.Sim.{Workload, plans_from}
-use Rattle.sim_run.specs.Workloads.{workload}
+use Rattle.sim_run.specs.Workloads.{workload, IsObedient}
 use Rattle.sim_run.specs.Handed.{CanTake, IsHanded, IsCut}
 use Rattle.sim_run.proofs.Planning.{releases_legal}
 use Rattle.sim_run.proofs.Runs.{nothing_kept, begins}
@@ -59,6 +59,11 @@ returns-in_err-plan_all-clause-stopped g c = λ stopped.
 pub work-requires-clause-few : goal.work-requires-clause-few
 work-requires-clause-few g c κs within = few_ticks _ c.args.releases.now c.requires.accepted
 
+pub work-requires-clause-obedient : goal.work-requires-clause-obedient
+work-requires-clause-obedient g c κs within =
+    let bodies = map g.Y.Body.gives c.args.bodies.items in
+    subst (λ (q : Set). IsObedient (workload q bodies c.args.releases.now)) (sym c.plan_all.ensures.fixed.0) c.requires.obedient
+
 pub work-requires-clause-good : goal.work-requires-clause-good
 work-requires-clause-good g c κs within =
     let set = g.B.Board.set c.args.board in let bodies = map g.Y.Body.gives c.args.bodies.items in
@@ -86,7 +91,7 @@ returns-in_err-board-clause-stopped g c = λ stopped.
     let handed = subst (λ (l : List Entry). IsHanded got (g.O.EntryOut.got c.plan_all.new.out) (l ++ plans_from 0 releases) (g.B.Board.kept c.plan_all.new.board)) none c.in_ok-plan_all.ensures.passed in
     let es = c.plan_all.ensures.fixed.0 in
     let ok : IsCompiled (g.B.Board.set c.plan_all.new.board) = subst IsCompiled (sym es) is.compiled in
-    let cut = c.in_err-board.ensures.cut ? in
+    let cut = c.in_err-board.ensures.cut (search rules) in
     stopped_at_work set (g.B.Board.set c.plan_all.new.board) bodies releases es got (g.O.EntryOut.got c.plan_all.new.out) (g.O.EntryOut.got c.work.new.out) (g.O.EntryOut.lost c.work.new.out) (g.B.Board.kept c.plan_all.new.board) ok c.requires.obedient handed cut
 
 pub returns-in_err-board-clause-short : goal.returns-in_err-board-clause-short
@@ -101,7 +106,7 @@ returns-in_err-board-clause-short g c = λ refused.
     let handed = subst (λ (l : List Entry). IsHanded got (g.O.EntryOut.got c.plan_all.new.out) (l ++ plans_from 0 releases) (g.B.Board.kept c.plan_all.new.board)) none c.in_ok-plan_all.ensures.passed in
     let es = c.plan_all.ensures.fixed.0 in
     let ok : IsCompiled (g.B.Board.set c.plan_all.new.board) = subst IsCompiled (sym es) is.compiled in
-    let same = c.in_err-board.ensures.memory ? in
+    let same = c.in_err-board.ensures.memory (search rules) in
     subst (λ o. IsCutShort w got (g.O.EntryOut.got o) (g.O.EntryOut.lost o)) (sym same)
     (cut_short w got (g.O.EntryOut.got c.plan_all.new.out) (g.O.EntryOut.lost c.plan_all.new.out) (g.B.Board.kept c.plan_all.new.board) is.compiled c.requires.accepted c.requires.obedient handed c.in_ok-plan_all.ensures.none_lost)
 
