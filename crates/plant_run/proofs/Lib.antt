@@ -5,3 +5,4 @@ pub mod Crews
 pub mod Sitting
 pub mod Works
 pub mod Ending
+pub mod NoTxns

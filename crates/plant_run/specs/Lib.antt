@@ -1,3 +1,4 @@
 pub mod Deals
 pub mod Works
 pub mod Runs
+pub mod NoTxns

@@ -8,3 +8,6 @@ mod run;
 mod work;
 
 pub use run::{RunFault, run_workers};
+
+#[cfg(test)]
+mod tests;
