@@ -1,0 +1,130 @@
+-- The whole run: its plans, its workers, and the entries that are left at the end.
+use Rattle.std.proofs.Common.{◌≡◌, ℕ, ◌<◌, ◌^◌, ◌++◌, List, [], ◌∷◌, length, take, drop, All, sym, ap, subst, ◌∙◌, arith, append_assoc, append-nil}
+use Rattle.std.proofs.lemmas.List.Sums.{get_or-le-sum_by, sum-map}
+use Rattle.std.proofs.Math.Seq.{take-append_seam, drop-append_seam}
+use Rattle.txn_set.specs.Set.{Set}
+use Rattle.step_journal.specs.declared.entry.Entry.{Entry}
+use Rattle.step_journal.specs.History.{IsLegal}
+use Rattle.sim_history.specs.Sim.{Body, Workload, plans, plans_from}
+use Rattle.sim_run.specs.Workloads.{workload, AreAccepted}
+use Rattle.sim_run.specs.Handed.{CanAppend, CanTake, IsHanded, IsCut}
+use Rattle.sim_run.proofs.Runs.{begins}
+use Rattle.sim_run.proofs.Handing.{take_rest, take_all, handed_then, cut_then}
+use Rattle.plant_history.specs.Histories.{IsRunSoFar, IsRunOf}
+use Rattle.plant_run.specs.Works.{HasWorked, WasCut, CanGoOn}
+use Rattle.plant_run.specs.Runs.{IsWholeRun, IsStoppedRun, IsShortRun}
+
+pub few_ticks : (set : Set) (releases : List (List ℕ)) → AreAccepted set releases → All (λ (ticks : List ℕ). length ticks < 2 ^ 32) releases
+few_ticks set releases a i d lt =
+    let top : 65536 < 2 ^ 32 = omega arith in
+    let one = get_or-le-sum_by (λ (ticks : List ℕ). length ticks) releases i d lt in
+    let all = sum-map (λ (ticks : List ℕ). length ticks) releases in
+    omega (arith, top, one, all, a.few)
+
+-- what comes after the plans too
+handed_rest : (got got' : List Entry → Type 0) (entries left rest : List Entry) → IsHanded got got' entries left → IsHanded got got' (entries ++ rest) (left ++ rest)
+handed_rest got got' entries left rest h = record {
+  passed = h.passed;
+  parts = ap (λ (l : List Entry). l ++ rest) h.parts ∙ append_assoc h.passed left rest;
+  grown = h.grown;
+}
+
+-- the plans of all releases alone are a run so far
+
+no_entry : {X : Type 0} (more after : List X) (e : X) → [] ≡ more ++ e ∷ after → ⊥
+no_entry [] after e is = cc
+no_entry (x ∷ more) after e is = cc
+
+pub plans_so_far : (w : Workload) (own : ℕ → ℕ) → IsLegal w.set (plans w) → IsRunSoFar w own (plans w)
+plans_so_far w own legal = record {
+  legal = legal;
+  script_run = (begins w).script_run;
+  rest = [];
+  begins = sym (append-nil (plans w));
+  later = λ more after e is. absurd (no_entry more after e is);
+}
+
+-- where a growth was refused
+
+pub cut_before : (w : Workload) (own : ℕ → ℕ) (got lost : List Entry → Type 0) → IsLegal w.set (plans w) → lost [] → IsShortRun w own got got lost
+cut_before w own got lost legal none =
+    record { history = plans w; so_far = plans_so_far w own legal; passed = 0; grown = λ story g. subst got (sym (append-nil story)) g; none_lost = none }
+
+pub cut_short : (w : Workload) (own : ℕ → ℕ) (got got' lost' : List Entry → Type 0) (kept : List Entry) → IsLegal w.set (plans w)
+    → IsHanded got got' (plans w) kept → lost' [] → IsShortRun w own got got' lost'
+cut_short w own got got' lost' kept legal h none =
+    let front : take (length h.passed) (plans w) ≡ h.passed = ap (take (length h.passed)) h.parts ∙ take-append_seam h.passed kept in
+    record {
+      history = plans w;
+      so_far = plans_so_far w own legal;
+      passed = length h.passed;
+      grown = λ story g. subst (λ (l : List Entry). got' (story ++ l)) (sym front) (h.grown story g);
+      none_lost = none;
+    }
+
+-- where the out stopped
+pub cut_run : (w : Workload) (own : ℕ → ℕ) (got got' lost' : List Entry → Type 0) (history : List Entry) → IsRunSoFar w own history → IsCut got got' lost' history → IsStoppedRun w own got got' lost'
+cut_run w own got got' lost' history so_far k =
+    let parts : history ≡ k.passed ++ (k.piece ++ k.left) = k.parts ∙ append_assoc k.passed k.piece k.left in
+    let first : take (length k.passed) history ≡ k.passed = ap (take (length k.passed)) parts ∙ take-append_seam k.passed (k.piece ++ k.left) in
+    let next : drop (length k.passed) history ≡ k.piece ++ k.left = ap (drop (length k.passed)) parts ∙ drop-append_seam k.passed (k.piece ++ k.left) in
+    record {
+      history = history;
+      so_far = so_far;
+      passed = length k.passed;
+      missed = length k.piece;
+      grown = λ story g. subst (λ (l : List Entry). got' (story ++ l)) (sym first) (k.grown story g);
+      is_lost = subst lost' (sym (ap (take (length k.piece)) next ∙ take-append_seam k.piece k.left)) k.is_lost;
+    }
+
+-- where all was handed on
+whole_run : (w : Workload) (own : ℕ → ℕ) (stands got got' : List Entry → Type 0) (story : List Entry) → IsRunOf w own story → stands story → IsHanded got got' story [] → IsWholeRun w own stands got got'
+whole_run w own stands got got' story run stood h = record {
+  history = story;
+  run = run;
+  stood = stood;
+  grown = λ s g. subst (λ (l : List Entry). got' (s ++ l)) (sym (h.parts ∙ append-nil h.passed)) (h.grown s g);
+}
+
+module _ (set set' : Set) (bodies : List Body) (releases : List (List ℕ)) (own : ℕ → ℕ) (es : set' ≡ set) where
+  -- what the out can take after the plans
+  pub can_go_on : (got good got' good' : List Entry → Type 0) (kept : List Entry) → ((history : List Entry) → IsLegal set history → CanTake got good history)
+      → ((s : List Entry) → good s → good' s) → IsHanded got got' (plans_from 0 releases) kept → CanGoOn (workload set' bodies releases) got' good' kept
+  can_go_on got good got' good' kept can same h = λ rest legal.
+      take_rest got good got' good' (plans_from 0 releases ++ rest) (kept ++ rest) same (handed_rest got got' (plans_from 0 releases) kept rest h)
+      (can (plans_from 0 releases ++ rest) (subst (λ (q : Set). IsLegal q (plans_from 0 releases ++ rest)) es legal))
+
+  -- where the out stopped while the workers ran
+  pub stopped_at_work : (got got' got'' lost'' : List Entry → Type 0) (kept : List Entry)
+      → IsHanded got got' (plans_from 0 releases) kept → WasCut (workload set' bodies releases) own got' got'' lost'' kept → IsStoppedRun (workload set bodies releases) own got got'' lost''
+  stopped_at_work got got' got'' lost'' kept h c =
+      let story : List Entry = plans_from 0 releases ++ c.rest in
+      cut_run (workload set bodies releases) own got got'' lost'' story (subst (λ (q : Set). IsRunSoFar (workload q bodies releases) own story) es c.so_far)
+      (cut_then got got' got'' lost'' story (kept ++ c.rest) (handed_rest got got' (plans_from 0 releases) kept c.rest h) c.cut)
+
+  -- after the workers
+  handed_all : (stands got got' got'' : List Entry → Type 0) (kept left : List Entry) → IsHanded got got' (plans_from 0 releases) kept
+      → (a : HasWorked (workload set' bodies releases) own stands got' got'' kept left) → IsHanded got got'' (plans_from 0 releases ++ a.rest) left
+  handed_all stands got got' got'' kept left h a = handed_then got got' got'' (plans_from 0 releases ++ a.rest) (kept ++ a.rest) left (handed_rest got got' (plans_from 0 releases) kept a.rest h) a.handed
+
+  pub can_append_left : (stands got good got' got'' good'' : List Entry → Type 0) (kept left : List Entry) → ((history : List Entry) → IsLegal set history → CanTake got good history)
+      → ((s : List Entry) → good s → good'' s) → IsHanded got got' (plans_from 0 releases) kept → HasWorked (workload set' bodies releases) own stands got' got'' kept left → CanAppend got'' good'' left
+  can_append_left stands got good got' got'' good'' kept left can same h a =
+      let story : List Entry = plans_from 0 releases ++ a.rest in
+      take_all got'' good'' left (take_rest got good got'' good'' story left same (handed_all stands got got' got'' kept left h a) (can story (subst (λ (q : Set). IsLegal q story) es a.run.so_far.legal)))
+
+  pub stopped_at_end : (stands got got' got'' got''' lost''' : List Entry → Type 0) (kept left : List Entry)
+      → IsHanded got got' (plans_from 0 releases) kept → HasWorked (workload set' bodies releases) own stands got' got'' kept left → IsCut got'' got''' lost''' left
+      → IsStoppedRun (workload set bodies releases) own got got''' lost'''
+  stopped_at_end stands got got' got'' got''' lost''' kept left h a c =
+      let story : List Entry = plans_from 0 releases ++ a.rest in
+      cut_run (workload set bodies releases) own got got''' lost''' story (subst (λ (q : Set). IsRunSoFar (workload q bodies releases) own story) es a.run.so_far)
+      (cut_then got got'' got''' lost''' story left (handed_all stands got got' got'' kept left h a) c)
+
+  pub ended_whole : (stands stands' got got' got'' got''' : List Entry → Type 0) (kept left : List Entry) → ((story : List Entry) → stands story → stands' story)
+      → IsHanded got got' (plans_from 0 releases) kept → HasWorked (workload set' bodies releases) own stands got' got'' kept left → IsHanded got'' got''' left []
+      → IsWholeRun (workload set bodies releases) own stands' got got'''
+  ended_whole stands stands' got got' got'' got''' kept left same h a last =
+      let story : List Entry = plans_from 0 releases ++ a.rest in
+      whole_run (workload set bodies releases) own stands' got got''' story (subst (λ (q : Set). IsRunOf (workload q bodies releases) own story) es a.run) (same story a.stood)
+      (handed_then got got'' got''' story left [] (handed_all stands got got' got'' kept left h a) last)

@@ -1,0 +1,3 @@
+pub mod Deals
+pub mod Works
+pub mod Runs

@@ -1,0 +1,11 @@
+//! The run of a workload by workers, each in a thread of its own, on a plant that they share.
+#![tactic(auto)]
+
+mod deal;
+mod gather;
+mod laws;
+mod run;
+mod work;
+
+pub use laws::fixed_runs;
+pub use run::{RunFault, run_workers};

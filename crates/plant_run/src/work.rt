@@ -1,0 +1,141 @@
+//! Workers on a plant, from its start to its closing.
+ghost use Rattle.std.specs.Prelude.{◌≡◌, ℕ, ◌+◌, ◌≤◌, ◌<◌, ◌^◌, ◌++◌, ◌∷◌, [], None, length, map, All, IfOk, OnErr, IsErrOf, vec_capacity};
+ghost use Rattle.std.specs.Prelude.{List as Many};
+ghost use Rattle.io_edge.specs.Causes.{Rose};
+ghost use Rattle.step_journal.specs.declared.entry.Entry.{Entry as Noted};
+ghost use Rattle.shared_plant.specs.Seats.{AreOf, newcomer, newcomers};
+ghost use Rattle.sim_history.specs.Sim.{plans_from};
+ghost use Rattle.sim_run.specs.Workloads.{workload, ticks_of, IsObedient};
+ghost use Rattle.eager_laws.specs.Plannable.{ArePlannable};
+ghost use Rattle.plant_run.specs.Deals.{IsReserved};
+ghost use Rattle.plant_run.specs.Works.{HasWorked, WasCut, CanGoOn};
+ghost use Rattle.plant_run.specs.Runs.{own_at};
+
+use crate::deal::Crew;
+use crate::gather::{closed, gather};
+use crate::laws::stories_are;
+use crate::run::RunFault;
+use board::Board;
+use eager_laws::never_unplanned;
+use entry_out::EntryOut;
+use plant_history::{closed_so_far, closed_whole, no_refusal};
+use rt_base::{List, OutOfMemory, Tick};
+use shared_plant::{Plant, Seat};
+use std::alloc::Global;
+use std::marker::Brand;
+use std::sync::Wait;
+use std::thread::Threads;
+use step_journal::Entry;
+use step_script::Body;
+use turn_cell::Past;
+use txn_threads::{Gate, RunStop, run_all};
+
+// A plant on a board that stands for the plans of all releases.
+fn start_on<P: Past<Entry>, B: Board + Drop>(
+    alloc: Global,
+    board: B,
+    releases: &[List<Tick>],
+) -> Result<(Plant<B>, Vec<Seat<B>>), OutOfMemory>
+    requires past { P.past ≡ plans_from 0 releases.now }
+    requires stands { B.stands board (plans_from 0 releases.now) }
+    ensures plant { IfOk result (λ r. (r.0.set ≡ B.set board) × (r.0.room ≡ B.room board) × (r.0.start ≡ length (plans_from 0 releases.now)) × (r.0.seats ≡ length (B.set board).txns + 1)) }
+    ensures seats { IfOk result (λ r. r.1.items ≡ newcomers r.0.id (plans_from 0 releases.now) (B.first board) (length (B.set board).txns) ++ newcomer r.0.id (plans_from 0 releases.now) (B.first board) None ∷ []) }
+    ensures members { IfOk result (λ r. AreOf r.0 r.1.items) }
+{
+    let _releases = releases;
+    match Plant::start::<P>(alloc, board) {
+        Ok(started) => Ok(started),
+        Err((_, refused)) => Err(refused),
+    }
+}
+
+fn start<B: Board + Drop>(
+    alloc: Global,
+    board: B,
+    releases: &[List<Tick>],
+) -> Result<(Plant<B>, Vec<Seat<B>>), OutOfMemory>
+    requires stands { B.stands board (plans_from 0 releases.now) }
+    ensures plant { IfOk result (λ r. (r.0.set ≡ B.set board) × (r.0.room ≡ B.room board) × (r.0.start ≡ length (plans_from 0 releases.now)) × (r.0.seats ≡ length (B.set board).txns + 1)) }
+    ensures seats { IfOk result (λ r. r.1.items ≡ newcomers r.0.id (plans_from 0 releases.now) (B.first board) (length (B.set board).txns) ++ newcomer r.0.id (plans_from 0 releases.now) (B.first board) None ∷ []) }
+    ensures members { IfOk result (λ r. AreOf r.0 r.1.items) }
+{
+    start_on::<Brand, B>(alloc, board, releases)
+}
+
+// Only the out stops a run of an obedient workload whose eager jobs can be planned.
+fn fault_of(stop: RunStop) -> RunFault
+    requires { stop ≡ RunStop.Stopped }
+    ensures { result ≡ RunFault.Stopped }
+{
+    match stop {
+        RunStop::Stopped => RunFault::Stopped,
+        _ => unreachable!(),
+    }
+}
+
+// Starts a plant on a board on which all releases were planned, lets workers run the bodies, and closes it.
+pub(crate) fn work<
+    R: Threads + Wait + Sync,
+    B: Board + Send + Drop,
+    Y: Body + Send + Drop,
+    G: Gate + Sync,
+    O: EntryOut,
+>(
+    rt: &R,
+    alloc: Global,
+    board: B,
+    bodies: Vec<Y>,
+    releases: &[List<Tick>],
+    own: &[u32],
+    crew: Crew<B, Y>,
+    spare: &mut Vec<Entry>,
+    gate: &G,
+    out: &mut O,
+) -> Result<B, RunFault>
+    requires stands { B.stands board (plans_from 0 releases.now) }
+    requires each { (length bodies.items ≡ length releases.now) × (length own.now ≡ length releases.now) × (length releases.now ≡ length (B.set board).txns) }
+    requires few { All (λ ticks. length ticks < 2 ^ 32) releases.now }
+    requires obedient { IsObedient (workload (B.set board) (map Y.gives bodies.items) releases.now) }
+    requires eager { (tx : ℕ) → 0 < own_at own.now tx → ticks_of releases.now tx ≡ [] }
+    requires plannable { ArePlannable (workload (B.set board) (map Y.gives bodies.items) releases.now) (own_at own.now) }
+    requires crew { IsReserved (length releases.now) crew }
+    requires spare { spare.old.items ≡ [] }
+    requires nothing_lost { O.lost out.old [] }
+    requires good { let w = workload (B.set board) (map Y.gives bodies.items) releases.now in CanGoOn w (O.got out.old) (O.good out.old) (B.kept board) }
+    ensures worked { let w = workload (B.set board) (map Y.gives bodies.items) releases.now in
+        IfOk result (λ b. HasWorked w (own_at own.now) (B.stands b) (O.got out.old) (O.got out.new) (B.kept board) (B.kept b)) }
+    ensures fixed { IfOk result (λ b. (B.set b ≡ B.set board) × (B.room b ≡ B.room board)) }
+    ensures none_lost { IfOk result (λ _. O.lost out.new []) }
+    ensures cut { let w = workload (B.set board) (map Y.gives bodies.items) releases.now in
+        IsErrOf result RunFault.Stopped → WasCut w (own_at own.now) (O.got out.old) (O.got out.new) (O.lost out.new) (B.kept board) }
+    ensures memory { IsErrOf result RunFault.Memory → out.new ≡ out.old }
+    ensures cause { IsErrOf result RunFault.Stopped → Rose (O.stops out.old) (O.stops out.new) }
+    ensures later { O.stops out.old ≤ O.stops out.new }
+    ensures good { (story : Many Noted) → O.good out.old story → O.good out.new story }
+    ensures spare { (spare.new.items ≡ []) × (vec_capacity spare.new ≡ vec_capacity spare.old) }
+{
+    stories_are::<B>();
+    let (plant, mut seats) = start(alloc, board, releases)?;
+    let mut operator = seats.pop().unwrap();
+    let mut workers = crew.hire(&mut seats, bodies, releases, own);
+    let ran = run_all(
+        rt,
+        &plant,
+        workers.as_mut_slice(),
+        &mut operator,
+        spare,
+        gate,
+        out,
+    );
+    gather(workers, &mut seats);
+    seats.push_reserved(operator);
+    let board = closed(plant, seats);
+    closed_so_far::<B>();
+    closed_whole::<B>();
+    no_refusal::<B>();
+    never_unplanned::<B, Y>();
+    match ran {
+        Ok(()) => Ok(board),
+        Err(stop) => Err(fault_of(stop)),
+    }
+}
