@@ -1,6 +1,7 @@
 -- Where no transaction plans jobs itself: a run on a plant is the one run of the workload.
 use Rattle.std.proofs.Common.{◌≡◌, ℕ, ◌+◌, ◌*◌, map, ◌∷◌, arith, length-append, List, [], ◌++◌, length, take, drop, refl, sym, ap, subst, ◌∙◌, append_assoc}
 use Rattle.std.proofs.lemmas.List.{take-append-drop, length-map}
+use Rattle.std.proofs.lemmas.List.Sums.{sum-map, sum_by-cons}
 use Rattle.std.specs.List.{sum, range_with_len}
 use Rattle.std.proofs.Math.Seq.{take-append_seam}
 use Rattle.txn_set.specs.Set.{IsCompiled}
@@ -22,18 +23,20 @@ use Rattle.plant_run.specs.Runs.{FixedArePlannable, IsWholeRun, IsStoppedRun, Is
 
 sum_none : (own : ℕ → ℕ) → ((tx : ℕ) → own tx ≡ 0) → (txs : List ℕ) → sum (map own txs) ≡ 0
 sum_none own none [] = refl
-sum_none own none (tx ∷ txs) = omega (arith, none tx, sum_none own none txs)
+sum_none own none (tx ∷ txs) =
+    omega (arith, sum-map own (tx ∷ txs), sum_by-cons own tx txs, sum-map own txs, none tx, sum_none own none txs)
 
-plans_long : (k : ℕ) (releases : List (List ℕ)) → length (plans_from k releases) ≡ sum (map length releases)
+plans_long : (k : ℕ) (releases : List (List ℕ)) → length (plans_from k releases) ≡ sum (map (λ (l : List ℕ). length l) releases)
 plans_long k [] = refl
 plans_long k (ticks ∷ rest) =
-    omega (arith, length-append (map (Planned (record { 0 = k })) ticks) (plans_from (k + 1) rest), length-map ticks (Planned (record { 0 = k })), plans_long (k + 1) rest)
+    let long = λ (l : List ℕ). length l in
+    omega (arith, sum-map long (ticks ∷ rest), sum_by-cons long ticks rest, sum-map long rest, length-append (map (Planned (record { 0 = k })) ticks) (plans_from (k + 1) rest), length-map ticks (Planned (record { 0 = k })), plans_long (k + 1) rest)
 
 pub fixed_plannable : FixedArePlannable
 fixed_plannable = λ w own ok accepted none.
     let jobs : own_jobs w.set own ≡ 0 = sum_none own none (range_with_len 0 (length w.set.txns)) in
     let timed = time_bounded w.set (plans w) ok (releases_legal w.set w.releases accepted) in
-    let times : own_jobs w.set own * greatest_period w.set ≡ 0 = ap (λ (k : ℕ). k * greatest_period w.set) jobs in
+    let times : own_jobs w.set own * greatest_period w.set ≡ 0 = ap (λ (k : ℕ). k * greatest_period w.set) jobs ∙ omega arith in
     record {
       few = omega (arith, plans_long 0 w.releases, jobs, accepted.few);
       near = omega (arith, timed.planned, times);

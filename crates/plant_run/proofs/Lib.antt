@@ -6,3 +6,4 @@ pub mod Sitting
 pub mod Works
 pub mod Ending
 pub mod Fixed
+pub mod NoTxns

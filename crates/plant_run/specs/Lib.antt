@@ -1,3 +1,5 @@
 pub mod Deals
 pub mod Works
 pub mod Runs
+pub mod NoTxns
+pub mod EagerSlow

@@ -9,3 +9,6 @@ mod work;
 
 pub use laws::fixed_runs;
 pub use run::{RunFault, run_workers};
+
+#[cfg(test)]
+mod tests;
