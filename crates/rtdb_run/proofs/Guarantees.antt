@@ -1,10 +1,9 @@
 -- What the laws say of the run of a scenario.
-use Rattle.std.proofs.Common.{◌≡◌, ℕ, Bool, true, false, List, Option, None, ◌∙◌}
+use Rattle.std.proofs.Common.{◌≡◌, ℕ, Bool, true, false, not, List, Option, None}
 use Rattle.rt_base.specs.declared.ids.JobId.{JobId}
-use Rattle.item_model.specs.declared.stored.Stored.{Stored}
 use Rattle.txn_set.specs.Set.{Set, IsCompiled}
 use Rattle.step_journal.specs.declared.entry.Entry.{Entry}
-use Rattle.step_journal.specs.History.{IsLegal, state_of}
+use Rattle.step_journal.specs.History.{IsLegal}
 use Rattle.history_laws.proofs.SerialAll.{serial}
 use Rattle.history_laws.proofs.DelayAll.{one_delay}
 use Rattle.counting_laws.proofs.CountingAll.{entries_few}
@@ -13,7 +12,8 @@ use Rattle.set_admission.specs.Admission.{refusal}
 use Rattle.set_admission.proofs.Admitted.{decided}
 use Rattle.set_admission.proofs.Kept.{keeps_bounds}
 use Rattle.scenario.specs.Shown.{Shown, set_of}
-use Rattle.rtdb_run.specs.Runs.{IsGuaranteed, KeepsBoundsUnless, IsTextBy, IsRunText}
+use Rattle.rtdb_run.specs.Runs.{IsGuaranteed, KeepsBoundsUnless, IsRunText}
+use Rattle.written_run.specs.Written.{IsTextBy}
 use Rattle.workload_laws.specs.Runs.{workload_of}
 
 guaranteed : (set : Set) (history : List Entry) → IsCompiled set → IsLegal set history → IsGuaranteed set history
@@ -33,16 +33,14 @@ bounded : (trial : Bool) (set : Set) (history : List Entry) → IsCompiled set �
 bounded true set history ok legal h = tt
 bounded false set history ok legal h = keeps_bounds set history ok ((decided set ok).by_found.0 h) legal
 
-pub run_text : (trial : Bool) (s : Shown) (text : List ℕ) → IsCompiled (set_of s) → IsAdmittedUnless trial (set_of s) → IsTextBy s.names (workload_of s) text → IsRunText trial s text
+pub run_text : (trial : Bool) (s : Shown) (text : List ℕ) → IsCompiled (set_of s) → IsAdmittedUnless trial (set_of s) → IsTextBy s.names (not trial) (workload_of s) text → IsRunText trial s text
 run_text trial s text ok h t =
-    let history = t.left.history in
-    let legal = t.left.sim.legal in
+    let history = t.history in
+    let legal = t.sim.legal in
     record {
       history = history;
-      sim = t.left.sim;
+      sim = t.sim;
       guaranteed = guaranteed (set_of s) history ok legal;
       bounded = bounded trial (set_of s) history ok legal h;
-      items = t.items;
-      items_are = t.left.items_are ∙ (serial (set_of s) history ok legal).items;
       written = t.written;
     }

@@ -1,8 +1,8 @@
-pub mod Lines
 pub mod Guarantees
 pub mod Compiles
 pub mod FixedTicks
 pub mod Ready
 pub mod FixedMore
 pub mod Replying
-pub mod Fitting
+pub mod Loading
+pub mod Telling

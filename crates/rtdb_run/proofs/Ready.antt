@@ -1,24 +1,21 @@
 -- What a scenario declares can be run, and what its run leaves.
-use Rattle.std.proofs.Common.{◌≡◌, ℕ, ◌≤◌, ◌<◌, Bool, true, false, List, [], ◌∷◌, map, Option, None, refl, ap, sym, subst, ◌∙◌, length, arith}
+use Rattle.std.proofs.Common.{◌≡◌, ◌⊎◌, inl, inr, ℕ, Bool, List, [], ◌∷◌, ◌++◌, map, Option, Result, Ok, Err, OnOk, OnErr, IsErrOf, refl, ap, sym, subst, ◌∙◌, length}
+use Rattle.std.specs.Io.KnownBytes.{Keeps}
 use Rattle.std.proofs.lemmas.List.{length-map}
-use Rattle.item_model.specs.declared.stored.Stored.{Stored}
 use Rattle.rt_base.specs.declared.name.Names.{Names}
 use Rattle.step_script.specs.declared.script.Script.{Script}
 use Rattle.step_script.specs.Scripts.{Program, program_of, next_of}
-use Rattle.step_journal.specs.declared.entry.Entry.{Entry}
-use Rattle.step_journal.specs.History.{state_of}
-use Rattle.txn_set.specs.declared.decl.TxnDecl.{TxnDecl}
 use Rattle.txn_set.specs.Set.{Set, IsCompiled}
-use Rattle.sim_history.specs.Sim.{Body, Workload, IsSim}
-use Rattle.sim_run.specs.Workloads.{workload, AreAccepted, IsObedient, ticks_of}
-use Rattle.counting_laws.specs.Counting.{room_of_jobs}
+use Rattle.sim_history.specs.Sim.{Body, Workload}
+use Rattle.sim_run.specs.Workloads.{workload, AreAccepted, IsObedient}
 use Rattle.scenario.specs.declared.releases.Releases.{Releases}
 use Rattle.scenario.specs.Shown.{Shown, set_of}
 use Rattle.scenario.specs.Releases.{fixed_ticks}
 use Rattle.workload_laws.specs.Runs.{workload_of}
 use Rattle.workload_laws.proofs.Obeys.{obeys}
-use Rattle.workload_laws.proofs.Accepted.{accepted, room_enough}
-use Rattle.rtdb_run.specs.Runs.{Declares, IsReady, functions_of, IsLeftBy, IsTextBy}
+use Rattle.workload_laws.proofs.Accepted.{accepted}
+use Rattle.rtdb_run.specs.Runs.{Declares, IsReady, functions_of}
+use Rattle.written_run.specs.Written.{IsTextBy, Wrote, WroteFront}
 
 pub functions_same : (scripts : List Script) → map (λ s. next_of (program_of s)) scripts ≡ functions_of scripts
 functions_same [] = refl
@@ -30,16 +27,16 @@ moved P set set' bodies bodies' ticks ticks' e f g h =
     subst (λ (s : Set). P (workload s bodies' ticks')) e (subst (λ (l : List Body). P (workload set l ticks')) f (subst (λ (t : List (List ℕ)). P (workload set bodies t)) g h))
 
 -- the workload of what a scenario declares is the scenario's
-ticks_same : (set : Set) (scripts : List Script) (releases : List Releases) (room : ℕ) (d : Declares set scripts releases room) (ticks : List (List ℕ)) → ticks ≡ fixed_ticks set.txns releases
+pub ticks_same : (set : Set) (scripts : List Script) (releases : List Releases) (d : Declares set scripts releases) (ticks : List (List ℕ)) → ticks ≡ fixed_ticks set.txns releases
     → ticks ≡ fixed_ticks d.scenario.txns d.scenario.releases
-ticks_same set scripts releases room d ticks e =
+ticks_same set scripts releases d ticks e =
     e ∙ (ap (λ (s : Set). fixed_ticks s.txns releases) d.set_is ∙ ap (fixed_ticks d.scenario.txns) d.releases_are)
 
-pub ready : (set : Set) (scripts : List Script) (releases : List Releases) (room : ℕ) → IsCompiled set → Declares set scripts releases room
-    → (scripts' : List Script) (serials : ℕ) (ticks : List (List ℕ)) → scripts' ≡ scripts → serials ≡ length scripts → ticks ≡ fixed_ticks set.txns releases → IsReady set room scripts' serials ticks
-ready set scripts releases room ok d scripts' serials ticks e f g =
+pub ready : (set : Set) (scripts : List Script) (releases : List Releases) → IsCompiled set → Declares set scripts releases
+    → (scripts' : List Script) (serials : ℕ) (ticks : List (List ℕ)) → scripts' ≡ scripts → serials ≡ length scripts → ticks ≡ fixed_ticks set.txns releases → IsReady set scripts' serials ticks
+ready set scripts releases ok d scripts' serials ticks e f g =
     let s = d.scenario in
-    let all = ticks_same set scripts releases room d ticks g in
+    let all = ticks_same set scripts releases d ticks g in
     let compiled : IsCompiled (set_of s) = subst IsCompiled d.set_is ok in
     let many : length scripts ≡ length set.txns = sym (length-map scripts program_of) ∙ (ap (λ (ps : List Program). length ps) d.programs_are ∙ (d.is.scripted ∙ sym (ap (λ (q : Set). length q.txns) d.set_is))) in
     let functions : map next_of s.programs ≡ functions_of scripts' = ap (map next_of) (sym d.programs_are) ∙ sym (ap functions_of e) in
@@ -48,33 +45,44 @@ ready set scripts releases room ok d scripts' serials ticks e f g =
       serials_each = f ∙ many;
       accepted = subst (λ (q : Set). AreAccepted q ticks) (sym d.set_is) (subst (AreAccepted (set_of s)) (sym all) (accepted s d.is));
       obedient = moved IsObedient (set_of s) set (map next_of s.programs) (functions_of scripts') (fixed_ticks s.txns s.releases) ticks (sym d.set_is) functions (sym all) (obeys s d.is compiled);
-      enough = subst (λ (n : ℕ). room_of_jobs set.txns (λ tx. length (ticks_of ticks tx)) ≤ n) (sym d.room_is)
-          (subst (λ (t : List (List ℕ)). room_of_jobs set.txns (λ tx. length (ticks_of t tx)) ≤ s.room) (sym all)
-          (subst (λ (q : Set). room_of_jobs q.txns (λ tx. length (ticks_of (fixed_ticks s.txns s.releases) tx)) ≤ s.room) (sym d.set_is) (room_enough s d.is)));
     }
 
--- a board of an equal set and room is as ready
-pub ready_on : (set set' : Set) (room room' : ℕ) (scripts : List Script) (serials : ℕ) (ticks : List (List ℕ)) → set ≡ set' → room ≡ room' → IsReady set room scripts serials ticks → IsReady set' room' scripts serials ticks
-ready_on set set' room room' scripts serials ticks e f h =
-    subst (λ (n : ℕ). IsReady set' n scripts serials ticks) f (subst (λ (q : Set). IsReady q room scripts serials ticks) e h)
+-- a board of an equal set is as ready
+pub ready_on : (set set' : Set) (scripts : List Script) (serials : ℕ) (ticks : List (List ℕ)) → set ≡ set' → IsReady set scripts serials ticks → IsReady set' scripts serials ticks
+ready_on set set' scripts serials ticks e h = subst (λ (q : Set). IsReady q scripts serials ticks) e h
 
--- the items of a run
-pub left_by : (set set' : Set) (scripts scripts' : List Script) (ticks : List (List ℕ)) (history : List Entry) (items : List Stored) → set' ≡ set → scripts' ≡ scripts
-    → IsSim (workload set (map (λ s. next_of (program_of s)) scripts') ticks) history → items ≡ (state_of set' history).items → IsLeftBy (workload set (functions_of scripts) ticks) items
-left_by set set' scripts scripts' ticks history items e f sim same = record {
-  history = history;
-  sim = subst (λ (l : List Body). IsSim (workload set l ticks) history) (functions_same scripts' ∙ ap functions_of f) sim;
-  items_are = same ∙ ap (λ (s : Set). (state_of s history).items) e;
-}
-
-pub text_on : (names : Names) (set set' : Set) (bodies : List Body) (ticks : List (List ℕ)) (text : List ℕ) → set ≡ set' → IsTextBy names (workload set bodies ticks) text → IsTextBy names (workload set' bodies ticks) text
-text_on names set set' bodies ticks text e h = subst (λ (s : Set). IsTextBy names (workload s bodies ticks) text) e h
+pub text_on : (names : Names) (admitted : Bool) (set set' : Set) (bodies : List Body) (ticks : List (List ℕ)) (text : List ℕ) → set ≡ set' → IsTextBy names admitted (workload set bodies ticks) text → IsTextBy names admitted (workload set' bodies ticks) text
+text_on names admitted set set' bodies ticks text e h = subst (λ (s : Set). IsTextBy names admitted (workload s bodies ticks) text) e h
 
 -- the text of what a scenario declares is that of its workload
-pub text_of : (names : Names) (set : Set) (scripts : List Script) (releases : List Releases) (room : ℕ) (d : Declares set scripts releases room)
+pub text_of : (names : Names) (admitted : Bool) (set : Set) (scripts : List Script) (releases : List Releases) (d : Declares set scripts releases)
     → (scripts' : List Script) (ticks : List (List ℕ)) (text : List ℕ) → scripts' ≡ scripts → ticks ≡ fixed_ticks set.txns releases
-    → IsTextBy names (workload set (functions_of scripts') ticks) text → IsTextBy names (workload_of d.scenario) text
-text_of names set scripts releases room d scripts' ticks text e g h =
+    → IsTextBy names admitted (workload set (functions_of scripts') ticks) text → IsTextBy names admitted (workload_of d.scenario) text
+text_of names admitted set scripts releases d scripts' ticks text e g h =
     let s = d.scenario in
-    moved (λ w. IsTextBy names w text) set (set_of s) (functions_of scripts') (map next_of s.programs) ticks (fixed_ticks s.txns s.releases) d.set_is
-    (ap functions_of e ∙ ap (map next_of) d.programs_are) (ticks_same set scripts releases room d ticks g) h
+    moved (λ w. IsTextBy names admitted w text) set (set_of s) (functions_of scripts') (map next_of s.programs) ticks (fixed_ticks s.txns s.releases) d.set_is
+    (ap functions_of e ∙ ap (map next_of) d.programs_are) (ticks_same set scripts releases d ticks g) h
+
+-- what was written of the one is what was written of the other
+pub wrote_of : (P Q : List ℕ → Type 0) (taken taken' : Option (List ℕ)) → ((text : List ℕ) → P text → Q text) → Wrote P taken taken' → Wrote Q taken taken'
+wrote_of P Q taken taken' f h = record { text = h.text; is = f h.text h.is; written = h.written }
+
+pub front_of : (P Q : List ℕ → Type 0) (taken taken' : Option (List ℕ)) → ((text : List ℕ) → P text → Q text) → WroteFront P taken taken' → WroteFront Q taken taken'
+front_of P Q taken taken' f h = record { front = h.front; left = h.left; is = f (h.front ++ h.left) h.is; written = h.written }
+
+pub kept_or_front : (P Q : List ℕ → Type 0) (taken taken' : Option (List ℕ)) → ((text : List ℕ) → P text → Q text)
+    → Keeps taken taken' ⊎ WroteFront P taken taken' → Keeps taken taken' ⊎ WroteFront Q taken taken'
+kept_or_front P Q taken taken' f (inl h) = inl h
+kept_or_front P Q taken taken' f (inr h) = inr (front_of P Q taken taken' f h)
+
+-- what an answer leaves, and what an error does
+pub on_ok : {A E : Type 0} (r : Result A E) (P Q : Type 0) → (P → Q) → OnOk r P → OnOk r Q
+on_ok (Ok x) P Q f h = f h
+on_ok (Err e) P Q f h = tt
+
+pub on_err : {A E : Type 0} (r : Result A E) (e : E) (P : Type 0) → r ≡ Err e → OnErr r P → P
+on_err r e P is h = subst (λ (q : Result _ _). OnErr q P) is h
+
+-- an error says the same, whatever the answer else would be
+pub same_error : {A B E : Type 0} (e e' : E) → IsErrOf {T = A} {E = E} (Err e) e' → IsErrOf {T = B} {E = E} (Err e) e'
+same_error e e' is = let same : e ≡ e' = cc in ap (λ (x : _). Err x) same

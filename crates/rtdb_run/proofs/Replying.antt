@@ -11,7 +11,8 @@ use Rattle.workload_laws.specs.Runs.{workload_of}
 use Rattle.run_report.specs.Bounds.{admitted_of}
 use Rattle.rtdb_run.specs.declared.status.Status.{Status}
 use Rattle.rtdb_run.specs.declared.status.Status.TheVariants as statuses
-use Rattle.rtdb_run.specs.Runs.{has_eager, IsTextBy}
+use Rattle.rtdb_run.specs.Runs.{has_eager}
+use Rattle.written_run.specs.Written.{IsTextBy}
 use Rattle.rtdb_run.specs.Replies.{Written, Compiling, Admitting, Running, AdmitReply, RunReply}
 use Rattle.rtdb_run.proofs.Guarantees.{run_text}
 use Rattle.rtdb_run.proofs.Compiles.{is_compiled}
@@ -23,13 +24,13 @@ running : (trial : Bool) (s : Shown) (status : Status) (text : List ℕ) → has
 running trial s status text calm h = subst (λ (b : Bool). Running trial s b status text) (sym calm) h
 
 pub trial_reply : (s : Shown) (status : Status) (text : List ℕ) → IsScenario s → compile_refusal (set_of s) ≡ None → has_eager s ≡ false → status ≡ statuses.Ok
-    → IsTextBy s.names (workload_of s) text → RunReply true s status text
+    → IsTextBy s.names false (workload_of s) text → RunReply true s status text
 trial_reply s status text is none calm ok t =
     subst (λ (o : Option CompileError). Compiling (Running true s (has_eager s)) s.names o status text) (sym none)
     (running true s status text calm (ok, run_text true s text (is_compiled s is none) tt t))
 
 pub admitted_reply : (s : Shown) (status : Status) (text : List ℕ) → IsScenario s → compile_refusal (set_of s) ≡ None → refusal (set_of s) ≡ None → has_eager s ≡ false
-    → status ≡ statuses.Ok → IsTextBy s.names (workload_of s) text → RunReply false s status text
+    → status ≡ statuses.Ok → IsTextBy s.names true (workload_of s) text → RunReply false s status text
 admitted_reply s status text is none admits calm ok t =
     subst (λ (o : Option CompileError). Compiling (Admitting (Running false s (has_eager s)) s.names (refusal (set_of s))) s.names o status text) (sym none)
     (subst (λ (o : Option AdmitError). Admitting (Running false s (has_eager s)) s.names o status text) (sym admits)

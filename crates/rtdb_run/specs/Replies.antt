@@ -19,17 +19,23 @@ use Rattle.report_lines.specs.Texts.{ceilings_of}
 use Rattle.run_report.specs.Bounds.{admitted_of}
 use Rattle.refusal_lines.specs.Causes.{scenario_cause, compile_cause, admit_cause}
 use Rattle.rtdb_run.specs.declared.command.Command.{Command}
-use Rattle.rtdb_run.specs.declared.command.Command.TheVariants.{Ask, Gen}
+use Rattle.rtdb_run.specs.declared.command.Command.TheVariants.{Ask, Replay, Gen, Load}
 use Rattle.rtdb_run.specs.declared.command.Question.{Question}
 use Rattle.rtdb_run.specs.declared.command.Question.TheVariants.{Ceilings, Admit, Run}
 use Rattle.rtdb_run.specs.declared.status.Status.{Status}
 use Rattle.rtdb_run.specs.declared.status.Status.TheVariants as statuses
+use Rattle.report_verdict.specs.declared.verdict.Verdict.{Verdict}
+use Rattle.report_verdict.specs.Verdict.{IsVerdict, names_of}
 use Rattle.rtdb_run.specs.Texts.{refused_line, usage_text}
-use Rattle.rtdb_run.specs.Runs.{has_eager, IsRunText}
+use Rattle.rtdb_run.specs.Runs.{has_eager, IsRunText, IsLoadText}
+use Rattle.rtdb_run.specs.Verdicts.{verdict_text, status_of}
 
--- the most bytes of a scenario
-abbrev pub limit : ℕ
-limit = 4194304
+-- the most bytes of a scenario, and of a report
+abbrev pub limit_of : Command → ℕ
+limit_of (Ask question) = 4194304
+limit_of Replay = 268435456
+limit_of (Gen n) = 0
+limit_of (Load n) = 0
 
 -- what a status and a text have to be
 abbrev pub Reply : Type 1
@@ -82,6 +88,10 @@ RunReply true s = Compiling (Running true s (has_eager s)) s.names (compile_refu
 RunReply false s =
     Compiling (Admitting (Running false s (has_eager s)) s.names (refusal (set_of s))) s.names (compile_refusal (set_of s))
 
+-- the text of a run
+abbrev pub RunText : Bool → Shown → List ℕ → Type 0
+RunText trial s text = RunReply trial s statuses.Ok text
+
 -- the names of the transactions that were read
 abbrev pub names_of_forms : Result Formed FormError → Names
 names_of_forms (Ok f) = record { items = f.items.names; txns = f.txns.names }
@@ -100,9 +110,9 @@ abbrev pub DataReply : (Shown → Reply) → Option Data → Reply
 DataReply goes d = Reading goes (names_in d) (scenario_in d)
 
 -- an input above the limit is refused unread
-abbrev pub InputReply : (Shown → Reply) → Bool → List ℕ → Reply
-InputReply goes true input status text = (status ≡ statuses.TooLong) × (text ≡ refused_line (codes "TooLong"))
-InputReply goes false input status text = DataReply goes (data_of input) status text
+abbrev pub InputReply : Reply → Bool → Reply
+InputReply goes true status text = (status ≡ statuses.TooLong) × (text ≡ refused_line (codes "TooLong"))
+InputReply goes false status text = goes status text
 
 -- the answer to a question on a scenario
 abbrev pub ScenarioReply : Question → Shown → Reply
@@ -114,9 +124,18 @@ ScenarioReply (Run trial) s = RunReply trial s
 abbrev pub generated_text : ℕ → List ℕ
 generated_text n = compact_text (canonical (generated_of n)) ++ codes "\n"
 
+-- the verdict on a report, and its line
+abbrev pub VerdictReply : List ℕ → Reply
+VerdictReply input status text = (verdict : Verdict) × (IsVerdict input verdict) × (status ≡ status_of verdict) × (text ≡ verdict_text (names_of input) verdict)
+
+abbrev pub LoadReply : ℕ → Reply
+LoadReply n status text = (status ≡ statuses.Ok) × IsLoadText n text
+
 abbrev pub CommandReply : Command → List ℕ → Reply
-CommandReply (Ask question) input = InputReply (ScenarioReply question) (nat_lt limit (length input)) input
+CommandReply (Ask question) input = InputReply (DataReply (ScenarioReply question) (data_of input)) (nat_lt (limit_of (Ask question)) (length input))
+CommandReply Replay input = InputReply (VerdictReply input) (nat_lt (limit_of Replay) (length input))
 CommandReply (Gen n) input = Written (generated_text n)
+CommandReply (Load n) input = LoadReply n
 
 abbrev pub Replies : Option Command → List ℕ → Reply
 Replies None input status text = (status ≡ statuses.Usage) × (text ≡ usage_text)

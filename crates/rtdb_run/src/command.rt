@@ -55,8 +55,12 @@ pub(crate) enum Question {
 pub(crate) enum Command {
     /// An answer to a question on the scenario that is read.
     Ask(Question),
+    /// The verdict on the report that is read.
+    Replay,
     /// The text of the scenario that is generated of so many transactions.
     Gen { n: u32 },
+    /// The summary of its run.
+    Load { n: u32 },
 }
 
 // A number from 1 to 64.
@@ -82,6 +86,8 @@ fn one_word(word: &[u8]) -> Option<Command>
         Some(Command::Ask(Question::Admit))
     } else if word == b"run".as_slice() {
         Some(Command::Ask(Question::Run { trial: false }))
+    } else if word == b"replay".as_slice() {
+        Some(Command::Replay)
     } else {
         None
     }
@@ -95,6 +101,8 @@ fn two_words(first: &[u8], second: &[u8]) -> Option<Command>
         Some(Command::Ask(Question::Run { trial: true }))
     } else if first == b"gen".as_slice() {
         Some(Command::Gen { n: number(second)? })
+    } else if first == b"load".as_slice() {
+        Some(Command::Load { n: number(second)? })
     } else {
         None
     }
@@ -112,13 +120,13 @@ pub(crate) fn read_command(words: &[Word]) -> Option<Command>
     }
 }
 
-/// The same of every command but run.
+/// The same of every command but run and load.
 pub(crate) fn read_plain_command(words: &[Word]) -> Option<Command>
     ensures command { result ≡ plain_command_of words.now }
     ensures in_range { IsInRange result }
 {
     match read_command(words)? {
-        Command::Ask(Question::Run { .. }) => None,
+        Command::Ask(Question::Run { .. }) | Command::Load { .. } => None,
         command => Some(command),
     }
 }

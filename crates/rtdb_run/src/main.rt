@@ -2,15 +2,17 @@
 #![tactic(auto)]
 
 mod command;
+mod load;
 mod reply;
 mod run;
 mod sets;
 mod status;
+mod stop;
 #[cfg(test)]
 mod tests;
-mod text;
 mod ticks;
 mod top;
+mod verdict;
 
 pub use command::Word;
 use io_edge::{StdSink, StdSource};

@@ -1,5 +1,5 @@
 //! The text that a status writes, and refusals.
-ghost use Rattle.std.specs.Prelude.{◌≡◌, IfOk};
+ghost use Rattle.std.specs.Prelude.{◌≡◌, [], IfOk};
 ghost use Rattle.scenario_reader.specs.Refusals.{Fails};
 ghost use Rattle.txn_compiler.specs.Refusal.{Refuses as Uncompiled};
 ghost use Rattle.set_admission.specs.Admission.{Refuses as Unadmitted};
@@ -9,7 +9,7 @@ ghost use Rattle.rtdb_run.specs.Texts.{refused_line};
 
 use crate::status::Status;
 use refusal_lines::{put_admit_cause, put_compile_cause, put_scenario_cause};
-use rt_base::{Names, OutOfMemory};
+use rt_base::{List, Names, OutOfMemory};
 use scenario_reader::ScenarioError;
 use set_admission::AdmitError;
 use std::alloc::Global;
@@ -29,6 +29,16 @@ pub(crate) fn written(text: Vec<u8>) -> Reply
     Reply {
         status: Status::Ok,
         text,
+    }
+}
+
+/// No names, where none are declared.
+pub(crate) fn no_names(alloc: Global) -> Names
+    ensures { (result.items ≡ []) × (result.txns ≡ []) }
+{
+    Names {
+        items: List::of(Vec::new(alloc)),
+        txns: List::of(Vec::new(alloc)),
     }
 }
 

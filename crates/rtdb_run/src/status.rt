@@ -13,8 +13,10 @@ pub enum Status {
     ReadFault,
     /// The sink failed in this call. A prefix of the text was written.
     WriteFault,
-    /// A growth was refused. Nothing was written.
+    /// A growth was refused. A prefix of the command's text was written, or nothing.
     OutOfMemory,
     /// The source gave more bytes than the limit, and the refusal's line was written.
     TooLong,
+    /// The report is not legal, and the verdict's line was written.
+    NotLegal,
 }

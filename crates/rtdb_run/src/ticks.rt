@@ -1,6 +1,6 @@
 //! The fixed releases of a scenario.
-ghost use Rattle.std.specs.Prelude.{◌≡◌, ◌≤◌, ◌^◌, length, IfOk};
-ghost use Rattle.std.specs.List.{All, list_any};
+ghost use Rattle.std.specs.Prelude.{◌≡◌, ◌≤◌, ◌^◌, length, map, IfOk};
+ghost use Rattle.std.specs.List.{All, list_any, sum};
 ghost use Rattle.scenario.specs.Releases.{jobs_of, ticks_of, total_jobs, fixed_ticks, is_eager as is_eager_one};
 ghost use Rattle.scenario.specs.Scenarios.{HasTextTimes};
 
@@ -58,4 +58,16 @@ pub(crate) fn all_fixed(
         ticks.push(fixed(alloc, &txns[i], &releases[i])?)?;
     }
     Ok(ticks)
+}
+
+/// How many ticks there are in all.
+pub(crate) fn count(ticks: &[List<Tick>]) -> usize
+    requires { sum (map length ticks.now) ≤ 65536 }
+    ensures { result ≡ sum (map length ticks.now) }
+{
+    let mut count = 0;
+    for list in ticks {
+        count += list.as_slice().len();
+    }
+    count
 }

@@ -1,55 +1,35 @@
 //! The top call.
-ghost use Rattle.std.specs.Prelude.{◌≡◌, ◌⊎◌, ◌≤◌, length, [], Some, Ok, IfOk, IsErrOf};
+ghost use Rattle.std.specs.Prelude.{◌≡◌, ◌⊎◌, ◌≤◌, length, [], Some, None, Ok, IfOk, IfSome, IsErrOf};
 ghost use Rattle.io_edge.specs.Causes.{Rose};
 ghost use Rattle.scenario.specs.Shown.{shown};
 ghost use Rattle.scenario.specs.Scenarios.{IsScenario};
 ghost use Rattle.scenario_forms.specs.Root.{forms_view};
 ghost use Rattle.scenario_reader.specs.Reading.{data_of};
-ghost use Rattle.rtdb_run.specs.declared.top.Stop.TheVariants.{Memory};
+ghost use Rattle.written_run.specs.Written.{Wrote, WroteFront};
 ghost use Rattle.rtdb_run.specs.Commands.{command_of, plain_command_of, IsInRange};
 ghost use Rattle.rtdb_run.specs.Replies.{names_in, names_of_forms, ScenarioReply, DataReply, generated_text};
-ghost use Rattle.rtdb_run.specs.Answers.{Judged, Answers, IsGood};
+ghost use Rattle.rtdb_run.specs.Answers.{Judged, Told, CutShort, RanOut, WroteShort, Answers, IsGood};
 
 use crate::command::{Command, Question, Word, read_command, read_plain_command};
-use crate::reply::{Reply, refused, refused_scenario, written};
-use crate::run::run_reply;
+use crate::load::load;
+use crate::reply::{Reply, no_names, refused, refused_scenario, written};
+use crate::run::run_scenario;
 use crate::sets::{bounds, ceilings};
 use crate::status::Status;
+use crate::stop::Stop;
+use crate::verdict::{REPORT_LIMIT, replayed};
 use io_edge::{ReadError, Sink, Source, read_all, write_all};
 use rt_base::{List, Names, OutOfMemory};
 use scenario::Scenario;
 use scenario_forms::{FormError, Forms, ItemTable, TextError, TxnTable, read_forms, read_value};
 use scenario_reader::{ScenarioError, read_scenario};
 use scenario_writer::{generated, write_scenario};
-use std::alloc::{AllocError, Global};
+use std::alloc::Global;
 
 // The most bytes of a scenario.
-const LIMIT: usize = 4_194_304;
+const SCENARIO_LIMIT: usize = 4_194_304;
 
-const USAGE: &[u8] = b"usage: rtdb ceilings | admit | run [--trial] | gen N\n";
-
-/// Why there is no text.
-#[derive(Clone, Copy)]
-enum Stop {
-    Fault,
-    Memory,
-}
-
-impl From<AllocError> for Stop {
-    ghost from_gives = { λ _ e. e ≡ Memory };
-
-    fn from(_e: AllocError) -> Stop {
-        Stop::Memory
-    }
-}
-
-impl From<OutOfMemory> for Stop {
-    ghost from_gives = { λ _ e. e ≡ Memory };
-
-    fn from(_e: OutOfMemory) -> Stop {
-        Stop::Memory
-    }
-}
+const USAGE: &[u8] = b"usage: rtdb ceilings | admit | run [--trial] | replay | gen N | load N\n";
 
 // The names that a text's forms declare, for the line of a refusal.
 fn names(alloc: Global, input: &[u8]) -> Result<Names, OutOfMemory>
@@ -92,56 +72,86 @@ fn names_of(forms: Forms) -> Names
     }
 }
 
-fn no_names(alloc: Global) -> Names
-    ensures { (result.items ≡ []) × (result.txns ≡ []) }
-{
-    Names {
-        items: List::of(Vec::new(alloc)),
-        txns: List::of(Vec::new(alloc)),
-    }
-}
-
-// The answer to a question on a scenario.
-fn scenario_reply(
+// The answer to a question on a scenario: a reply that is to be written, or None after all of it was written.
+fn scenario_reply<K: Sink>(
     alloc: Global,
     question: Question,
     scenario: Scenario,
-) -> Result<Reply, OutOfMemory>
+    sink: &mut K,
+) -> Result<Option<Reply>, Stop>
     requires { IsScenario (shown scenario) }
-    ensures { IfOk result (λ r. ScenarioReply question (shown scenario) r.status r.text.items) }
+    ensures said { IfOk result (λ o. IfSome o (λ r. ScenarioReply question (shown scenario) r.status r.text.items × (sink.new ≡ sink.old))) }
+    ensures whole { IfOk result (λ o. o ≡ None → Wrote (ScenarioReply question (shown scenario) Status.Ok) (K.taken sink.old) (K.taken sink.new)) }
+    ensures cut { IsErrOf result Stop.Writing → WroteFront (ScenarioReply question (shown scenario) Status.Ok) (K.taken sink.old) (K.taken sink.new) }
+    ensures short { IsErrOf result Stop.Memory → WroteShort question (ScenarioReply question (shown scenario) Status.Ok) (K.taken sink.old) (K.taken sink.new) }
+    ensures fault { IsErrOf result Stop.Writing → Rose (K.faults sink.old) (K.faults sink.new) }
+    ensures reading { IsErrOf result Stop.Reading → ⊥ }
 {
     match question {
-        Question::Ceilings => ceilings(alloc, scenario),
-        Question::Admit => bounds(alloc, scenario),
-        Question::Run { trial } => run_reply(alloc, trial, scenario),
+        Question::Ceilings => Ok(Some(ceilings(alloc, scenario)?)),
+        Question::Admit => Ok(Some(bounds(alloc, scenario)?)),
+        Question::Run { trial } => run_scenario(alloc, trial, scenario, sink),
     }
 }
 
-// The answer to a question on the bytes of a scenario.
-fn judge(alloc: Global, question: Question, input: &[u8]) -> Result<Reply, OutOfMemory>
-    requires { length input.now ≤ LIMIT }
-    ensures { IfOk result (λ r. DataReply (ScenarioReply question) (data_of input.now) r.status r.text.items) }
+// The answer to a question on the bytes of a scenario, in the same way.
+fn judge<K: Sink>(
+    alloc: Global,
+    question: Question,
+    input: &[u8],
+    sink: &mut K,
+) -> Result<Option<Reply>, Stop>
+    requires { length input.now ≤ SCENARIO_LIMIT }
+    ensures said { IfOk result (λ o. IfSome o (λ r. DataReply (ScenarioReply question) (data_of input.now) r.status r.text.items × (sink.new ≡ sink.old))) }
+    ensures whole { IfOk result (λ o. o ≡ None → Wrote (DataReply (ScenarioReply question) (data_of input.now) Status.Ok) (K.taken sink.old) (K.taken sink.new)) }
+    ensures cut { IsErrOf result Stop.Writing → WroteFront (DataReply (ScenarioReply question) (data_of input.now) Status.Ok) (K.taken sink.old) (K.taken sink.new) }
+    ensures short { IsErrOf result Stop.Memory → WroteShort question (DataReply (ScenarioReply question) (data_of input.now) Status.Ok) (K.taken sink.old) (K.taken sink.new) }
+    ensures fault { IsErrOf result Stop.Writing → Rose (K.faults sink.old) (K.faults sink.new) }
+    ensures reading { IsErrOf result Stop.Reading → ⊥ }
 {
     match read_scenario(alloc, input) {
-        Ok(scenario) => scenario_reply(alloc, question, scenario),
-        Err(ScenarioError::OutOfMemory) => Err(OutOfMemory),
+        Ok(scenario) => scenario_reply(alloc, question, scenario, sink),
+        Err(ScenarioError::OutOfMemory) => Err(Stop::Memory),
         Err(error) => {
             let names = names(alloc, input)?;
-            refused_scenario(alloc, &names, error)
+            Ok(Some(refused_scenario(alloc, &names, error)?))
         }
     }
 }
 
-// The answer to a question on the scenario that is read.
-fn ask<S: Source>(alloc: Global, question: Question, source: &mut S) -> Result<Reply, Stop>
-    ensures ok { IfOk result (λ r. Judged (Some (Command.Ask question)) (S.left source.old) (S.left source.new) r.status r.text.items) }
-    ensures fault { IsErrOf result Stop.Fault → Rose (S.faults source.old) (S.faults source.new) }
-    ensures later { S.faults source.old ≤ S.faults source.new }
+// The answer to a question on the scenario that is read, in the same way.
+fn ask<S: Source, K: Sink>(
+    alloc: Global,
+    question: Question,
+    source: &mut S,
+    sink: &mut K,
+) -> Result<Option<Reply>, Stop>
+    ensures said { IfOk result (λ o. IfSome o (λ r. Judged (Some (Command.Ask question)) (S.left source.old) (S.left source.new) r.status r.text.items × (sink.new ≡ sink.old))) }
+    ensures whole { IfOk result (λ o. o ≡ None → Told (Some (Command.Ask question)) (S.left source.old) (S.left source.new) (K.taken sink.old) (K.taken sink.new) Status.Ok) }
+    ensures cut { IsErrOf result Stop.Writing → CutShort (Some (Command.Ask question)) (S.left source.old) (S.left source.new) (K.taken sink.old) (K.taken sink.new) }
+    ensures short { IsErrOf result Stop.Memory → RanOut (Some (Command.Ask question)) (S.left source.old) (S.left source.new) (K.taken sink.old) (K.taken sink.new) }
+    ensures unread { IsErrOf result Stop.Reading → sink.new ≡ sink.old }
+    ensures read { IsErrOf result Stop.Reading → Rose (S.faults source.old) (S.faults source.new) }
+    ensures fault { IsErrOf result Stop.Writing → Rose (K.faults sink.old) (K.faults sink.new) }
 {
-    match read_all(alloc, source, LIMIT) {
-        Ok(input) => Ok(judge(alloc, question, &input)?),
+    match read_all(alloc, source, SCENARIO_LIMIT) {
+        Ok(input) => judge(alloc, question, &input, sink),
+        Err(ReadError::TooLong) => Ok(Some(refused(alloc, Status::TooLong, b"TooLong")?)),
+        Err(ReadError::ReadFault) => Err(Stop::Reading),
+        Err(ReadError::OutOfMemory) => Err(Stop::Memory),
+    }
+}
+
+// The verdict on the report that is read.
+fn replay<S: Source>(alloc: Global, source: &mut S) -> Result<Reply, Stop>
+    ensures ok { IfOk result (λ r. Judged (Some Command.Replay) (S.left source.old) (S.left source.new) r.status r.text.items) }
+    ensures read { IsErrOf result Stop.Reading → Rose (S.faults source.old) (S.faults source.new) }
+    ensures writing { IsErrOf result Stop.Writing → ⊥ }
+{
+    match read_all(alloc, source, REPORT_LIMIT) {
+        Ok(input) => Ok(replayed(alloc, &input)?),
         Err(ReadError::TooLong) => Ok(refused(alloc, Status::TooLong, b"TooLong")?),
-        Err(ReadError::ReadFault) => Err(Stop::Fault),
+        Err(ReadError::ReadFault) => Err(Stop::Reading),
         Err(ReadError::OutOfMemory) => Err(Stop::Memory),
     }
 }
@@ -157,20 +167,31 @@ fn generate(alloc: Global, n: u32) -> Result<Reply, OutOfMemory>
     Ok(written(text))
 }
 
-// The reply to a command.
-fn answer<S: Source>(alloc: Global, command: Option<Command>, source: &mut S) -> Result<Reply, Stop>
+// The answer to a command: a reply that is to be written, or None after all of it was written.
+fn answer<S: Source, K: Sink>(
+    alloc: Global,
+    command: Option<Command>,
+    source: &mut S,
+    sink: &mut K,
+) -> Result<Option<Reply>, Stop>
     requires { IsInRange command }
-    ensures ok { IfOk result (λ r. Judged command (S.left source.old) (S.left source.new) r.status r.text.items) }
-    ensures fault { IsErrOf result Stop.Fault → Rose (S.faults source.old) (S.faults source.new) }
-    ensures later { S.faults source.old ≤ S.faults source.new }
+    ensures said { IfOk result (λ o. IfSome o (λ r. Judged command (S.left source.old) (S.left source.new) r.status r.text.items × (sink.new ≡ sink.old))) }
+    ensures whole { IfOk result (λ o. o ≡ None → Told command (S.left source.old) (S.left source.new) (K.taken sink.old) (K.taken sink.new) Status.Ok) }
+    ensures cut { IsErrOf result Stop.Writing → CutShort command (S.left source.old) (S.left source.new) (K.taken sink.old) (K.taken sink.new) }
+    ensures short { IsErrOf result Stop.Memory → RanOut command (S.left source.old) (S.left source.new) (K.taken sink.old) (K.taken sink.new) }
+    ensures unread { IsErrOf result Stop.Reading → sink.new ≡ sink.old }
+    ensures read { IsErrOf result Stop.Reading → Rose (S.faults source.old) (S.faults source.new) }
+    ensures fault { IsErrOf result Stop.Writing → Rose (K.faults sink.old) (K.faults sink.new) }
 {
     match command {
-        None => Ok(Reply {
+        None => Ok(Some(Reply {
             status: Status::Usage,
             text: Vec::from_slice(alloc, USAGE)?,
-        }),
-        Some(Command::Ask(question)) => ask(alloc, question, source),
-        Some(Command::Gen { n }) => Ok(generate(alloc, n)?),
+        })),
+        Some(Command::Ask(question)) => ask(alloc, question, source, sink),
+        Some(Command::Replay) => Ok(Some(replay(alloc, source)?)),
+        Some(Command::Gen { n }) => Ok(Some(generate(alloc, n)?)),
+        Some(Command::Load { n }) => Ok(Some(load(alloc, n)?)),
     }
 }
 
@@ -185,17 +206,19 @@ fn run<S: Source, K: Sink>(
     ensures read { result ≡ Status.ReadFault → Rose (S.faults source.old) (S.faults source.new) }
     ensures write { result ≡ Status.WriteFault → Rose (K.faults sink.old) (K.faults sink.new) }
 {
-    match answer(alloc, command, source) {
-        Ok(reply) => match write_all(sink, &reply.text) {
+    match answer(alloc, command, source, sink) {
+        Ok(None) => Status::Ok,
+        Ok(Some(reply)) => match write_all(sink, &reply.text) {
             Ok(()) => reply.status,
             Err(_) => Status::WriteFault,
         },
-        Err(Stop::Fault) => Status::ReadFault,
+        Err(Stop::Reading) => Status::ReadFault,
+        Err(Stop::Writing) => Status::WriteFault,
         Err(Stop::Memory) => Status::OutOfMemory,
     }
 }
 
-/// Does what the words say, from the source to the sink, but for `run`, which is Usage here. It always returns. The
+/// Does what the words say, from the source to the sink, but for `run` and `load`, which are Usage here. It always returns. The
 /// words are looked at first, then the source is read, then its bytes are judged, then the text is written, as one
 /// piece.
 pub fn rtdb_plain<S: Source, K: Sink>(
@@ -218,7 +241,8 @@ pub fn rtdb_plain<S: Source, K: Sink>(
 }
 
 /// Does what the words say, from the source to the sink, and always returns. The words are looked at first, then the
-/// source is read, then its bytes are judged, then the scenario is run, then the text is written, as one piece.
+/// source is read, then its bytes are judged, then the scenario is run. The text is written as one piece, but for the report
+/// of a run: its declarations are written as one piece before the first plan, and later lines as they come.
 pub fn rtdb<S: Source, K: Sink>(
     alloc: Global,
     words: &[Word],
@@ -236,18 +260,11 @@ pub fn rtdb<S: Source, K: Sink>(
         → (result ≡ Status.Ok) ⊎ (result ≡ Status.OutOfMemory) }
 {
     match read_command(words) {
-        Some(Command::Ask(Question::Run { trial: true })) => run(
-            alloc,
-            Some(Command::Ask(Question::Run { trial: true })),
-            source,
-            sink,
-        ),
-        Some(Command::Ask(Question::Run { trial: false })) => run(
-            alloc,
-            Some(Command::Ask(Question::Run { trial: false })),
-            source,
-            sink,
-        ),
+        Some(Command::Ask(Question::Run { trial })) => {
+            let command = Some(Command::Ask(Question::Run { trial }));
+            run(alloc, command, source, sink)
+        }
+        Some(Command::Load { n }) => run(alloc, Some(Command::Load { n }), source, sink),
         _ => rtdb_plain(alloc, words, source, sink),
     }
 }
