@@ -1,12 +1,13 @@
--- For the tests: the set without transactions meets the rules.
-use Rattle.std.proofs.Common.{◌≡◌, ℕ, zero, suc, List, [], sym, ap, ◌∙◌, subst, arith}
+-- For the tests: the set without transactions meets the rules, and two transactions that are not eager.
+use Rattle.std.proofs.Common.{◌≡◌, ℕ, zero, suc, List, [], ◌∷◌, refl, sym, subst, arith}
 use Rattle.std.specs.Prelude.{IsTrue}
 use Rattle.rt_base.specs.declared.ids.TogetherDecl.{TogetherDecl}
 use Rattle.item_model.specs.Kinds.{is_dated, is_derived}
 use Rattle.item_model.specs.declared.decl.ItemDecl.{ItemDecl}
 use Rattle.txn_set.specs.declared.decl.TxnDecl.{TxnDecl}
-use Rattle.txn_set.specs.Set.{Set, IsCompiled}
+use Rattle.txn_set.specs.Set.{IsCompiled}
 use Rattle.plant_run.specs.NoTxns.{set_of_none}
+use Rattle.plant_run.specs.Runs.{own_at}
 
 undated : (item : ℕ) → IsTrue (is_dated set_of_none.items item) → ⊥
 undated zero h = cc
@@ -35,3 +36,9 @@ compiled_none = record {
 pub of_none : (items : List ItemDecl) (txns : List TxnDecl) (together : List TogetherDecl) → items ≡ [] → txns ≡ [] → together ≡ []
     → IsCompiled (record { items = items; txns = txns; together = together })
 of_none items txns together a b c = subst IsCompiled (λ i. record { items = sym a i; txns = sym b i; together = sym c i }) compiled_none
+
+-- of two transactions neither plans jobs itself
+pub none_of_two : (tx : ℕ) → own_at (0 ∷ 0 ∷ []) tx ≡ 0
+none_of_two zero = refl
+none_of_two (suc zero) = refl
+none_of_two (suc (suc tx)) = refl

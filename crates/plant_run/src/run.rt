@@ -107,7 +107,6 @@ pub fn run_workers<
     ensures spare { (spare.new.items ≡ []) × (vec_capacity spare.new ≡ vec_capacity spare.old) }
 {
     stories_are::<B>();
-    board.set().is_compiled();
     let crew = Crew::reserve(alloc, bodies.len(), workers)?;
     let mut board = board;
     plan_all(&mut board, releases, spare, out)?;

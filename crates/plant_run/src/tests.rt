@@ -242,16 +242,7 @@ fn by_workers<R: Threads + Wait + Sync>(
     let mut spare = spare(alloc)?;
     let mut out = few(alloc, most)?;
     let ran = run_workers(
-        rt,
-        alloc,
-        board,
-        bodies,
-        releases,
-        own,
-        workers,
-        &mut spare,
-        &NoGate,
-        &mut out,
+        rt, alloc, board, bodies, releases, own, workers, &mut spare, &NoGate, &mut out,
     );
     match ran {
         Ok(_) => Ok((Ok(()), out.entries)),
