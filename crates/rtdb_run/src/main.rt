@@ -1,27 +1,19 @@
 //! The program: a real-time database for plant control, run from a scenario.
 #![tactic(auto)]
 
-mod command;
-mod load;
-mod reply;
-mod run;
-mod sets;
-mod status;
-mod stop;
 #[cfg(test)]
 mod tests;
-mod ticks;
 mod top;
-mod verdict;
 
-pub use command::Word;
+pub use command_replies::Status;
+pub use command_words::Word;
 use io_edge::{StdSink, StdSource};
-pub use status::Status;
 use std::alloc::Global;
 use std::env;
 use std::env::Env;
 use std::process::ExitCode;
 pub use top::{rtdb, rtdb_plain};
+use txn_threads::NoGate;
 
 // The words after the program's name. Where one is no text they are the empty word alone.
 fn words<R: Env + Alloc<A = Global>>(rt: &R) -> Option<Vec<Word>> {
@@ -42,5 +34,6 @@ fn main(rt: HostRuntime) -> ExitCode {
     };
     let mut source = StdSource::new(rt.stdin());
     let mut sink = StdSink::new(rt.stdout());
-    ExitCode::from(rtdb(rt.alloc(), &words, &mut source, &mut sink) as u8)
+    let status = rtdb(&rt, rt.alloc(), &words, &mut source, &mut sink, &NoGate);
+    ExitCode::from(status as u8)
 }

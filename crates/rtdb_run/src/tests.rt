@@ -7,18 +7,23 @@ mod sets;
 mod small;
 mod texts;
 mod verdicts;
+mod workers;
 
 use crate::{Status, Word, rtdb, rtdb_plain};
 use io_edge::{MemSink, MemSource};
 use scenarios::{BASE, BASE_REPORT};
 use std::alloc::Global;
+use std::sync::Wait;
 use std::test::Fail;
+use std::thread::Threads;
+use txn_threads::NoGate;
 
 const NONE: &str = "";
 
 const NO_WORDS: [&str; 0] = [];
 
-const USAGE: &str = "usage: rtdb ceilings | admit | run [--trial] | replay | gen N | load N\n";
+const USAGE: &str =
+    "usage: rtdb ceilings | admit | run [--trial] [--workers N] | replay | gen N | load N [--workers K]\n";
 
 fn words_of(alloc: Global, words: &[&str]) -> Result<Vec<Word>, Fail> {
     let mut list = Vec::new(alloc);
@@ -40,20 +45,30 @@ fn sink(alloc: Global, most: usize, failing: Vec<u64>) -> Result<MemSink, Fail> 
 }
 
 // The status and the text of words and an input, from a call that no fault meets.
-fn replied(alloc: Global, words: &[&str], input: &str) -> Result<(Status, Vec<u8>), Fail> {
+fn replied<R: Threads + Wait + Sync>(
+    rt: &R,
+    alloc: Global,
+    words: &[&str],
+    input: &str,
+) -> Result<(Status, Vec<u8>), Fail> {
     let words = words_of(alloc, words)?;
     let mut source = MemSource::new(input.as_bytes().to_vec(alloc)?, Vec::new(alloc));
     let mut sink = sink(alloc, 1000, Vec::new(alloc))?;
-    let status = rtdb(alloc, &words, &mut source, &mut sink);
+    let status = rtdb(rt, alloc, &words, &mut source, &mut sink, &NoGate);
     Ok((status, sink.bytes().to_vec(alloc)?))
 }
 
 // What a command says of bytes.
-fn said(alloc: Global, command: &str, input: Vec<u8>) -> Result<(Status, Vec<u8>), Fail> {
+fn said<R: Threads + Wait + Sync>(
+    rt: &R,
+    alloc: Global,
+    command: &str,
+    input: Vec<u8>,
+) -> Result<(Status, Vec<u8>), Fail> {
     let words = words_of(alloc, &[command])?;
     let mut source = MemSource::new(input, Vec::new(alloc));
     let mut sink = sink(alloc, 1000, Vec::new(alloc))?;
-    let status = rtdb(alloc, &words, &mut source, &mut sink);
+    let status = rtdb(rt, alloc, &words, &mut source, &mut sink, &NoGate);
     Ok((status, sink.bytes().to_vec(alloc)?))
 }
 
@@ -62,7 +77,7 @@ fn generated(rt: HostRuntime) -> Result<(), Fail> {
     let alloc = rt.alloc();
     let one =
         r#"{"items":[{"kind":"sensor","name":"s0","validity":64,"value":0},{"kind":"state","name":"m","value":0}],"transactions":[{"deadline":16,"jobs":256,"name":"t0","offset":0,"period":16,"priority":1,"reads":[],"samples":[],"script":[{"value":"serial","write":"s0"},{"compute":2},"commit"],"steps":4,"writes":["s0"]}],"version":1}"#;
-    let (status, said) = replied(alloc, ["gen", "1"].as_slice(), "")?;
+    let (status, said) = replied(&rt, alloc, ["gen", "1"].as_slice(), "")?;
     assert_eq!(rt; status, Status::Ok);
     assert_eq!(rt; &said[..said.len().saturating_sub(1)], one.as_bytes());
     assert_eq!(rt; said.last().copied(), Some(b'\n'));
@@ -88,7 +103,7 @@ fn loads(rt: HostRuntime) -> Result<(), Fail> {
         ),
     ];
     for (n, text) in rows {
-        let (status, said) = replied(alloc, ["load", n].as_slice(), BASE)?;
+        let (status, said) = replied(&rt, alloc, ["load", n].as_slice(), BASE)?;
         assert_eq!(rt; said.as_slice(), text.as_bytes(), "at {n}");
         assert_eq!(rt; status, Status::Ok);
     }
@@ -96,26 +111,33 @@ fn loads(rt: HostRuntime) -> Result<(), Fail> {
 }
 
 // Whether the words are refused by the usage line.
-fn is_usage(alloc: Global, words: &[&str]) -> Result<bool, Fail> {
-    let (status, said) = replied(alloc, words, BASE)?;
+fn is_usage<R: Threads + Wait + Sync>(rt: &R, alloc: Global, words: &[&str]) -> Result<bool, Fail> {
+    let (status, said) = replied(rt, alloc, words, BASE)?;
     Ok(status == Status::Usage && said.as_slice() == USAGE.as_bytes())
 }
 
 #[test]
 fn usage(rt: HostRuntime) -> Result<(), Fail> {
     let alloc = rt.alloc();
-    assert!(rt; is_usage(alloc, &NO_WORDS)?);
-    assert!(rt; is_usage(alloc, &[""])?);
-    assert!(rt; is_usage(alloc, &["gen"])?);
-    assert!(rt; is_usage(alloc, &["gen", "0"])?);
-    assert!(rt; is_usage(alloc, &["gen", "007"])?);
-    assert!(rt; is_usage(alloc, &["load", "65"])?);
-    assert!(rt; is_usage(alloc, &["load", "2", "2"])?);
-    assert!(rt; is_usage(alloc, &["run", "--"])?);
-    assert!(rt; is_usage(alloc, &["run", "--trial", "--trial"])?);
-    assert!(rt; is_usage(alloc, &["admit", "--trial"])?);
-    assert!(rt; is_usage(alloc, &["ceilings", ""])?);
-    assert!(rt; is_usage(alloc, &["replay", "--trial"])?);
+    assert!(rt; is_usage(&rt, alloc, &NO_WORDS)?);
+    assert!(rt; is_usage(&rt, alloc, &[""])?);
+    assert!(rt; is_usage(&rt, alloc, &["gen"])?);
+    assert!(rt; is_usage(&rt, alloc, &["gen", "0"])?);
+    assert!(rt; is_usage(&rt, alloc, &["gen", "007"])?);
+    assert!(rt; is_usage(&rt, alloc, &["load", "65"])?);
+    assert!(rt; is_usage(&rt, alloc, &["load", "2", "2"])?);
+    assert!(rt; is_usage(&rt, alloc, &["run", "--"])?);
+    assert!(rt; is_usage(&rt, alloc, &["run", "--workers"])?);
+    assert!(rt; is_usage(&rt, alloc, &["run", "--workers", "0"])?);
+    assert!(rt; is_usage(&rt, alloc, &["run", "--workers", "65"])?);
+    assert!(rt; is_usage(&rt, alloc, &["run", "--workers=1", "--workers=1"])?);
+    assert!(rt; is_usage(&rt, alloc, &["load", "--workers", "2"])?);
+    assert!(rt; is_usage(&rt, alloc, &["load", "1", "--workers", "04"])?);
+    assert!(rt; is_usage(&rt, alloc, &["gen", "1", "--workers", "2"])?);
+    assert!(rt; is_usage(&rt, alloc, &["run", "--trial", "--trial"])?);
+    assert!(rt; is_usage(&rt, alloc, &["admit", "--trial"])?);
+    assert!(rt; is_usage(&rt, alloc, &["ceilings", ""])?);
+    assert!(rt; is_usage(&rt, alloc, &["replay", "--trial"])?);
     Ok(())
 }
 
@@ -125,6 +147,12 @@ fn plain_commands(rt: HostRuntime) -> Result<(), Fail> {
     let rows = [
         (["run"].as_slice(), BASE, Status::Usage, USAGE),
         (["run", "--trial"].as_slice(), BASE, Status::Usage, USAGE),
+        (
+            ["run", "--workers", "4"].as_slice(),
+            BASE,
+            Status::Usage,
+            USAGE,
+        ),
         (["load", "1"].as_slice(), NONE, Status::Usage, USAGE),
         (
             ["ceilings"].as_slice(),

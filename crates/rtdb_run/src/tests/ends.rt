@@ -4,6 +4,7 @@ use super::{NONE, USAGE, replied, said, sink, words_of};
 use crate::{Status, rtdb};
 use io_edge::{MemSink, MemSource};
 use std::test::Fail;
+use txn_threads::NoGate;
 
 #[test]
 fn limit(rt: HostRuntime) -> Result<(), Fail> {
@@ -17,7 +18,10 @@ fn limit(rt: HostRuntime) -> Result<(), Fail> {
         let words = words_of(alloc, &["run"])?;
         let mut source = MemSource::new(vec![in alloc; b' '; blanks]?, Vec::new(alloc));
         let mut sink = sink(alloc, 100, Vec::new(alloc))?;
-        assert_eq!(rt; rtdb(alloc, &words, &mut source, &mut sink), status);
+        assert_eq!(rt;
+            rtdb(&rt, alloc, &words, &mut source, &mut sink, &NoGate),
+            status
+        );
         assert_eq!(rt; sink.bytes(), text.as_bytes());
     }
     Ok(())
@@ -46,7 +50,10 @@ fn faults(rt: HostRuntime) -> Result<(), Fail> {
         let words = words_of(alloc, words)?;
         let mut source = MemSource::new(input.as_bytes().to_vec(alloc)?, vec![in alloc; read]?);
         let mut sink = sink(alloc, 10, vec![in alloc; write]?)?;
-        assert_eq!(rt; rtdb(alloc, &words, &mut source, &mut sink), status);
+        assert_eq!(rt;
+            rtdb(&rt, alloc, &words, &mut source, &mut sink, &NoGate),
+            status
+        );
         assert_eq!(rt; sink.bytes(), text.as_bytes());
     }
     Ok(())
@@ -61,7 +68,7 @@ fn each_write_fails(rt: HostRuntime) -> Result<(), Fail> {
     for call in 0..1000 {
         let mut source = MemSource::new(BASE.as_bytes().to_vec(alloc)?, Vec::new(alloc));
         let mut sink = sink(alloc, 10, vec![in alloc; call]?)?;
-        let status = rtdb(alloc, &words, &mut source, &mut sink);
+        let status = rtdb(&rt, alloc, &words, &mut source, &mut sink, &NoGate);
         assert!(rt;
             BASE_REPORT.as_bytes().starts_with(sink.bytes()),
             "at {call}"
@@ -85,7 +92,7 @@ fn each_write_fails(rt: HostRuntime) -> Result<(), Fail> {
 #[test]
 fn long_run(rt: HostRuntime) -> Result<(), Fail> {
     let alloc = rt.alloc();
-    let (_, scenario) = replied(alloc, ["gen", "8"].as_slice(), NONE)?;
+    let (_, scenario) = replied(&rt, alloc, ["gen", "8"].as_slice(), NONE)?;
     let words = words_of(alloc, &["run"])?;
     let mut sinks = Vec::new(alloc);
     for (room, status) in [(200_000, Status::WriteFault), (1_000_000, Status::Ok)] {
@@ -93,7 +100,10 @@ fn long_run(rt: HostRuntime) -> Result<(), Fail> {
         let mut sink = MemSink::new(alloc, room, 1000, Vec::new(alloc))
             .ok()
             .ok_or("memory")?;
-        assert_eq!(rt; rtdb(alloc, &words, &mut source, &mut sink), status);
+        assert_eq!(rt;
+            rtdb(&rt, alloc, &words, &mut source, &mut sink, &NoGate),
+            status
+        );
         sinks.push(sink.bytes().to_vec(alloc)?)?;
     }
     let [part, whole] = sinks.as_slice() else {
@@ -101,7 +111,7 @@ fn long_run(rt: HostRuntime) -> Result<(), Fail> {
     };
     assert_eq!(rt; part.len(), 200_000);
     assert!(rt; whole.as_slice().starts_with(part.as_slice()));
-    let (_, verdict) = said(alloc, "replay", whole.as_slice().to_vec(alloc)?)?;
+    let (_, verdict) = said(&rt, alloc, "replay", whole.as_slice().to_vec(alloc)?)?;
     assert_eq!(rt; verdict.as_slice(), b"legal\n".as_slice());
     Ok(())
 }

@@ -5,10 +5,16 @@ use crate::Status;
 use scenario_reader::read_scenario;
 use scenario_writer::write_scenario;
 use std::alloc::Global;
+use std::sync::Wait;
 use std::test::Fail;
+use std::thread::Threads;
 
-fn is_no_json(alloc: Global, input: Vec<u8>) -> Result<bool, Fail> {
-    let (status, text) = said(alloc, "ceilings", input)?;
+fn is_no_json<R: Threads + Wait + Sync>(
+    rt: &R,
+    alloc: Global,
+    input: Vec<u8>,
+) -> Result<bool, Fail> {
+    let (status, text) = said(rt, alloc, "ceilings", input)?;
     Ok(status == Status::Refused && text.as_slice() == b"refused NotJson\n".as_slice())
 }
 
@@ -27,9 +33,12 @@ fn of_a_scenario(rt: HostRuntime) -> Result<(), Fail> {
     let alloc = rt.alloc();
     let whole = canonical(alloc)?;
     for end in 0..whole.len() {
-        assert!(rt; is_no_json(alloc, whole[..end].to_vec(alloc)?)?, "at {end}");
+        assert!(rt;
+            is_no_json(&rt, alloc, whole[..end].to_vec(alloc)?)?,
+            "at {end}"
+        );
     }
-    let (status, text) = said(alloc, "ceilings", whole)?;
+    let (status, text) = said(&rt, alloc, "ceilings", whole)?;
     assert_eq!(rt; status, Status::Ok);
     assert_eq!(rt;
         text.as_slice(),
@@ -46,7 +55,7 @@ fn of_a_report(rt: HostRuntime) -> Result<(), Fail> {
     let mut n = 1;
     let mut at_start = true;
     for (end, byte) in bytes.iter().enumerate() {
-        let (status, text) = said(alloc, "replay", bytes[..end].to_vec(alloc)?)?;
+        let (status, text) = said(&rt, alloc, "replay", bytes[..end].to_vec(alloc)?)?;
         let want = if at_start {
             String::from_str(alloc, "unfinished\n")?
         } else {
@@ -69,7 +78,7 @@ fn brackets_and_blanks(rt: HostRuntime) -> Result<(), Fail> {
     let mut deep = vec![in alloc; b'['; 200]?;
     let closing = [b']'; 200];
     deep.extend_from_slice(&closing)?;
-    assert!(rt; is_no_json(alloc, deep)?);
-    assert!(rt; is_no_json(alloc, vec![in alloc; b' '; 1_000_000]?)?);
+    assert!(rt; is_no_json(&rt, alloc, deep)?);
+    assert!(rt; is_no_json(&rt, alloc, vec![in alloc; b' '; 1_000_000]?)?);
     Ok(())
 }

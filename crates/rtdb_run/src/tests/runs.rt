@@ -35,10 +35,10 @@ fn reports(rt: HostRuntime) -> Result<(), Fail> {
         (run, EMPTY, EMPTY_REPORT),
     ];
     for (words, scenario, report) in rows {
-        let (status, said) = replied(alloc, words, scenario)?;
+        let (status, said) = replied(&rt, alloc, words, scenario)?;
         assert_eq!(rt; said.as_slice(), report.as_bytes(), "at {scenario}");
         assert_eq!(rt; status, Status::Ok);
-        let (status, said) = replied(alloc, ["replay"].as_slice(), report)?;
+        let (status, said) = replied(&rt, alloc, ["replay"].as_slice(), report)?;
         assert_eq!(rt; said.as_slice(), b"legal\n".as_slice(), "at {scenario}");
         assert_eq!(rt; status, Status::Ok);
     }
@@ -53,7 +53,7 @@ fn trial_of_base(rt: HostRuntime) -> Result<(), Fail> {
         "mode admitted\nceiling temp 3 3\nceiling valve 2 2\nbound sample 5 7\nbound control 5 13\nbound logger 0 14\nage temp 17\n";
     let tried = "mode trial\nceiling temp 3 3\nceiling valve 2 2\n";
     let report = BASE_REPORT.replace(alloc, admitted, tried)?;
-    let (status, said) = replied(alloc, ["run", "--trial"].as_slice(), BASE)?;
+    let (status, said) = replied(&rt, alloc, ["run", "--trial"].as_slice(), BASE)?;
     assert_eq!(rt; said.as_slice(), report.as_str().as_bytes());
     assert_eq!(rt; status, Status::Ok);
     Ok(())
@@ -75,7 +75,7 @@ fn same_runs(rt: HostRuntime) -> Result<(), Fail> {
     ];
     for (from, to) in rows {
         let input = BASE.replace(alloc, from, to)?;
-        let (status, said) = replied(alloc, ["run"].as_slice(), input.as_str())?;
+        let (status, said) = replied(&rt, alloc, ["run"].as_slice(), input.as_str())?;
         assert_eq!(rt; said.as_slice(), BASE_REPORT.as_bytes(), "at {to}");
         assert_eq!(rt; status, Status::Ok);
     }
@@ -125,8 +125,6 @@ fn refused_runs(rt: HostRuntime) -> Result<(), Fail> {
             r#""steps":20,"writes":["temp"],"jobs":60000"#,
             "refused RoomTooLarge 1380025\n",
         ),
-        (run, BASE, sampled, r#""eager":1"#, "refused NotYet\n"),
-        (trial, BASE, sampled, r#""eager":0"#, "refused NotYet\n"),
         (
             run,
             BASE,
@@ -158,7 +156,7 @@ fn refused_runs(rt: HostRuntime) -> Result<(), Fail> {
     ];
     for (words, scenario, from, to, text) in rows {
         let input = scenario.replace(alloc, from, to)?;
-        let (status, said) = replied(alloc, words, input.as_str())?;
+        let (status, said) = replied(&rt, alloc, words, input.as_str())?;
         assert_eq!(rt; said.as_slice(), text.as_bytes(), "at {to}");
         assert_eq!(rt; status, Status::Refused);
     }

@@ -38,7 +38,7 @@ fn bounds(rt: HostRuntime) -> Result<(), Fail> {
         ("admit", EMPTY, "admitted\n"),
     ];
     for (command, input, text) in rows {
-        let (status, said) = replied(alloc, [command].as_slice(), input)?;
+        let (status, said) = replied(&rt, alloc, [command].as_slice(), input)?;
         assert_eq!(rt; said.as_slice(), text.as_bytes());
         assert_eq!(rt; status, Status::Ok);
     }
@@ -145,7 +145,7 @@ fn changed_sets(rt: HostRuntime) -> Result<(), Fail> {
     ];
     for (command, scenario, from, to, text) in rows {
         let input = scenario.replace(alloc, from, to)?;
-        let (_, said) = replied(alloc, [command].as_slice(), input.as_str())?;
+        let (_, said) = replied(&rt, alloc, [command].as_slice(), input.as_str())?;
         assert_eq!(rt; said.as_slice(), text.as_bytes(), "at {to}");
     }
     Ok(())
@@ -164,7 +164,7 @@ fn refused_sets(rt: HostRuntime) -> Result<(), Fail> {
     ];
     for (input, text) in rows {
         for command in ["ceilings", "admit", "run"] {
-            let (status, said) = replied(alloc, [command].as_slice(), input)?;
+            let (status, said) = replied(&rt, alloc, [command].as_slice(), input)?;
             assert_eq!(rt; said.as_slice(), text.as_bytes());
             assert_eq!(rt; status, Status::Refused);
         }

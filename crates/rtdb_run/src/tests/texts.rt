@@ -3,7 +3,9 @@ use super::scenarios::{BASE, TOGETHER};
 use super::{replied, said};
 use crate::Status;
 use std::alloc::Global;
+use std::sync::Wait;
 use std::test::Fail;
+use std::thread::Threads;
 
 // A scenario of so many transactions that do nothing.
 fn many(alloc: Global, count: u32) -> Result<Vec<u8>, Fail> {
@@ -23,12 +25,12 @@ fn many(alloc: Global, count: u32) -> Result<Vec<u8>, Fail> {
 #[test]
 fn many_transactions(rt: HostRuntime) -> Result<(), Fail> {
     let alloc = rt.alloc();
-    let (status, text) = said(alloc, "run", many(alloc, 64)?)?;
+    let (status, text) = said(&rt, alloc, "run", many(alloc, 64)?)?;
     assert_eq!(rt; status, Status::Ok);
     let last = "bound t62 0 3\nbound t63 0 2\nbound t64 0 1\nend\n";
     assert!(rt; text.as_slice().ends_with(last.as_bytes()));
     for command in ["ceilings", "run"] {
-        let (status, text) = said(alloc, command, many(alloc, 65)?)?;
+        let (status, text) = said(&rt, alloc, command, many(alloc, 65)?)?;
         assert_eq!(rt; status, Status::Refused);
         assert_eq!(rt; text.as_slice(), b"refused TooManyTxns 65\n".as_slice());
     }
@@ -49,18 +51,23 @@ fn nested(alloc: Global, sums: u32) -> Result<String, Fail> {
 }
 
 // What is said of the ceilings of BASE with one piece replaced.
-fn changed(alloc: Global, from: &str, to: &str) -> Result<(Status, Vec<u8>), Fail> {
+fn changed<R: Threads + Wait + Sync>(
+    rt: &R,
+    alloc: Global,
+    from: &str,
+    to: &str,
+) -> Result<(Status, Vec<u8>), Fail> {
     let input = BASE.replace(alloc, from, to)?;
-    replied(alloc, &["ceilings"], input.as_str())
+    replied(rt, alloc, &["ceilings"], input.as_str())
 }
 
 #[test]
 fn depths(rt: HostRuntime) -> Result<(), Fail> {
     let alloc = rt.alloc();
     let sum = r#"{"add":[{"last":"temp"},100]}"#;
-    let (status, _) = changed(alloc, sum, nested(alloc, 31)?.as_str())?;
+    let (status, _) = changed(&rt, alloc, sum, nested(alloc, 31)?.as_str())?;
     assert_eq!(rt; status, Status::Ok);
-    let (status, text) = changed(alloc, sum, nested(alloc, 32)?.as_str())?;
+    let (status, text) = changed(&rt, alloc, sum, nested(alloc, 32)?.as_str())?;
     assert_eq!(rt; status, Status::Refused);
     assert_eq!(rt;
         text.as_slice(),
@@ -163,7 +170,7 @@ fn members(rt: HostRuntime) -> Result<(), Fail> {
         ),
     ];
     for (from, to, place) in rows {
-        let (status, text) = changed(alloc, from, to)?;
+        let (status, text) = changed(&rt, alloc, from, to)?;
         assert_eq!(rt; status, Status::Refused);
         let want = format!(in alloc; "refused BadField {place}\n")?;
         assert_eq!(rt; text.as_slice(), want.as_str().as_bytes(), "at {to}");
@@ -242,7 +249,7 @@ fn phases(rt: HostRuntime) -> Result<(), Fail> {
     ];
     for (scenario, from, to, text) in rows {
         let input = scenario.replace(alloc, from, to)?;
-        let (status, said) = replied(alloc, ["ceilings"].as_slice(), input.as_str())?;
+        let (status, said) = replied(&rt, alloc, ["ceilings"].as_slice(), input.as_str())?;
         assert_eq!(rt; said.as_slice(), text.as_bytes(), "at {to}");
         assert_eq!(rt; status, Status::Refused);
     }

@@ -105,7 +105,7 @@ fn changed_reports(rt: HostRuntime) -> Result<(), Fail> {
     ];
     for (from, to, text) in rows {
         let input = BASE_REPORT.replace(alloc, from, to)?;
-        let (status, said) = replied(alloc, ["replay"].as_slice(), input.as_str())?;
+        let (status, said) = replied(&rt, alloc, ["replay"].as_slice(), input.as_str())?;
         assert_eq!(rt; said.as_slice(), text.as_bytes(), "at {to}");
         assert_eq!(rt; status, Status::NotLegal);
     }
@@ -134,7 +134,7 @@ fn first_causes(rt: HostRuntime) -> Result<(), Fail> {
     for ((from, to), (other, by), text) in rows {
         let input = BASE_REPORT.replace(alloc, from, to)?;
         let input = input.as_str().replace(alloc, other, by)?;
-        let (_, said) = replied(alloc, ["replay"].as_slice(), input.as_str())?;
+        let (_, said) = replied(&rt, alloc, ["replay"].as_slice(), input.as_str())?;
         assert_eq!(rt; said.as_slice(), text.as_bytes(), "at {to} and {by}");
     }
     Ok(())
@@ -163,7 +163,7 @@ fn changed_sets(rt: HostRuntime) -> Result<(), Fail> {
     ];
     for (from, to, text) in rows {
         let input = TOGETHER_TRIAL.replace(alloc, from, to)?;
-        let (status, said) = replied(alloc, ["replay"].as_slice(), input.as_str())?;
+        let (status, said) = replied(&rt, alloc, ["replay"].as_slice(), input.as_str())?;
         assert_eq!(rt; said.as_slice(), text.as_bytes(), "at {to}");
         assert_eq!(rt; status, Status::NotLegal);
     }
@@ -204,7 +204,7 @@ fn pending_jobs(rt: HostRuntime) -> Result<(), Fail> {
     ];
     for (more, last, pending, text) in rows {
         let input = format!(in alloc; "{front}{more}{last}{ended}{pending}{finals}")?;
-        let (_, said) = replied(alloc, ["replay"].as_slice(), input.as_str())?;
+        let (_, said) = replied(&rt, alloc, ["replay"].as_slice(), input.as_str())?;
         assert_eq!(rt; said.as_slice(), text.as_bytes(), "at {pending}");
     }
     Ok(())
@@ -233,7 +233,7 @@ fn documents(rt: HostRuntime) -> Result<(), Fail> {
         ("{}", Status::NotLegal, "bad line 1\n"),
     ];
     for (input, status, text) in rows {
-        let (got, said) = replied(alloc, ["replay"].as_slice(), input)?;
+        let (got, said) = replied(&rt, alloc, ["replay"].as_slice(), input)?;
         assert_eq!(rt; said.as_slice(), text.as_bytes(), "at {input}");
         assert_eq!(rt; got, status);
     }

@@ -1,16 +1,27 @@
-use Rattle.std.proofs.Common.{rules, ◌≡◌, Option, Some, sym, ap, subst, ◌∙◌}
-use Rattle.rtdb_run.specs.declared.command.Command.{Command}
-use Rattle.rtdb_run.specs.declared.command.Command.TheVariants.{Ask}
-use Rattle.rtdb_run.specs.declared.command.Question.TheVariants.{Run}
-use Rattle.rtdb_run.specs.Commands.{command_of}
-use Rattle.rtdb_run.specs.Answers.{IsGood}
+use Rattle.std.proofs.Common.{rules, ◌≡◌, Option, Some, sym, subst}
+use Rattle.command_words.specs.declared.command.Command.{Command}
+use Rattle.command_words.specs.declared.command.Command.TheVariants.{Run, Load}
+use Rattle.command_words.specs.Commands.{command_of}
+use Rattle.rtdb_run.specs.Answers.{Answers, IsGood}
 use Rattle.rtdb_run.proofs.Telling.{complete}
 use Rattle.rtdb_run.proofs.top.rtdb.Goals as goal
 
-pub returns-in-Some-Ask-Run-clause-complete : goal.returns-in-Some-Ask-Run-clause-complete
-returns-in-Some-Ask-Run-clause-complete g c = λ good no_read no_write.
-    let same : c.in-Some-Ask-Run.field-0 ≡ Ask (Run c.in-Some-Ask-Run.trial) = search rules in
-    let told : Some (Ask (Run c.in-Some-Ask-Run.trial)) ≡ command_of c.args.words.now =
-    ap (λ (q : Command). Some q) (sym same) ∙ c.in-Some-Ask-Run.ensures.command in
-    complete (Some (Ask (Run c.in-Some-Ask-Run.trial))) _ _ _ _ c.run.result _ _ c.run.ensures.answer c.run.ensures.read c.run.ensures.write
-    (subst (λ (o : Option Command). IsGood o (g.S.Source.left c.args.source.now)) (sym told) good) no_read no_write
+pub returns-in-Ok-Some-Run-clause-complete : goal.returns-in-Ok-Some-Run-clause-complete
+returns-in-Ok-Some-Run-clause-complete g c = λ good no_read no_write.
+    let is : command_of c.args.words.now ≡ Some (Run c.in-Ok-Some-Run.trial c.in-Ok-Some-Run.workers) = search rules in
+    complete (Some (Run c.in-Ok-Some-Run.trial c.in-Ok-Some-Run.workers)) _ _ _ _ c.answer_run.result _ _ c.answer_run.ensures.answer c.answer_run.ensures.read c.answer_run.ensures.write
+    (subst (λ (o : Option Command). IsGood o (g.S.Source.left c.args.source.now)) is good) no_read no_write
+
+pub returns-in-Ok-Some-Load-clause-answer : goal.returns-in-Ok-Some-Load-clause-answer
+returns-in-Ok-Some-Load-clause-answer g c =
+    let left = g.S.Source.left c.args.source.now in
+    let is : command_of c.args.words.now ≡ Some (Load c.in-Ok-Some-Load.n c.in-Ok-Some-Load.workers) = search rules in
+    subst (λ (o : Option Command). Answers o left left (g.K.Sink.taken c.args.sink.now) (g.K.Sink.taken c.answer_load.new.sink) c.answer_load.result) (sym is) (c.answer_load.ensures.answer left)
+
+pub returns-in-Ok-Some-Load-clause-complete : goal.returns-in-Ok-Some-Load-clause-complete
+returns-in-Ok-Some-Load-clause-complete g c = λ good no_read no_write.
+    let left = g.S.Source.left c.args.source.now in
+    let is : command_of c.args.words.now ≡ Some (Load c.in-Ok-Some-Load.n c.in-Ok-Some-Load.workers) = search rules in
+    complete (Some (Load c.in-Ok-Some-Load.n c.in-Ok-Some-Load.workers)) left left _ _ c.answer_load.result _ _ (c.answer_load.ensures.answer left)
+    (λ h. absurd (c.answer_load.ensures.read h)) c.answer_load.ensures.write
+    (subst (λ (o : Option Command). IsGood o left) is good) no_read no_write

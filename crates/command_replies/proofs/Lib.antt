@@ -1,0 +1,2 @@
+pub mod Compiles
+pub mod Replying

@@ -1,0 +1,4 @@
+pub mod Working
+pub mod Counting
+pub mod Keeping
+pub mod Parts

@@ -1,0 +1,185 @@
+//! The history of a run by workers, kept until the run is over.
+ghost use Rattle.std.specs.Prelude.{◌≡◌, ℕ, ◌+◌, ◌<◌, ◌≤◌, ◌++◌, [], length, map, false, vec_len, vec_capacity, IfOk};
+ghost use Rattle.txn_set.specs.Set.{IsCompiled};
+ghost use Rattle.counting_laws.specs.Counting.{room_of_jobs};
+ghost use Rattle.sim_run.specs.Workloads.{workload, ticks_of, AreAccepted, IsObedient};
+ghost use Rattle.plant_history.specs.Histories.{IsRunOf};
+ghost use Rattle.eager_laws.specs.Plannable.{ArePlannable};
+ghost use Rattle.plant_run.specs.Runs.{own_at};
+ghost use Rattle.plant_run.specs.declared.run.RunFault.TheVariants as faults;
+
+use board::Board;
+use eager_laws::run_fits;
+use entry_out::{EntryOut, Stopped};
+use plant_run::{RunFault, run_workers};
+use rt_base::{List, OutOfMemory, Tick};
+use std::alloc::Global;
+use std::marker::{Brand, PhantomData};
+use std::sync::Wait;
+use std::thread::Threads;
+use step_journal::Entry;
+use step_script::Body;
+use txn_threads::Gate;
+
+/// For how many entries an out has room.
+pub(crate) trait Roomy {
+    ghost room: { ℕ };
+}
+
+impl Roomy for Brand {
+    ghost room = { 0 };
+}
+
+/// The entries of a run, kept up to a room that never grows.
+pub(crate) struct RunEntries<T> {
+    entries: Vec<Entry>,
+    room: usize,
+    full: bool,
+    of: PhantomData<T>,
+    ghost places: { room ≤ vec_capacity entries },
+    ghost within: { vec_len entries ≤ room },
+}
+
+/// It can take every list of entries, since it refuses a piece for which its room does not suffice, and stops.
+impl<T: Roomy> EntryOut for RunEntries<T> {
+    ghost use Rattle.std.specs.Prelude.{◌≡◌, ⊤};
+    ghost use Rattle.entry_out.specs.Capped.{IsRefused, stops_of};
+
+    ghost got = { λ out story. (out.room ≡ T.room) × (out.entries.items ≡ story) };
+
+    ghost lost = { λ out story. IsRefused (record { room = out.room; kept = out.entries.items; full = out.full }) story };
+
+    ghost good = { λ out story. ⊤ };
+
+    ghost stops = { λ out. stops_of out.full };
+
+    /// It costs one move an entry.
+    fn put(&mut self, entries: &[Entry]) -> Result<(), Stopped> {
+        if entries.len() > self.room - self.entries.len() {
+            self.full = true;
+            return Err(Stopped);
+        }
+        append(&mut self.entries, entries);
+        Ok(())
+    }
+}
+
+fn append(into: &mut Vec<Entry>, entries: &[Entry])
+    requires places { vec_len into.old + length entries.now ≤ vec_capacity into.old }
+    ensures items { into.new.items ≡ into.old.items ++ entries.now }
+    ensures places { vec_capacity into.new ≡ vec_capacity into.old }
+{
+    for i in 0..entries.len() {
+        into.push_reserved(entries[i]);
+    }
+}
+
+// No run of the workload has more entries than there is room for.
+fn no_memory(fault: RunFault) -> OutOfMemory
+    requires { fault ≡ faults.Memory }
+{
+    match fault {
+        RunFault::Memory => OutOfMemory,
+        RunFault::Stopped => unreachable!(),
+    }
+}
+
+fn run_into<
+    R: Threads + Wait + Sync,
+    B: Board + Send + Drop,
+    Y: Body + Send + Drop,
+    G: Gate + Sync,
+    T: Roomy,
+>(
+    rt: &R,
+    alloc: Global,
+    board: B,
+    bodies: Vec<Y>,
+    ticks: &[List<Tick>],
+    own: &[u32],
+    workers: u32,
+    spare: &mut Vec<Entry>,
+    gate: &G,
+    out: &mut RunEntries<T>,
+) -> Result<B, OutOfMemory>
+    requires opened { B.stands board [] }
+    requires compiled { IsCompiled (B.set board) }
+    requires each { (length bodies.items ≡ length (B.set board).txns) × (length own.now ≡ length (B.set board).txns) }
+    requires accepted { AreAccepted (B.set board) ticks.now }
+    requires obedient { IsObedient (workload (B.set board) (map Y.gives bodies.items) ticks.now) }
+    requires eager { (tx : ℕ) → 0 < own_at own.now tx → ticks_of ticks.now tx ≡ [] }
+    requires plannable { ArePlannable (workload (B.set board) (map Y.gives bodies.items) ticks.now) (own_at own.now) }
+    requires room { 1024 < B.room board }
+    requires spare { (spare.old.items ≡ []) × (B.room board ≤ vec_capacity spare.old) }
+    requires workers { (1 ≤ workers) × (workers ≤ 64) }
+    requires entries { room_of_jobs (B.set board).txns (λ tx. length (ticks_of ticks.now tx) + own_at own.now tx) ≤ out.old.room }
+    requires fresh { (out.old.room ≡ T.room) × (out.old.entries.items ≡ []) × (out.old.full ≡ false) }
+    ensures run { let w = workload (B.set board) (map Y.gives bodies.items) ticks.now in
+        IfOk result (λ b. IsRunOf w (own_at own.now) out.new.entries.items) }
+    ensures stood { IfOk result (λ b. B.stands b out.new.entries.items) }
+    ensures set { IfOk result (λ b. B.set b ≡ B.set board) }
+{
+    run_fits();
+    match run_workers(
+        rt, alloc, board, bodies, ticks, own, workers, spare, gate, out,
+    ) {
+        Ok(board) => Ok(board),
+        Err(fault) => Err(no_memory(fault)),
+    }
+}
+
+/// Runs a workload by workers on a new board, and answers the board and the history, which has room for so many entries.
+/// It may wait.
+pub(crate) fn keep_run<
+    R: Threads + Wait + Sync,
+    B: Board + Send + Drop,
+    Y: Body + Send + Drop,
+    G: Gate + Sync,
+>(
+    rt: &R,
+    alloc: Global,
+    board: B,
+    bodies: Vec<Y>,
+    ticks: &[List<Tick>],
+    own: &[u32],
+    entries: usize,
+    workers: u32,
+    gate: &G,
+) -> Result<(B, Vec<Entry>), OutOfMemory>
+    requires opened { B.stands board [] }
+    requires compiled { IsCompiled (B.set board) }
+    requires each { (length bodies.items ≡ length (B.set board).txns) × (length own.now ≡ length (B.set board).txns) }
+    requires accepted { AreAccepted (B.set board) ticks.now }
+    requires obedient { IsObedient (workload (B.set board) (map Y.gives bodies.items) ticks.now) }
+    requires eager { (tx : ℕ) → 0 < own_at own.now tx → ticks_of ticks.now tx ≡ [] }
+    requires plannable { ArePlannable (workload (B.set board) (map Y.gives bodies.items) ticks.now) (own_at own.now) }
+    requires room { 1024 < B.room board }
+    requires workers { (1 ≤ workers) × (workers ≤ 64) }
+    requires entries { room_of_jobs (B.set board).txns (λ tx. length (ticks_of ticks.now tx) + own_at own.now tx) ≤ entries }
+    ensures run { let w = workload (B.set board) (map Y.gives bodies.items) ticks.now in
+        IfOk result (λ r. IsRunOf w (own_at own.now) r.1.items) }
+    ensures stood { IfOk result (λ r. B.stands r.0 r.1.items) }
+    ensures set { IfOk result (λ r. B.set r.0 ≡ B.set board) }
+{
+    let mut spare = Vec::with_capacity(alloc, board.room())?;
+    let kept = Vec::with_capacity(alloc, entries)?;
+    let mut out: RunEntries<Brand> = RunEntries {
+        entries: kept,
+        room: entries,
+        full: false,
+        of: PhantomData,
+    };
+    let ran = run_into::<R, B, Y, G, Brand>(
+        rt, alloc, board, bodies, ticks, own, workers, &mut spare, gate, &mut out,
+    );
+    let RunEntries {
+        entries,
+        room: _,
+        full: _,
+        of: _,
+    } = out;
+    match ran {
+        Ok(board) => Ok((board, entries)),
+        Err(refused) => Err(refused),
+    }
+}

@@ -1,0 +1,14 @@
+//! A run by workers on a shared plant, whose report is written while it goes on.
+#![tactic(auto)]
+
+mod eager;
+mod history;
+mod kept;
+mod lines;
+mod written;
+
+pub use eager::write_eager_run;
+pub use written::write_run;
+
+#[cfg(test)]
+mod tests;

@@ -1,5 +1,0 @@
-use Rattle.rtdb_run.proofs.FixedMore.{next_tick}
-use Rattle.rtdb_run.proofs.ticks.periodic.Goals as goal
-
-pub loop-k-preserved : goal.loop-k-preserved
-loop-k-preserved c = next_tick c.args.txn.now.offset c.args.txn.now.period c.loop-k.k c.loop-k.ticks.items c.push.new.self.items c.in_ok-push.ensures.items c.loop-k.invariant

@@ -1,0 +1,50 @@
+-- What the laws say of the run of a scenario.
+use Rattle.std.proofs.Common.{◌≡◌, ℕ, Bool, true, false, not, List, Option, None}
+use Rattle.rt_base.specs.declared.ids.JobId.{JobId}
+use Rattle.txn_set.specs.Set.{Set, IsCompiled}
+use Rattle.step_journal.specs.declared.entry.Entry.{Entry}
+use Rattle.step_journal.specs.History.{IsLegal}
+use Rattle.history_laws.proofs.SerialAll.{serial}
+use Rattle.history_laws.proofs.DelayAll.{one_delay}
+use Rattle.counting_laws.proofs.CountingAll.{entries_few}
+use Rattle.commit_laws.proofs.Commits.{fresh_commits}
+use Rattle.set_admission.specs.Admission.{refusal}
+use Rattle.set_admission.proofs.Admitted.{decided}
+use Rattle.set_admission.proofs.Kept.{keeps_bounds}
+use Rattle.scenario.specs.Shown.{Shown, set_of}
+use Rattle.scenario_run.specs.Runs.{IsGuaranteed, KeepsBoundsUnless, IsRunText}
+use Rattle.eager_laws.specs.Plannable.{own_of}
+use Rattle.eager_laws.specs.Laws.{NoneEager}
+use Rattle.plant_history.proofs.Fixed.{fixed_sim}
+use Rattle.plant_report.specs.Eager.{IsRunTextBy}
+use Rattle.workload_laws.specs.Runs.{workload_of}
+
+guaranteed : (set : Set) (history : List Entry) → IsCompiled set → IsLegal set history → IsGuaranteed set history
+guaranteed set history ok legal = record {
+  serial = serial set history ok legal;
+  refused_once = (entries_few set history ok legal).refusals;
+  delayed_by_one = λ job. one_delay set history job ok legal;
+  commits = fresh_commits set history ok legal;
+}
+
+-- what a run as a trial or admitted knows of its set
+abbrev pub IsAdmittedUnless : Bool → Set → Type 0
+IsAdmittedUnless true set = Unit {0}
+IsAdmittedUnless false set = refusal set ≡ None
+
+bounded : (trial : Bool) (set : Set) (history : List Entry) → IsCompiled set → IsLegal set history → IsAdmittedUnless trial set → KeepsBoundsUnless trial set history
+bounded true set history ok legal h = tt
+bounded false set history ok legal h = keeps_bounds set history ok ((decided set ok).by_found.0 h) legal
+
+pub run_text : NoneEager → (trial : Bool) (s : Shown) (text : List ℕ) → IsCompiled (set_of s) → IsAdmittedUnless trial (set_of s) → IsRunTextBy s.names (not trial) (workload_of s) (own_of s) text → IsRunText trial s text
+run_text none_eager trial s text ok h t =
+    let history = t.history in
+    let legal = t.run.so_far.legal in
+    record {
+      history = history;
+      run = t.run;
+      determined = λ calm. fixed_sim (workload_of s) (own_of s) history (none_eager s calm) t.run;
+      guaranteed = guaranteed (set_of s) history ok legal;
+      bounded = bounded trial (set_of s) history ok legal h;
+      written = t.written;
+    }

@@ -1,0 +1,7 @@
+pub mod Guarantees
+pub mod FixedTicks
+pub mod FixedMore
+pub mod Owned
+pub mod Ready
+pub mod Replying
+pub mod Summaries

@@ -1,0 +1,165 @@
+-- What a scenario declares can be run, and what its run leaves.
+use Rattle.std.proofs.Common.{◌≡◌, ◌⊎◌, inl, inr, ℕ, ◌+◌, ◌<◌, ◌≤◌, Bool, List, [], ◌∷◌, ◌++◌, map, Option, Result, Ok, Err, OnOk, OnErr, refl, ap, sym, subst, ◌∙◌, length, arith}
+use Rattle.std.specs.Result.{IsErrOf}
+use Rattle.std.specs.Io.KnownBytes.{Keeps}
+use Rattle.std.proofs.lemmas.List.{length-map}
+use Rattle.rt_base.specs.declared.name.Names.{Names}
+use Rattle.step_script.specs.declared.script.Script.{Script}
+use Rattle.step_script.specs.Scripts.{Program, program_of, next_of}
+use Rattle.txn_set.specs.Set.{Set, IsCompiled}
+use Rattle.counting_laws.specs.Counting.{room_of_jobs}
+use Rattle.sim_history.specs.Sim.{Body, Workload}
+use Rattle.sim_run.specs.Workloads.{workload, ticks_of, AreAccepted, IsObedient}
+use Rattle.scenario.specs.declared.releases.Releases.{Releases}
+use Rattle.scenario.specs.Shown.{Shown, set_of}
+use Rattle.scenario.specs.Releases.{eager_of, fixed_ticks}
+use Rattle.std.specs.List.{sum}
+use Rattle.eager_laws.specs.Plannable.{ArePlannable, own_jobs, own_of}
+use Rattle.eager_laws.specs.Laws.{ScenarioIsPlannable, EagerHaveNoReleases, ScenarioHasRoom}
+use Rattle.workload_laws.specs.Runs.{workload_of}
+use Rattle.workload_laws.proofs.Obeys.{obeys}
+use Rattle.workload_laws.proofs.Accepted.{accepted}
+use Rattle.plant_history.proofs.Fixed.{sim_is_run}
+use Rattle.written_run.specs.Written.{IsTextBy, Wrote, WroteFront}
+use Rattle.plant_report.specs.Eager.{IsRunTextBy}
+use Rattle.scenario_run.specs.Runs.{Declares, IsReady, functions_of, own_at}
+use Rattle.scenario_run.proofs.Owned.{own_is, own_total}
+
+pub functions_same : (scripts : List Script) → map (λ s. next_of (program_of s)) scripts ≡ functions_of scripts
+functions_same [] = refl
+functions_same (s ∷ scripts) = ap (λ (l : List Body). next_of (program_of s) ∷ l) (functions_same scripts)
+
+-- what holds of a workload and its eager jobs holds of equal ones
+pub moved : (P : Workload → (ℕ → ℕ) → Type 0) (set set' : Set) (bodies bodies' : List Body) (ticks ticks' : List (List ℕ)) (own own' : ℕ → ℕ) → set ≡ set' → bodies ≡ bodies' → ticks ≡ ticks' → own ≡ own'
+    → P (workload set bodies ticks) own → P (workload set' bodies' ticks') own'
+moved P set set' bodies bodies' ticks ticks' own own' e f g k h =
+    subst (λ (s : Set). P (workload s bodies' ticks') own') e (subst (λ (l : List Body). P (workload set l ticks') own') f
+    (subst (λ (t : List (List ℕ)). P (workload set bodies t) own') g (subst (λ (o : ℕ → ℕ). P (workload set bodies ticks) o) k h)))
+
+-- the workload of what a scenario declares is the scenario's
+pub ticks_same : (set : Set) (scripts : List Script) (releases : List Releases) (d : Declares set scripts releases) (ticks : List (List ℕ)) → ticks ≡ fixed_ticks set.txns releases
+    → ticks ≡ fixed_ticks d.scenario.txns d.scenario.releases
+ticks_same set scripts releases d ticks e =
+    e ∙ (ap (λ (s : Set). fixed_ticks s.txns releases) d.set_is ∙ ap (fixed_ticks d.scenario.txns) d.releases_are)
+
+pub own_same : (set : Set) (scripts : List Script) (releases : List Releases) (d : Declares set scripts releases) (own : List ℕ) → own ≡ map eager_of releases → own_at own ≡ own_of d.scenario
+own_same set scripts releases d own e = own_is d.scenario own (e ∙ ap (map eager_of) d.releases_are)
+
+-- what holds of a scenario's workload and eager jobs holds of what it declares, and the other way round
+pub declared : (P : Workload → (ℕ → ℕ) → Type 0) (set : Set) (scripts : List Script) (releases : List Releases) (d : Declares set scripts releases)
+    → (scripts' : List Script) (ticks : List (List ℕ)) (own : List ℕ) → scripts' ≡ scripts → ticks ≡ fixed_ticks set.txns releases → own ≡ map eager_of releases
+    → P (workload_of d.scenario) (own_of d.scenario) → P (workload set (functions_of scripts') ticks) (own_at own)
+declared P set scripts releases d scripts' ticks own e f g h =
+    let s = d.scenario in
+    let functions : map next_of s.programs ≡ functions_of scripts' = ap (map next_of) (sym d.programs_are) ∙ sym (ap functions_of e) in
+    moved P (set_of s) set (map next_of s.programs) (functions_of scripts') (fixed_ticks s.txns s.releases) ticks (own_of s) (own_at own)
+    (sym d.set_is) functions (sym (ticks_same set scripts releases d ticks f)) (sym (own_same set scripts releases d own g)) h
+
+pub of_scenario : (P : Workload → (ℕ → ℕ) → Type 0) (set : Set) (scripts : List Script) (releases : List Releases) (d : Declares set scripts releases)
+    → (scripts' : List Script) (ticks : List (List ℕ)) (own : List ℕ) → scripts' ≡ scripts → ticks ≡ fixed_ticks set.txns releases → own ≡ map eager_of releases
+    → P (workload set (functions_of scripts') ticks) (own_at own) → P (workload_of d.scenario) (own_of d.scenario)
+of_scenario P set scripts releases d scripts' ticks own e f g h =
+    let s = d.scenario in
+    moved P set (set_of s) (functions_of scripts') (map next_of s.programs) ticks (fixed_ticks s.txns s.releases) (own_at own) (own_of s)
+    d.set_is (ap functions_of e ∙ ap (map next_of) d.programs_are) (ticks_same set scripts releases d ticks f) (own_same set scripts releases d own g) h
+
+-- what the releases say of each transaction
+abbrev EagerAlone : Workload → (ℕ → ℕ) → Type 0
+EagerAlone w own = (tx : ℕ) → 0 < own tx → ticks_of w.releases tx ≡ []
+
+abbrev AcceptedBy : Workload → (ℕ → ℕ) → Type 0
+AcceptedBy w own = AreAccepted w.set w.releases
+
+abbrev pub ObedientBy : Workload → (ℕ → ℕ) → Type 0
+ObedientBy w own = IsObedient w
+
+pub ready : ScenarioIsPlannable → EagerHaveNoReleases → (set : Set) (scripts : List Script) (releases : List Releases) → IsCompiled set → (d : Declares set scripts releases)
+    → (scripts' : List Script) (ticks : List (List ℕ)) (own : List ℕ) → scripts' ≡ scripts → ticks ≡ fixed_ticks set.txns releases → own ≡ map eager_of releases → IsReady set scripts' ticks own
+ready plannable eager_alone set scripts releases ok d scripts' ticks own e f g =
+    let s = d.scenario in
+    let compiled : IsCompiled (set_of s) = subst IsCompiled d.set_is ok in
+    let txns : length s.txns ≡ length set.txns = sym (ap (λ (q : Set). length q.txns) d.set_is) in
+    let many : length scripts ≡ length set.txns = sym (length-map scripts program_of) ∙ (ap (λ (ps : List Program). length ps) d.programs_are ∙ (d.is.scripted ∙ txns)) in
+    let released : length releases ≡ length set.txns = ap (λ (rs : List Releases). length rs) d.releases_are ∙ (d.is.released ∙ txns) in
+    record {
+      scripts_each = ap (λ (l : List Script). length l) e ∙ many;
+      own_each = ap (λ (l : List ℕ). length l) g ∙ (length-map releases eager_of ∙ released);
+      accepted = declared AcceptedBy set scripts releases d scripts' ticks own e f g (accepted s d.is);
+      obedient = declared ObedientBy set scripts releases d scripts' ticks own e f g (obeys s d.is compiled);
+      eager = declared EagerAlone set scripts releases d scripts' ticks own e f g (eager_alone s);
+      plannable = declared ArePlannable set scripts releases d scripts' ticks own e f g (plannable s d.is);
+    }
+
+-- the room of a scenario is enough for the entries of what it declares
+abbrev HasRoom : ℕ → Workload → (ℕ → ℕ) → Type 0
+HasRoom room w own = room_of_jobs w.set.txns (λ tx. length (ticks_of w.releases tx) + own tx) ≤ room
+
+pub room_is : ScenarioHasRoom → (set : Set) (scripts : List Script) (releases : List Releases) (d : Declares set scripts releases)
+    → (scripts' : List Script) (ticks : List (List ℕ)) (own : List ℕ) → scripts' ≡ scripts → ticks ≡ fixed_ticks set.txns releases → own ≡ map eager_of releases
+    → room_of_jobs set.txns (λ tx. length (ticks_of ticks tx) + own_at own tx) ≤ d.scenario.room
+room_is scenario_room set scripts releases d scripts' ticks own e f g =
+    let s = d.scenario in
+    let enough : HasRoom s.room (workload_of s) (own_of s) = let below = scenario_room s d.is in omega (arith, below) in
+    declared (HasRoom s.room) set scripts releases d scripts' ticks own e f g enough
+
+-- how many jobs there are
+pub places_for : (set : Set) (ticks ticks' : List (List ℕ)) (own own' : List ℕ) (room : ℕ) → ticks' ≡ ticks → own' ≡ own → length own ≡ length set.txns
+    → sum (map (λ l. length l) ticks) + sum own ≤ room → sum (map (λ l. length l) ticks') + own_jobs set (own_at own') ≤ room
+places_for set ticks ticks' own own' room e f same few =
+    let fixed : sum (map (λ l. length l) ticks') ≡ sum (map (λ l. length l) ticks) = ap (λ (t : List (List ℕ)). sum (map (λ l. length l) t)) e in
+    let all : own_jobs set (own_at own') ≡ sum own = ap (λ (o : List ℕ). own_jobs set (own_at o)) f ∙ own_total set own same in
+    omega (arith, fixed, all, few)
+
+pub own_few : (set : Set) (scripts : List Script) (ticks : List (List ℕ)) (own : List ℕ) → IsReady set scripts ticks own → sum own ≤ 65536
+own_few set scripts ticks own r =
+    let few = r.plannable.few in
+    omega (arith, few, own_total set own r.own_each)
+
+-- the text of what a scenario declares is that of its workload
+pub text_of : (names : Names) (admitted : Bool) (set : Set) (scripts : List Script) (releases : List Releases) (d : Declares set scripts releases)
+    → (scripts' : List Script) (ticks : List (List ℕ)) (own : List ℕ) (text : List ℕ) → scripts' ≡ scripts → ticks ≡ fixed_ticks set.txns releases → own ≡ map eager_of releases
+    → IsRunTextBy names admitted (workload set (functions_of scripts') ticks) (own_at own) text → IsRunTextBy names admitted (workload_of d.scenario) (own_of d.scenario) text
+text_of names admitted set scripts releases d scripts' ticks own text e f g h =
+    of_scenario (λ w o. IsRunTextBy names admitted w o text) set scripts releases d scripts' ticks own e f g h
+
+-- the text on a board of an equal set
+pub text_on : (names : Names) (admitted : Bool) (set set' : Set) (bodies : List Body) (ticks : List (List ℕ)) (own : ℕ → ℕ) (text : List ℕ) → set ≡ set'
+    → IsRunTextBy names admitted (workload set bodies ticks) own text → IsRunTextBy names admitted (workload set' bodies ticks) own text
+text_on names admitted set set' bodies ticks own text e h = subst (λ (s : Set). IsRunTextBy names admitted (workload s bodies ticks) own text) e h
+
+-- the text of scripts by their functions
+pub text_by : (names : Names) (admitted : Bool) (set : Set) (scripts : List Script) (ticks ticks' : List (List ℕ)) (own own' : List ℕ) (text : List ℕ) → ticks ≡ ticks' → own ≡ own'
+    → IsRunTextBy names admitted (workload set (map (λ s. next_of (program_of s)) scripts) ticks) (own_at own) text → IsRunTextBy names admitted (workload set (functions_of scripts) ticks') (own_at own') text
+text_by names admitted set scripts ticks ticks' own own' text e f h =
+    moved (λ w o. IsRunTextBy names admitted w o text) set set _ (functions_of scripts) ticks ticks' (own_at own) (own_at own') refl (functions_same scripts) e (ap own_at f) h
+
+-- where no transaction is eager it is that of the one run
+pub fixed_text : (names : Names) (admitted : Bool) (w : Workload) (own : ℕ → ℕ) (text : List ℕ) → ((tx : ℕ) → own tx ≡ 0) → IsTextBy names admitted w text → IsRunTextBy names admitted w own text
+fixed_text names admitted w own text none h = record { history = h.history; run = sim_is_run w own h.history none h.sim; written = h.written }
+
+-- what was written of the one is what was written of the other
+pub wrote_of : (P Q : List ℕ → Type 0) (taken taken' : Option (List ℕ)) → ((text : List ℕ) → P text → Q text) → Wrote P taken taken' → Wrote Q taken taken'
+wrote_of P Q taken taken' f h = record { text = h.text; is = f h.text h.is; written = h.written }
+
+pub front_of : (P Q : List ℕ → Type 0) (taken taken' : Option (List ℕ)) → ((text : List ℕ) → P text → Q text) → WroteFront P taken taken' → WroteFront Q taken taken'
+front_of P Q taken taken' f h = record { front = h.front; left = h.left; is = f (h.front ++ h.left) h.is; written = h.written }
+
+pub kept_or_front : (P Q : List ℕ → Type 0) (taken taken' : Option (List ℕ)) → ((text : List ℕ) → P text → Q text)
+    → Keeps taken taken' ⊎ WroteFront P taken taken' → Keeps taken taken' ⊎ WroteFront Q taken taken'
+kept_or_front P Q taken taken' f (inl h) = inl h
+kept_or_front P Q taken taken' f (inr h) = inr (front_of P Q taken taken' f h)
+
+-- the stop and the fault behind it
+pub same_stop : {T E : Type 0} (a b : E) → IsErrOf {T = T} {E = E} (Err a) b → a ≡ b
+same_stop a b e = cc
+
+pub err_of : {T T' E : Type 0} (a b : E) → IsErrOf {T = T} {E = E} (Err a) b → IsErrOf {T = T'} {E = E} (Err a) b
+err_of a b e = ap Err (same_stop a b e)
+
+-- what an answer leaves, and what an error does
+pub on_ok : {A E : Type 0} (r : Result A E) (P Q : Type 0) → (P → Q) → OnOk r P → OnOk r Q
+on_ok (Ok x) P Q f h = f h
+on_ok (Err e) P Q f h = tt
+
+pub on_err : {A E : Type 0} (r : Result A E) (e : E) (P : Type 0) → r ≡ Err e → OnErr r P → P
+on_err r e P is h = subst (λ (q : Result _ _). OnErr q P) is h

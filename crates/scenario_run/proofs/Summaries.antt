@@ -1,0 +1,81 @@
+-- The run of a generated scenario, whose entries are kept, and in which no transaction is eager.
+use Rattle.std.proofs.Common.{◌≡◌, ℕ, Bool, false, List, [], ◌∷◌, map, Option, None, Some, Result, Ok, Err, IfOk, IfErr, OnErr, refl, sym, ap, subst, ◌∙◌}
+use Rattle.std.specs.List.{list_any, range_with_len}
+use Rattle.txn_set.specs.Set.{Set, IsCompiled}
+use Rattle.txn_compiler.specs.declared.error.CompileError.{CompileError}
+use Rattle.txn_compiler.specs.Refusal.{compile_refusal}
+use Rattle.txn_compiler.proofs.Verdict.{compiled-unless-refused}
+use Rattle.step_journal.specs.declared.entry.Entry.{Entry}
+use Rattle.sim_history.specs.Sim.{Body, Workload, IsSim}
+use Rattle.sim_run.specs.Workloads.{workload}
+use Rattle.step_script.specs.declared.script.Script.{Script}
+use Rattle.step_script.specs.Scripts.{next_of}
+use Rattle.scenario.specs.declared.releases.Releases.{Releases}
+use Rattle.scenario.specs.Shown.{Shown, set_of}
+use Rattle.scenario.specs.Scenarios.{IsScenario}
+use Rattle.scenario.specs.Releases.{is_eager, eager_of, fixed_ticks}
+use Rattle.eager_laws.specs.Plannable.{own_of}
+use Rattle.eager_laws.specs.Laws.{NoneEager}
+use Rattle.workload_laws.specs.Runs.{workload_of}
+use Rattle.run_report.specs.Summary.{summary_of}
+use Rattle.step_journal.specs.History.{IsLegal}
+use Rattle.scenario_writer.specs.Generated.{generated_of, releases_each, each}
+use Rattle.scenario_run.specs.Runs.{Declares, functions_of, own_at, IsSummaryBy, IsLoadText}
+use Rattle.scenario_run.proofs.Owned.{own_is}
+use Rattle.scenario_run.proofs.Ready.{moved, ticks_same}
+use Rattle.command_replies.proofs.Compiles.{lists}
+
+pub not_refused : (s : Shown) → IsScenario s → IsCompiled (set_of s) → compile_refusal (set_of s) ≡ None
+not_refused s is ok = (compiled-unless-refused (set_of s) (lists s is)).1 ok
+
+pub refused_by : {A E : Type 0} (r : Result A E) (e : E) (P : E → Type 0) → r ≡ Err e → IfErr r P → P e
+refused_by r e P is h = subst (λ (q : Result _ _). IfErr q P) is h
+
+pub never : {A : Type 0} (o : Option A) (x : A) → o ≡ None → o ≡ Some x → ⊥
+never o x none some = cc
+
+pub summarized : {A E : Type 0} (items : A → List ℕ) (r : Result A E) (w : Workload) (set : Set) (history kept : List Entry) → set ≡ w.set → kept ≡ history → IsSim w history
+    → IfOk r (λ t. items t ≡ summary_of set kept) → IfOk r (λ t. IsSummaryBy w (items t))
+summarized items (Ok t) w set history kept e f sim h = record {
+  history = history;
+  sim = sim;
+  written = h ∙ (ap (λ (s : Set). summary_of s kept) e ∙ ap (summary_of w.set) f);
+}
+summarized items (Err e) w set history kept f g sim h = tt
+
+-- the summary of what a scenario declares is that of its workload
+pub summary_as : (set : Set) (scripts : List Script) (releases : List Releases) (d : Declares set scripts releases)
+    → (scripts' : List Script) (ticks : List (List ℕ)) (text : List ℕ) → scripts' ≡ scripts → ticks ≡ fixed_ticks set.txns releases
+    → IsSummaryBy (workload set (functions_of scripts') ticks) text → IsSummaryBy (workload_of d.scenario) text
+summary_as set scripts releases d scripts' ticks text e g h =
+    let s = d.scenario in
+    moved (λ w own. IsSummaryBy w text) set (set_of s) (functions_of scripts') (map next_of s.programs) ticks (fixed_ticks s.txns s.releases) (λ tx. 0) (λ tx. 0) d.set_is
+    (ap functions_of e ∙ ap (map next_of) d.programs_are) (ticks_same set scripts releases d ticks g) refl h
+
+pub legal_as : (set set' : Set) (h kept : List Entry) → set' ≡ set → kept ≡ h → IsLegal set h → IsLegal set' kept
+legal_as set set' h kept e f legal = subst (λ (q : Set). IsLegal q kept) (sym e) (subst (IsLegal set) (sym f) legal)
+
+-- the text of the generated scenario's run
+pub load_text : (n : ℕ) (s : Shown) (text text' : List ℕ) → s ≡ generated_of n
+    → text' ≡ text → IsSummaryBy (workload_of s) text → IsLoadText n text'
+load_text n s text text' e f h =
+    let h' : IsSummaryBy (workload_of (generated_of n)) text' = subst (λ (q : Shown). IsSummaryBy (workload_of q) text') e (subst (λ (t : List ℕ). IsSummaryBy (workload_of s) t) (sym f) h) in
+    record { history = h'.history; sim = h'.sim; written = h'.written }
+
+pub summary_on_set : (set set' : Set) (bodies : List Body) (ticks : List (List ℕ)) (text : List ℕ) → set' ≡ set → IsSummaryBy (workload set' bodies ticks) text → IsSummaryBy (workload set bodies ticks) text
+summary_on_set set set' bodies ticks text e h = subst (λ (q : Set). IsSummaryBy (workload q bodies ticks) text) e h
+
+calm_from : (ns : List ℕ) → list_any is_eager (map releases_each ns) ≡ false
+calm_from [] = refl
+calm_from (n ∷ ns) = calm_from ns
+
+releases_of_generated : (n : ℕ) → (generated_of n).releases ≡ each releases_each n
+unfolding generated_of
+releases_of_generated n = refl
+
+-- no transaction of the generated scenario is eager
+pub generated_own : NoneEager → (n : ℕ) (s : Shown) (own : List ℕ) → s ≡ generated_of n → own ≡ map eager_of s.releases → (tx : ℕ) → own_at own tx ≡ 0
+generated_own none_eager n s own e f tx =
+    let calm : list_any is_eager s.releases ≡ false =
+    ap (λ (q : Shown). list_any is_eager q.releases) e ∙ (ap (list_any is_eager) (releases_of_generated n) ∙ calm_from (range_with_len 0 n)) in
+    ap (λ (o : ℕ → ℕ). o tx) (own_is s own f) ∙ none_eager s calm tx

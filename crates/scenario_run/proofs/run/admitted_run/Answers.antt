@@ -1,0 +1,84 @@
+use Rattle.std.proofs.Common.{rules, ◌≡◌, ℕ, List, None, true, false, refl, sym, ap, ◌∙◌}
+use Rattle.txn_compiler.specs.Refusal.{compile_refusal}
+use Rattle.set_admission.specs.Admission.{refusal}
+use Rattle.txn_set.specs.Set.{Set}
+use Rattle.scenario.specs.Shown.{Shown, shown, set_of}
+use Rattle.scenario.specs.Releases.{fixed_ticks}
+use Rattle.sim_run.specs.Workloads.{workload}
+use Rattle.plant_report.specs.Eager.{IsRunTextBy}
+use Rattle.command_replies.specs.declared.status.Status.TheVariants as statuses
+use Rattle.command_replies.proofs.Replying.{taken}
+use Rattle.scenario_run.specs.Runs.{Declares, own_at, functions_of}
+use Rattle.scenario_run.specs.Replies.{RunText}
+use Rattle.scenario_run.proofs.Ready.{text_of, room_is, wrote_of, front_of, kept_or_front, err_of}
+use Rattle.scenario_run.proofs.Replying.{admitted_reply}
+use Rattle.scenario_run.proofs.run.admitted_run.Goals as goal
+
+pub write_admitted-requires-clause-entries : goal.write_admitted-requires-clause-entries
+write_admitted-requires-clause-entries g c κs within =
+    let s : Shown = shown c.args.scenario in
+    let set_is : c.in-Ok.set ≡ set_of s = taken c.in_ok-set.field-0 c.in-Ok.set (λ set. set ≡ set_of s) c.in-Ok.is c.in_ok-set.ensures.set in
+    let none : compile_refusal (set_of s) ≡ None = taken c.in_ok-set.field-0 c.in-Ok.set (λ set. compile_refusal (set_of s) ≡ None) c.in-Ok.is c.in_ok-set.ensures.passed in
+    let same : c.in-Ok-2.set ≡ c.in-Ok.set = taken c.in_ok-set-2.field-0 c.in-Ok-2.set (λ a. a ≡ c.in-Ok.set) c.in-Ok-2.is c.in_ok-set-2.ensures.set in
+    let admits : refusal c.in-Ok.set ≡ None = taken c.in_ok-set-2.field-0 c.in-Ok-2.set (λ a. refusal c.in-Ok.set ≡ None) c.in-Ok-2.is c.in_ok-set-2.ensures.passed in
+    let on : c.set-2.result.now ≡ c.in-Ok-2.set = search rules in
+    let ticks : c.in_ok-bodies.bodies.ticks.items ≡ fixed_ticks c.in-Ok-2.set.txns c.args.scenario.releases =
+    c.in_ok-bodies.ensures.ticks ∙ ap (λ (q : Set). fixed_ticks q.txns c.args.scenario.releases) on in
+    let d : Declares c.in-Ok-2.set c.args.scenario.scripts c.args.scenario.releases =
+    record { scenario = s; is = c.requires.scenario; set_is = same ∙ set_is; programs_are = refl; releases_are = refl } in
+    room_is c.scenario_plans_next.ensures.room c.in-Ok-2.set c.args.scenario.scripts c.args.scenario.releases d c.in_ok-bodies.bodies.scripts.items c.in_ok-bodies.bodies.ticks.items c.in_ok-bodies.bodies.own.items
+    c.in_ok-bodies.ensures.scripts ticks c.in_ok-bodies.ensures.own
+
+pub returns-in-Ok-write_admitted-clause-whole : goal.returns-in-Ok-write_admitted-clause-whole
+returns-in-Ok-write_admitted-clause-whole g c = λ done.
+    let s : Shown = shown c.args.scenario in
+    let set_is : c.in-Ok.set ≡ set_of s = taken c.in_ok-set.field-0 c.in-Ok.set (λ set. set ≡ set_of s) c.in-Ok.is c.in_ok-set.ensures.set in
+    let none : compile_refusal (set_of s) ≡ None = taken c.in_ok-set.field-0 c.in-Ok.set (λ set. compile_refusal (set_of s) ≡ None) c.in-Ok.is c.in_ok-set.ensures.passed in
+    let same : c.in-Ok-2.set ≡ c.in-Ok.set = taken c.in_ok-set-2.field-0 c.in-Ok-2.set (λ a. a ≡ c.in-Ok.set) c.in-Ok-2.is c.in_ok-set-2.ensures.set in
+    let admits : refusal c.in-Ok.set ≡ None = taken c.in_ok-set-2.field-0 c.in-Ok-2.set (λ a. refusal c.in-Ok.set ≡ None) c.in-Ok-2.is c.in_ok-set-2.ensures.passed in
+    let on : c.set-2.result.now ≡ c.in-Ok-2.set = search rules in
+    let ticks : c.in_ok-bodies.bodies.ticks.items ≡ fixed_ticks c.in-Ok-2.set.txns c.args.scenario.releases =
+    c.in_ok-bodies.ensures.ticks ∙ ap (λ (q : Set). fixed_ticks q.txns c.args.scenario.releases) on in
+    let d : Declares c.in-Ok-2.set c.args.scenario.scripts c.args.scenario.releases =
+    record { scenario = s; is = c.requires.scenario; set_is = same ∙ set_is; programs_are = refl; releases_are = refl } in
+    wrote_of (λ x. IsRunTextBy s.names true (workload c.in-Ok-2.set (functions_of c.in_ok-bodies.bodies.scripts.items) c.in_ok-bodies.bodies.ticks.items) (own_at c.in_ok-bodies.bodies.own.items) x) (RunText false s) _ _
+    (λ text h. admitted_reply c.scenario_is_plannable.ensures.none_eager s statuses.Ok text c.requires.scenario none (ap refusal (sym set_is) ∙ admits) refl
+    (text_of s.names true c.in-Ok-2.set c.args.scenario.scripts c.args.scenario.releases d c.in_ok-bodies.bodies.scripts.items c.in_ok-bodies.bodies.ticks.items c.in_ok-bodies.bodies.own.items text
+    c.in_ok-bodies.ensures.scripts ticks c.in_ok-bodies.ensures.own h))
+    (c.in-Ok-write_admitted.ensures.whole)
+
+pub returns-clause-cut : goal.returns-clause-cut
+returns-clause-cut g c = λ is.
+    let s : Shown = shown c.args.scenario in
+    let set_is : c.in-Ok.set ≡ set_of s = taken c.in_ok-set.field-0 c.in-Ok.set (λ set. set ≡ set_of s) c.in-Ok.is c.in_ok-set.ensures.set in
+    let none : compile_refusal (set_of s) ≡ None = taken c.in_ok-set.field-0 c.in-Ok.set (λ set. compile_refusal (set_of s) ≡ None) c.in-Ok.is c.in_ok-set.ensures.passed in
+    let same : c.in-Ok-2.set ≡ c.in-Ok.set = taken c.in_ok-set-2.field-0 c.in-Ok-2.set (λ a. a ≡ c.in-Ok.set) c.in-Ok-2.is c.in_ok-set-2.ensures.set in
+    let admits : refusal c.in-Ok.set ≡ None = taken c.in_ok-set-2.field-0 c.in-Ok-2.set (λ a. refusal c.in-Ok.set ≡ None) c.in-Ok-2.is c.in_ok-set-2.ensures.passed in
+    let on : c.set-2.result.now ≡ c.in-Ok-2.set = search rules in
+    let ticks : c.in_ok-bodies.bodies.ticks.items ≡ fixed_ticks c.in-Ok-2.set.txns c.args.scenario.releases =
+    c.in_ok-bodies.ensures.ticks ∙ ap (λ (q : Set). fixed_ticks q.txns c.args.scenario.releases) on in
+    let d : Declares c.in-Ok-2.set c.args.scenario.scripts c.args.scenario.releases =
+    record { scenario = s; is = c.requires.scenario; set_is = same ∙ set_is; programs_are = refl; releases_are = refl } in
+    front_of (λ x. IsRunTextBy s.names true (workload c.in-Ok-2.set (functions_of c.in_ok-bodies.bodies.scripts.items) c.in_ok-bodies.bodies.ticks.items) (own_at c.in_ok-bodies.bodies.own.items) x) (RunText false s) _ _
+    (λ text h. admitted_reply c.scenario_is_plannable.ensures.none_eager s statuses.Ok text c.requires.scenario none (ap refusal (sym set_is) ∙ admits) refl
+    (text_of s.names true c.in-Ok-2.set c.args.scenario.scripts c.args.scenario.releases d c.in_ok-bodies.bodies.scripts.items c.in_ok-bodies.bodies.ticks.items c.in_ok-bodies.bodies.own.items text
+    c.in_ok-bodies.ensures.scripts ticks c.in_ok-bodies.ensures.own h))
+    (c.in-Err-write_admitted.ensures.cut (err_of _ _ is))
+
+pub returns-clause-short : goal.returns-clause-short
+returns-clause-short g c = λ is.
+    let s : Shown = shown c.args.scenario in
+    let set_is : c.in-Ok.set ≡ set_of s = taken c.in_ok-set.field-0 c.in-Ok.set (λ set. set ≡ set_of s) c.in-Ok.is c.in_ok-set.ensures.set in
+    let none : compile_refusal (set_of s) ≡ None = taken c.in_ok-set.field-0 c.in-Ok.set (λ set. compile_refusal (set_of s) ≡ None) c.in-Ok.is c.in_ok-set.ensures.passed in
+    let same : c.in-Ok-2.set ≡ c.in-Ok.set = taken c.in_ok-set-2.field-0 c.in-Ok-2.set (λ a. a ≡ c.in-Ok.set) c.in-Ok-2.is c.in_ok-set-2.ensures.set in
+    let admits : refusal c.in-Ok.set ≡ None = taken c.in_ok-set-2.field-0 c.in-Ok-2.set (λ a. refusal c.in-Ok.set ≡ None) c.in-Ok-2.is c.in_ok-set-2.ensures.passed in
+    let on : c.set-2.result.now ≡ c.in-Ok-2.set = search rules in
+    let ticks : c.in_ok-bodies.bodies.ticks.items ≡ fixed_ticks c.in-Ok-2.set.txns c.args.scenario.releases =
+    c.in_ok-bodies.ensures.ticks ∙ ap (λ (q : Set). fixed_ticks q.txns c.args.scenario.releases) on in
+    let d : Declares c.in-Ok-2.set c.args.scenario.scripts c.args.scenario.releases =
+    record { scenario = s; is = c.requires.scenario; set_is = same ∙ set_is; programs_are = refl; releases_are = refl } in
+    kept_or_front (λ x. IsRunTextBy s.names true (workload c.in-Ok-2.set (functions_of c.in_ok-bodies.bodies.scripts.items) c.in_ok-bodies.bodies.ticks.items) (own_at c.in_ok-bodies.bodies.own.items) x) (RunText false s) _ _
+    (λ text h. admitted_reply c.scenario_is_plannable.ensures.none_eager s statuses.Ok text c.requires.scenario none (ap refusal (sym set_is) ∙ admits) refl
+    (text_of s.names true c.in-Ok-2.set c.args.scenario.scripts c.args.scenario.releases d c.in_ok-bodies.bodies.scripts.items c.in_ok-bodies.bodies.ticks.items c.in_ok-bodies.bodies.own.items text
+    c.in_ok-bodies.ensures.scripts ticks c.in_ok-bodies.ensures.own h))
+    (c.in-Err-write_admitted.ensures.short (err_of _ _ is))

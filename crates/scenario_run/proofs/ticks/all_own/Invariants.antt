@@ -1,0 +1,6 @@
+use Rattle.std.proofs.Common.{◌≡◌, ◌++◌, drop, map}
+use Rattle.scenario.specs.Releases.{eager_of}
+use Rattle.scenario_run.proofs.ticks.all_own.Given as goal
+
+abbrev pub invariant-loop-list : goal.invariant-loop-list
+invariant-loop-list l = l.own.items ++ map eager_of (drop l.list-index l.releases) ≡ map eager_of l.releases

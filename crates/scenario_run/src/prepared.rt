@@ -1,0 +1,60 @@
+//! What a run has but its board.
+ghost use Rattle.std.specs.Prelude.{◌≡◌, ◌+◌, ◌≤◌, map, length, IfOk};
+ghost use Rattle.std.specs.List.{sum};
+ghost use Rattle.scenario.specs.Releases.{fixed_ticks, eager_of};
+ghost use Rattle.scenario_run.specs.Runs.{Declares, IsReady};
+
+use crate::ticks::{all_fixed, all_own, count, count_own};
+use eager_laws::scenario_is_plannable;
+use rt_base::{List, OutOfMemory, Tick};
+use scenario::Releases;
+use std::alloc::Global;
+use step_script::Script;
+use txn_set::CompiledSet;
+
+/// How many entries the board of a run keeps at most.
+pub(crate) const BOARD_ROOM: usize = 4_096;
+
+/// Of each transaction its script, its fixed ticks, and how many jobs it plans itself.
+#[derive(Drop)]
+pub(crate) struct Bodies {
+    pub(crate) scripts: Vec<Script>,
+    pub(crate) ticks: Vec<List<Tick>>,
+    pub(crate) own: Vec<u32>,
+}
+
+impl Bodies {
+    /// How many jobs there are, eager ones too.
+    pub(crate) fn jobs(&self) -> usize
+        requires fixed { sum (map length self.now.ticks.items) ≤ 65536 }
+        requires eager { sum self.now.own.items ≤ 65536 }
+        ensures { result ≡ sum (map length self.now.ticks.items) + sum self.now.own.items }
+    {
+        count(&self.ticks) + count_own(&self.own)
+    }
+}
+
+/// The scripts, the fixed ticks of the releases, and the eager jobs.
+pub(crate) fn prepared(
+    alloc: Global,
+    set: &CompiledSet,
+    scripts: List<Script>,
+    releases: &List<Releases>,
+) -> Result<Bodies, OutOfMemory>
+    requires { Declares set.now scripts releases.now }
+    ensures scripts { IfOk result (λ b. b.scripts.items ≡ scripts) }
+    ensures ticks { IfOk result (λ b. b.ticks.items ≡ fixed_ticks set.now.txns releases.now) }
+    ensures own { IfOk result (λ b. b.own.items ≡ map eager_of releases.now) }
+    ensures ready { IfOk result (λ b. IsReady set.now b.scripts.items b.ticks.items b.own.items) }
+{
+    set.is_compiled();
+    scenario_is_plannable();
+    let scripts = scripts.into_vec();
+    let ticks = all_fixed(alloc, set.txns(), releases.as_slice())?;
+    let own = all_own(alloc, releases.as_slice())?;
+    Ok(Bodies {
+        scripts,
+        ticks,
+        own,
+    })
+}

@@ -1,0 +1,111 @@
+//! The fixed releases of a scenario, and its eager jobs.
+ghost use Rattle.std.specs.Prelude.{◌≡◌, ◌≤◌, ◌<◌, ◌^◌, ℕ, length, map, IfOk, true, false};
+ghost use Rattle.std.specs.List.{All, sum};
+ghost use Rattle.scenario.specs.Releases.{jobs_of, eager_of, ticks_of, total_jobs, fixed_ticks};
+ghost use Rattle.scenario.specs.Scenarios.{HasTextTimes};
+ghost use Rattle.scenario_run.specs.Runs.{own_at};
+
+use rt_base::{List, OutOfMemory, Tick};
+use scenario::Releases;
+use std::alloc::Global;
+use txn_set::TxnDecl;
+
+// So many ticks, each a period after the one before.
+fn periodic(alloc: Global, txn: &TxnDecl, jobs: u32) -> Result<List<Tick>, OutOfMemory>
+    requires times { HasTextTimes txn.now }
+    requires few { jobs ≤ 65536 }
+    ensures { IfOk result (λ l. l ≡ ticks_of txn.now (Releases.Jobs jobs)) }
+{
+    let mut ticks = Vec::with_capacity(alloc, jobs as usize)?;
+    for k in 0..u64::from(jobs) {
+        ticks.push(txn.offset + k * txn.period)?;
+    }
+    Ok(List::of(ticks))
+}
+
+// The fixed ticks of one transaction.
+fn fixed(alloc: Global, txn: &TxnDecl, releases: &Releases) -> Result<List<Tick>, OutOfMemory>
+    requires times { HasTextTimes txn.now }
+    requires few { jobs_of releases.now ≤ 65536 }
+    ensures { IfOk result (λ l. l ≡ ticks_of txn.now releases.now) }
+{
+    match releases {
+        Releases::At(ticks) => Ok(List::of(Vec::from_slice(alloc, ticks.as_slice())?)),
+        Releases::Jobs(jobs) => periodic(alloc, txn, *jobs),
+        Releases::Eager(_) => Ok(List::of(Vec::new(alloc))),
+    }
+}
+
+/// The fixed ticks of each transaction.
+pub(crate) fn all_fixed(
+    alloc: Global,
+    txns: &[TxnDecl],
+    releases: &[Releases],
+) -> Result<Vec<List<Tick>>, OutOfMemory>
+    requires times { All HasTextTimes txns.now }
+    requires few { total_jobs releases.now ≤ 65536 }
+    requires each { length releases.now ≡ length txns.now }
+    ensures { IfOk result (λ ticks. ticks.items ≡ fixed_ticks txns.now releases.now) }
+{
+    let mut ticks = Vec::with_capacity(alloc, txns.len())?;
+    for i in 0..txns.len() {
+        ticks.push(fixed(alloc, &txns[i], &releases[i])?)?;
+    }
+    Ok(ticks)
+}
+
+/// How many ticks there are in all.
+pub(crate) fn count(ticks: &[List<Tick>]) -> usize
+    requires { sum (map length ticks.now) ≤ 65536 }
+    ensures { result ≡ sum (map length ticks.now) }
+{
+    let mut count = 0;
+    for list in ticks {
+        count += list.as_slice().len();
+    }
+    count
+}
+
+fn eager_jobs(releases: &Releases) -> u32
+    ensures { result ≡ eager_of releases.now }
+{
+    match releases {
+        Releases::Eager(jobs) => *jobs,
+        Releases::At(_) | Releases::Jobs(_) => 0,
+    }
+}
+
+/// How many jobs each transaction plans itself.
+pub(crate) fn all_own(alloc: Global, releases: &[Releases]) -> Result<Vec<u32>, OutOfMemory>
+    ensures { IfOk result (λ own. own.items ≡ map eager_of releases.now) }
+{
+    let mut own = Vec::with_capacity(alloc, releases.len())?;
+    for list in releases {
+        own.push(eager_jobs(list))?;
+    }
+    Ok(own)
+}
+
+/// How many jobs the transactions plan themselves in all.
+pub(crate) fn count_own(own: &[u32]) -> usize
+    requires { sum own.now ≤ 65536 }
+    ensures { result ≡ sum own.now }
+{
+    let mut count = 0;
+    for jobs in own {
+        count += *jobs as usize;
+    }
+    count
+}
+
+/// Whether no transaction plans a job itself.
+pub(crate) fn none_own(own: &[u32]) -> bool
+    ensures { result ≡ true → (tx : ℕ) → own_at own.now tx ≡ 0 }
+{
+    for jobs in own {
+        if *jobs > 0 {
+            return false;
+        }
+    }
+    true
+}
