@@ -1,6 +1,5 @@
 -- What the laws say of the run of a scenario.
-use Rattle.std.proofs.Common.{◌≡◌, ℕ, Bool, true, false, not, List, Option, None}
-use Rattle.rt_base.specs.declared.ids.JobId.{JobId}
+use Rattle.std.proofs.Common.{◌≡◌, ℕ, Bool, true, false, not, List, None}
 use Rattle.txn_set.specs.Set.{Set, IsCompiled}
 use Rattle.step_journal.specs.declared.entry.Entry.{Entry}
 use Rattle.step_journal.specs.History.{IsLegal}

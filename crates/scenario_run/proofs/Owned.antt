@@ -1,5 +1,5 @@
 -- How many jobs each transaction plans itself.
-use Rattle.std.proofs.Common.{◌≡◌, ℕ, zero, suc, ◌+◌, List, [], ◌∷◌, length, map, get_or, refl, sym, ap, ◌∙◌, arith}
+use Rattle.std.proofs.Common.{◌≡◌, ℕ, zero, suc, ◌+◌, List, [], ◌∷◌, length, map, refl, sym, ap, ◌∙◌, arith}
 use mathlib.Core.Path.{fun_ext}
 use Rattle.std.specs.List.{sum, range_with_len}
 use Rattle.std.proofs.Math.ListN.{get_or-map}
@@ -7,7 +7,6 @@ use Rattle.std.proofs.lemmas.List.Sums.{sum_by-cons}
 use Rattle.std.proofs.lemmas.List.FromFn.{sum_by-map-range_with_len_more}
 use Rattle.txn_set.specs.Set.{Set}
 use Rattle.counting_laws.proofs.Sums.{sum_below, sum_of, sum_places}
-use Rattle.scenario.specs.declared.releases.Releases.{Releases}
 use Rattle.scenario.specs.declared.releases.Releases.TheVariants.{At}
 use Rattle.scenario.specs.Releases.{eager_of}
 use Rattle.scenario.specs.Shown.{Shown}

@@ -1,5 +1,5 @@
 -- What a scenario declares can be run, and what its run leaves.
-use Rattle.std.proofs.Common.{◌≡◌, ◌⊎◌, inl, inr, ℕ, ◌+◌, ◌<◌, ◌≤◌, Bool, List, [], ◌∷◌, ◌++◌, map, Option, Result, Ok, Err, OnOk, OnErr, refl, ap, sym, subst, ◌∙◌, length, arith}
+use Rattle.std.proofs.Common.{◌≡◌, ◌⊎◌, inl, inr, ℕ, ◌+◌, ◌<◌, ◌≤◌, Bool, List, [], ◌∷◌, ◌++◌, map, Option, Result, Ok, Err, OnOk, refl, ap, sym, subst, ◌∙◌, length, arith}
 use Rattle.std.specs.Result.{IsErrOf}
 use Rattle.std.specs.Io.KnownBytes.{Keeps}
 use Rattle.std.proofs.lemmas.List.{length-map}
@@ -11,7 +11,7 @@ use Rattle.counting_laws.specs.Counting.{room_of_jobs}
 use Rattle.sim_history.specs.Sim.{Body, Workload}
 use Rattle.sim_run.specs.Workloads.{workload, ticks_of, AreAccepted, IsObedient}
 use Rattle.scenario.specs.declared.releases.Releases.{Releases}
-use Rattle.scenario.specs.Shown.{Shown, set_of}
+use Rattle.scenario.specs.Shown.{set_of}
 use Rattle.scenario.specs.Releases.{eager_of, fixed_ticks}
 use Rattle.std.specs.List.{sum}
 use Rattle.eager_laws.specs.Plannable.{ArePlannable, own_jobs, own_of}
@@ -156,10 +156,7 @@ same_stop a b e = cc
 pub err_of : {T T' E : Type 0} (a b : E) → IsErrOf {T = T} {E = E} (Err a) b → IsErrOf {T = T'} {E = E} (Err a) b
 err_of a b e = ap Err (same_stop a b e)
 
--- what an answer leaves, and what an error does
+-- what an answer leaves
 pub on_ok : {A E : Type 0} (r : Result A E) (P Q : Type 0) → (P → Q) → OnOk r P → OnOk r Q
 on_ok (Ok x) P Q f h = f h
 on_ok (Err e) P Q f h = tt
-
-pub on_err : {A E : Type 0} (r : Result A E) (e : E) (P : Type 0) → r ≡ Err e → OnErr r P → P
-on_err r e P is h = subst (λ (q : Result _ _). OnErr q P) is h

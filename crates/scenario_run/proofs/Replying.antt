@@ -1,6 +1,5 @@
 -- The replies to a scenario from what was found of it.
-use Rattle.std.proofs.Common.{◌≡◌, ℕ, Bool, true, false, List, Option, None, Result, Ok, sym, subst}
-use Rattle.std.specs.Prelude.{IfOk}
+use Rattle.std.proofs.Common.{◌≡◌, ℕ, true, false, List, Option, None, sym, subst}
 use Rattle.txn_compiler.specs.Refusal.{compile_refusal}
 use Rattle.txn_compiler.specs.declared.error.CompileError.{CompileError}
 use Rattle.set_admission.specs.Admission.{refusal}

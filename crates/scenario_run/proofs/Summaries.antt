@@ -1,8 +1,7 @@
 -- The run of a generated scenario, whose entries are kept, and in which no transaction is eager.
-use Rattle.std.proofs.Common.{◌≡◌, ℕ, Bool, false, List, [], ◌∷◌, map, Option, None, Some, Result, Ok, Err, IfOk, IfErr, OnErr, refl, sym, ap, subst, ◌∙◌}
+use Rattle.std.proofs.Common.{◌≡◌, ℕ, false, List, [], ◌∷◌, map, Option, None, Some, Result, Ok, Err, IfOk, IfErr, refl, sym, ap, subst, ◌∙◌}
 use Rattle.std.specs.List.{list_any, range_with_len}
 use Rattle.txn_set.specs.Set.{Set, IsCompiled}
-use Rattle.txn_compiler.specs.declared.error.CompileError.{CompileError}
 use Rattle.txn_compiler.specs.Refusal.{compile_refusal}
 use Rattle.txn_compiler.proofs.Verdict.{compiled-unless-refused}
 use Rattle.step_journal.specs.declared.entry.Entry.{Entry}
@@ -14,7 +13,6 @@ use Rattle.scenario.specs.declared.releases.Releases.{Releases}
 use Rattle.scenario.specs.Shown.{Shown, set_of}
 use Rattle.scenario.specs.Scenarios.{IsScenario}
 use Rattle.scenario.specs.Releases.{is_eager, eager_of, fixed_ticks}
-use Rattle.eager_laws.specs.Plannable.{own_of}
 use Rattle.eager_laws.specs.Laws.{NoneEager}
 use Rattle.workload_laws.specs.Runs.{workload_of}
 use Rattle.run_report.specs.Summary.{summary_of}

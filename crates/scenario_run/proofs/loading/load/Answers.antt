@@ -1,10 +1,8 @@
-use Rattle.std.proofs.Common.{rules, ◌≡◌, ◌≤◌, ℕ, List, None, Some, map, length, refl, ap, ◌∙◌}
-use Rattle.txn_set.specs.Set.{Set}
+use Rattle.std.proofs.Common.{◌≡◌, Some, map, refl}
 use Rattle.txn_compiler.specs.Refusal.{compile_refusal}
 use Rattle.step_script.specs.Scripts.{program_of}
 use Rattle.scenario.specs.Shown.{Shown, shown, set_of}
-use Rattle.scenario_run.specs.Runs.{Declares, functions_of}
-use Rattle.scenario.specs.Releases.{eager_of}
+use Rattle.scenario_run.specs.Runs.{Declares}
 use Rattle.command_replies.proofs.Replying.{taken}
 use Rattle.scenario_run.proofs.Summaries.{not_refused, refused_by, never, summary_as, summary_on_set, load_text, generated_own}
 use Rattle.scenario_run.proofs.loading.load.Goals as goal

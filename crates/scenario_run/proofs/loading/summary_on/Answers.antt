@@ -1,8 +1,7 @@
 use Rattle.std.proofs.Common.{rules, ◌≡◌, [], List, refl, sym, ap, ◌∙◌}
 use Rattle.step_journal.specs.declared.entry.Entry.{Entry}
-use Rattle.step_script.specs.Scripts.{program_of, next_of}
-use Rattle.sim_history.specs.Sim.{Workload, IsSim}
-use Rattle.sim_run.specs.Workloads.{workload, IsObedient}
+use Rattle.sim_history.specs.Sim.{IsSim}
+use Rattle.sim_run.specs.Workloads.{workload}
 use Rattle.scenario_run.specs.Runs.{functions_of, own_at}
 use Rattle.scenario_run.proofs.Ready.{functions_same, moved, ObedientBy}
 use Rattle.scenario_run.proofs.Summaries.{summarized, legal_as}

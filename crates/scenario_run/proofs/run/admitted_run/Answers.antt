@@ -1,4 +1,4 @@
-use Rattle.std.proofs.Common.{rules, ◌≡◌, ℕ, List, None, true, false, refl, sym, ap, ◌∙◌}
+use Rattle.std.proofs.Common.{rules, ◌≡◌, None, true, false, refl, sym, ap, ◌∙◌}
 use Rattle.txn_compiler.specs.Refusal.{compile_refusal}
 use Rattle.set_admission.specs.Admission.{refusal}
 use Rattle.txn_set.specs.Set.{Set}

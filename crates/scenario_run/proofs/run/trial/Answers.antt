@@ -1,9 +1,6 @@
-use Rattle.std.proofs.Common.{rules, ◌≡◌, ℕ, List, None, true, false, refl, sym, ap, ◌∙◌}
+use Rattle.std.proofs.Common.{◌≡◌, None, true, false, refl}
 use Rattle.txn_compiler.specs.Refusal.{compile_refusal}
-use Rattle.set_admission.specs.Admission.{refusal}
-use Rattle.txn_set.specs.Set.{Set}
 use Rattle.scenario.specs.Shown.{Shown, shown, set_of}
-use Rattle.scenario.specs.Releases.{fixed_ticks}
 use Rattle.sim_run.specs.Workloads.{workload}
 use Rattle.plant_report.specs.Eager.{IsRunTextBy}
 use Rattle.command_replies.specs.declared.status.Status.TheVariants as statuses
