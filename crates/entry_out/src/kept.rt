@@ -62,7 +62,8 @@ impl EntryOut for KeptEntries {
     }
 }
 
-pub(crate) fn append(into: &mut Vec<Entry>, entries: &[Entry])
+/// Appends the entries to a list that has places for them. It costs one move an entry, and takes no memory.
+pub fn append(into: &mut Vec<Entry>, entries: &[Entry])
     requires places { vec_len into.old + length entries.now ≤ vec_capacity into.old }
     ensures items { into.new.items ≡ into.old.items ++ entries.now }
     ensures places { vec_capacity into.new ≡ vec_capacity into.old }

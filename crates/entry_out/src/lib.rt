@@ -1,12 +1,10 @@
 //! Where a run's entries go, piece by piece, while it goes on.
 #![tactic(auto)]
 
-mod capped;
 mod kept;
 mod out;
 
-pub use capped::CappedEntries;
-pub use kept::KeptEntries;
+pub use kept::{KeptEntries, append};
 pub use out::{EntryOut, Stopped};
 
 #[cfg(test)]

@@ -7,7 +7,7 @@ use Rattle.step_journal.specs.declared.entry.Entry.{Entry}
 use Rattle.counting_laws.specs.Counting.{room_of_jobs}
 use Rattle.sim_history.specs.Sim.{Workload}
 use Rattle.sim_run.specs.Workloads.{ticks_of}
-use Rattle.entry_out.specs.Capped.{CappedSeen, IsRefused, stops_of}
+use Rattle.plant_report.specs.Kept.{Roomed, IsRefused, stops_of}
 use Rattle.plant_history.specs.Histories.{IsRunOf}
 use Rattle.eager_laws.specs.Laws.{RunFits}
 use Rattle.plant_run.specs.declared.run.RunFault.{RunFault}
@@ -15,7 +15,7 @@ use Rattle.plant_run.specs.declared.run.RunFault.TheVariants.{Stopped, Memory}
 use Rattle.plant_run.specs.Runs.{IsWholeRun, IsStoppedRun}
 
 -- what an out of so much room got
-abbrev pub Kept : ℕ → CappedSeen → List Entry → Type 0
+abbrev pub Kept : ℕ → Roomed → List Entry → Type 0
 Kept room out story = (out.room ≡ room) × (out.kept ≡ story)
 
 rose_full : (full : Bool) → Rose 0 (stops_of full) → full ≡ true
@@ -33,7 +33,7 @@ too_long : (room kept : ℕ) (full : Bool) (out : List Entry) (piece : List Entr
 too_long room kept true out piece e le h = omega (arith, le, h.over)
 too_long room kept false out piece e le h = cc
 
-pub never_stops : RunFits → (w : Workload) (own : ℕ → ℕ) (room : ℕ) (out out' : CappedSeen) → IsCompiled w.set → Kept room out [] → out.full ≡ false
+pub never_stops : RunFits → (w : Workload) (own : ℕ → ℕ) (room : ℕ) (out out' : Roomed) → IsCompiled w.set → Kept room out [] → out.full ≡ false
     → room_of_jobs w.set.txns (λ tx. length (ticks_of w.releases tx) + own tx) ≤ room
     → IsStoppedRun w own (Kept room out) (Kept room out') (IsRefused out') → Rose (stops_of out.full) (stops_of out'.full) → ⊥
 never_stops run_fits w own room out out' ok fresh going le h rose =
@@ -45,7 +45,7 @@ never_stops run_fits w own room out out' ok fresh going le h rose =
     (omega (arith, got.0, same, pieces_within h.passed h.missed h.history, fits, le)) h.is_lost
 
 -- what it kept of a whole run
-pub kept_run : (w : Workload) (own : ℕ → ℕ) (room : ℕ) (stands : List Entry → Type 0) (out out' : CappedSeen) → Kept room out []
+pub kept_run : (w : Workload) (own : ℕ → ℕ) (room : ℕ) (stands : List Entry → Type 0) (out out' : Roomed) → Kept room out []
     → IsWholeRun w own stands (Kept room out) (Kept room out') → IsRunOf w own out'.kept × stands out'.kept
 kept_run w own room stands out out' fresh h =
     let is : out'.kept ≡ h.history = (h.grown [] fresh).1 in

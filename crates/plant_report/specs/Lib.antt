@@ -1,1 +1,2 @@
 pub mod Eager
+pub mod Kept

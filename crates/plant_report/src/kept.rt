@@ -1,5 +1,5 @@
 //! The history of a run by workers, kept until the run is over.
-ghost use Rattle.std.specs.Prelude.{◌≡◌, ℕ, ◌+◌, ◌<◌, ◌≤◌, ◌++◌, [], length, map, false, vec_len, vec_capacity, IfOk};
+ghost use Rattle.std.specs.Prelude.{◌≡◌, ℕ, ◌+◌, ◌<◌, ◌≤◌, [], length, map, false, vec_len, vec_capacity, IfOk};
 ghost use Rattle.txn_set.specs.Set.{IsCompiled};
 ghost use Rattle.counting_laws.specs.Counting.{room_of_jobs};
 ghost use Rattle.sim_run.specs.Workloads.{workload, ticks_of, AreAccepted, IsObedient};
@@ -10,7 +10,7 @@ ghost use Rattle.plant_run.specs.declared.run.RunFault.TheVariants as faults;
 
 use board::Board;
 use eager_laws::run_fits;
-use entry_out::{EntryOut, Stopped};
+use entry_out::{EntryOut, Stopped, append};
 use plant_run::{RunFault, run_workers};
 use rt_base::{List, OutOfMemory, Tick};
 use std::alloc::Global;
@@ -43,7 +43,7 @@ pub(crate) struct RunEntries<T> {
 /// It can take every list of entries, since it refuses a piece for which its room does not suffice, and stops.
 impl<T: Roomy> EntryOut for RunEntries<T> {
     ghost use Rattle.std.specs.Prelude.{◌≡◌, ⊤};
-    ghost use Rattle.entry_out.specs.Capped.{IsRefused, stops_of};
+    ghost use Rattle.plant_report.specs.Kept.{IsRefused, stops_of};
 
     ghost got = { λ out story. (out.room ≡ T.room) × (out.entries.items ≡ story) };
 
@@ -61,16 +61,6 @@ impl<T: Roomy> EntryOut for RunEntries<T> {
         }
         append(&mut self.entries, entries);
         Ok(())
-    }
-}
-
-fn append(into: &mut Vec<Entry>, entries: &[Entry])
-    requires places { vec_len into.old + length entries.now ≤ vec_capacity into.old }
-    ensures items { into.new.items ≡ into.old.items ++ entries.now }
-    ensures places { vec_capacity into.new ≡ vec_capacity into.old }
-{
-    for i in 0..entries.len() {
-        into.push_reserved(entries[i]);
     }
 }
 
@@ -128,9 +118,11 @@ fn run_into<
     }
 }
 
-/// Runs a workload by workers on a new board, and answers the board and the history, which has room for so many entries.
-/// It may wait.
-pub(crate) fn keep_run<
+/// Runs a workload on a new board by so many workers, each in a thread of its own where one can be made, and answers the
+/// board and the whole history, kept in a list with room for `entries` entries. A transaction for which `own` has a number
+/// is eager: it plans so many jobs itself, and has no release. `entries` suffices for all jobs, so that want of memory comes
+/// only before the run. It may wait.
+pub fn keep_run<
     R: Threads + Wait + Sync,
     B: Board + Send + Drop,
     Y: Body + Send + Drop,

@@ -8,6 +8,7 @@ mod lines;
 mod written;
 
 pub use eager::write_eager_run;
+pub use kept::keep_run;
 pub use written::write_run;
 
 #[cfg(test)]

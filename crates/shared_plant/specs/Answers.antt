@@ -7,7 +7,7 @@ use Rattle.board.specs.Stories.{noted}
 use Rattle.board.specs.declared.replies.StepReply.{StepReply}
 use Rattle.board.specs.declared.replies.StepReply.TheVariants.{NoJob, NotYet, Undeclared, TooEarly, Unwritten, Full, Blocked, Done}
 use Rattle.turn_cell.specs.Turn.{Begins}
-use Rattle.shared_plant.specs.Seats.{SeatFacts}
+use Rattle.shared_plant.specs.Seats.{PlantFacts, SeatFacts}
 use Rattle.shared_plant.specs.declared.tried.Tried.{Tried}
 use Rattle.shared_plant.specs.declared.tried.Tried.TheVariants.{Busy, Said}
 
@@ -81,25 +81,26 @@ having_drained s story n = record s {
 
 -- The call took the turn once, at a history that begins with all that the seat had seen, and moved its n oldest kept
 -- entries, those from the seat's drained on, to the end of a list: as many as there are, no more than most, and no more
--- than the list has spare places for.
-pub record Drained (set : Set) (most spare : ℕ) (was is : List Entry) (n : ℕ) (old new : SeatFacts) : Type 0 where
+-- than the list has spare places for. The board kept no more than it has room for.
+pub record Drained (p : PlantFacts) (most spare : ℕ) (was is : List Entry) (n : ℕ) (old new : SeatFacts) : Type 0 where
   pub story : List Entry
   pub begins : Begins old.seen story
   pub rises : old.base ≤ old.drained
   pub moved : is ≡ was ++ take n (drop old.drained story)
   pub within : old.drained + n ≤ length story
+  pub fits : length story - old.drained ≤ p.room
   pub count : n ≡ min most (min (length story - old.drained) spare)
   pub after : new ≡ having_drained old story n
-  pub legal : IsLegal set new.seen
+  pub legal : IsLegal p.set new.seen
 
 -- a seat that found the turn taken so many times more
 abbrev pub missed_more : SeatFacts → ℕ → SeatFacts
 missed_more s n = record s { missed = s.missed + n }
 
 -- After some tries that were told Busy one was answered.
-pub record DrainedLate (set : Set) (most spare : ℕ) (was is : List Entry) (n : ℕ) (old new : SeatFacts) : Type 0 where
+pub record DrainedLate (p : PlantFacts) (most spare : ℕ) (was is : List Entry) (n : ℕ) (old new : SeatFacts) : Type 0 where
   pub misses : ℕ
-  pub drained : Drained set most spare was is n (missed_more old misses) new
+  pub drained : Drained p most spare was is n (missed_more old misses) new
 
 abbrev pub IsNotYet : StepReply → Type 0
 IsNotYet (NoJob ended last) = ⊥

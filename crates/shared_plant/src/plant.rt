@@ -207,7 +207,7 @@ impl<B: Board> Plant<B> {
         requires plant { IsOf self.now seat.old }
         requires operator { seat.old.tx ≡ None }
         ensures busy { IsBusy result → (seat.new ≡ missed_once seat.old) × (into.new ≡ into.old) }
-        ensures said { IfSaid result (λ n. Drained self.now.set most (vec_capacity into.old - vec_len into.old) into.old.items into.new.items n seat.old seat.new) }
+        ensures said { IfSaid result (λ n. Drained self.now most (vec_capacity into.old - vec_len into.old) into.old.items into.new.items n seat.old seat.new) }
         ensures places { vec_capacity into.new ≡ vec_capacity into.old }
     {
         let Some(mut taken) = self.cell.try_take(&mut seat.seat) else {
@@ -248,7 +248,7 @@ impl<B: Board> Plant<B> {
     ) -> usize
         requires plant { IsOf self.now seat.old }
         requires operator { seat.old.tx ≡ None }
-        ensures drained { DrainedLate self.now.set most (vec_capacity into.old - vec_len into.old) into.old.items into.new.items result seat.old seat.new }
+        ensures drained { DrainedLate self.now most (vec_capacity into.old - vec_len into.old) into.old.items into.new.items result seat.old seat.new }
         ensures places { vec_capacity into.new ≡ vec_capacity into.old }
     {
         for _ in rt.forever() {

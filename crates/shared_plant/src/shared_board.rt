@@ -106,6 +106,7 @@ impl<B: Board> SharedBoard<B> {
         ensures moved { (story : List Noted) → B.stands self.old.board story → into.new.items ≡ into.old.items ++ take result (drop (B.first self.old.board) story) }
         ensures places { vec_capacity into.new ≡ vec_capacity into.old }
         ensures within { (story : List Noted) → B.stands self.old.board story → B.first self.old.board + result ≤ length story }
+        ensures fits { (story : List Noted) → B.stands self.old.board story → length story - B.first self.old.board ≤ B.room self.old.board }
         ensures after { (story : List Noted) → B.stands self.old.board story → IsNext B.stands B.set B.first self.old.board self.new.board story story }
     {
         self.board.drain(most, into)

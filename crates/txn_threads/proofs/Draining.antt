@@ -3,36 +3,40 @@ use Rattle.std.proofs.Common.{◌≡◌, ℕ, ◌+◌, ◌-◌, ◌≤◌, List,
 use Rattle.std.proofs.lemmas.List.{drop-append-le, take-append-le, drop-drop, length-drop}
 use Rattle.std.proofs.Math.Seq.{take-add}
 use Rattle.step_journal.specs.declared.entry.Entry.{Entry}
-use Rattle.txn_set.specs.Set.{Set}
 use Rattle.turn_cell.specs.Turn.{Begins}
 use Rattle.turn_cell.proofs.Lists.{whole, chained}
-use Rattle.shared_plant.specs.Seats.{SeatFacts}
+use Rattle.shared_plant.specs.Seats.{PlantFacts, SeatFacts}
 use Rattle.shared_plant.specs.Answers.{DrainedLate}
 use Rattle.io_edge.specs.Causes.{Rose}
 use Rattle.txn_threads.specs.Runs.{Operated, MayDrain, GotMore, CollectedTo, part}
 
 -- what a drain moved
-pub drained_part : (set : Set) (most spare n : ℕ) (was is : List Entry) (s t : SeatFacts) → DrainedLate set most spare was is n s t → was ≡ [] → is ≡ part t.seen s.drained t.drained
-drained_part set most spare n was is s t d none =
+pub drained_part : (p : PlantFacts) (most spare n : ℕ) (was is : List Entry) (s t : SeatFacts) → DrainedLate p most spare was is n s t → was ≡ [] → is ≡ part t.seen s.drained t.drained
+drained_part p most spare n was is s t d none =
     let x = d.drained in
     let number = ap (λ (u : SeatFacts). u.drained) x.after in let seen = ap (λ (u : SeatFacts). u.seen) x.after in
     let count : n ≡ t.drained - s.drained = omega (arith, number) in
     x.moved ∙ (ap (λ l. l ++ take n (drop s.drained x.story)) none ∙ (λ i. take (count i) (drop s.drained (sym seen i))))
 
-pub drained_seen : (set : Set) (most spare n : ℕ) (was is : List Entry) (s t : SeatFacts) → DrainedLate set most spare was is n s t → Begins s.seen t.seen
-drained_seen set most spare n was is s t d = let x = d.drained in subst (Begins s.seen) (sym (ap (λ (u : SeatFacts). u.seen) x.after)) x.begins
+pub drained_seen : (p : PlantFacts) (most spare n : ℕ) (was is : List Entry) (s t : SeatFacts) → DrainedLate p most spare was is n s t → Begins s.seen t.seen
+drained_seen p most spare n was is s t d = let x = d.drained in subst (Begins s.seen) (sym (ap (λ (u : SeatFacts). u.seen) x.after)) x.begins
 
-pub operated_of : (set : Set) (most spare n : ℕ) (was is : List Entry) (s t : SeatFacts) → DrainedLate set most spare was is n s t → Operated s t
-operated_of set most spare n was is s t d = let x = d.drained in let number = ap (λ (u : SeatFacts). u.drained) x.after in record {
+pub operated_of : (p : PlantFacts) (most spare n : ℕ) (was is : List Entry) (s t : SeatFacts) → DrainedLate p most spare was is n s t → Operated s t
+operated_of p most spare n was is s t d = let x = d.drained in let number = ap (λ (u : SeatFacts). u.drained) x.after in record {
   plant = ap (λ (u : SeatFacts). u.plant) x.after;
   tx = ap (λ (u : SeatFacts). u.tx) x.after;
   mine = ap (λ (u : SeatFacts). u.mine) x.after;
-  seen = drained_seen set most spare n was is s t d;
+  seen = drained_seen p most spare n was is s t d;
   more = omega (arith, number);
 }
 
-pub within_of : (set : Set) (most spare n : ℕ) (was is : List Entry) (s t : SeatFacts) → DrainedLate set most spare was is n s t → t.drained ≤ length t.seen
-within_of set most spare n was is s t d = let x = d.drained in let number = ap (λ (u : SeatFacts). u.drained) x.after in let long = ap (λ (u : SeatFacts). length u.seen) x.after in let fits = x.within in omega (arith, number, long, fits)
+pub within_of : (p : PlantFacts) (most spare n : ℕ) (was is : List Entry) (s t : SeatFacts) → DrainedLate p most spare was is n s t → t.drained ≤ length t.seen
+within_of p most spare n was is s t d = let x = d.drained in let number = ap (λ (u : SeatFacts). u.drained) x.after in let long = ap (λ (u : SeatFacts). length u.seen) x.after in let fits = x.within in omega (arith, number, long, fits)
+
+pub all_of : (p : PlantFacts) (most spare n : ℕ) (was is : List Entry) (s t : SeatFacts) → DrainedLate p most spare was is n s t → p.room ≤ spare → p.room ≤ most → t.drained ≡ length t.seen
+all_of p most spare n was is s t d places above =
+    let x = d.drained in let number = ap (λ (u : SeatFacts). u.drained) x.after in let long = ap (λ (u : SeatFacts). length u.seen) x.after in let within = x.within in let fits = x.fits in let count = x.count in
+    omega (arith, number, long, within, fits, count, places, above)
 
 pub part_join : (s t : List Entry) (a b c : ℕ) → Begins s t → a ≤ b → b ≤ c → b ≤ length s → part s a b ++ part t b c ≡ part t a c
 part_join s t a b c g ab bc bl =

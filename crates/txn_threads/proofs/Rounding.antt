@@ -244,6 +244,7 @@ just_met gives p ms (Some k) s h is = subst (λ (x : Halt). MetIn gives p ms x) 
 
 pub if_stop : (c : Came) (P Q : Halt → Type 0) → ((h : Halt) → P h → Q h) → IfStop c P → IfStop c Q
 if_stop came.NoJob P Q f s = tt
+if_stop (came.NotYet tx) P Q f s = tt
 if_stop came.Went P Q f s = tt
 if_stop came.Full P Q f s = tt
 if_stop (came.Stop h) P Q f s = f h s

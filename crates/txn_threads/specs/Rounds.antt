@@ -113,6 +113,7 @@ module _ {B Y : Type 0} (gives : Y → ℕ → List Outcome → Op) (stands : Y 
 -- the stop that a try met
 abbrev pub IfStop : Came → (Halt → Type 0) → Type 0
 IfStop came.NoJob P = Unit {0}
+IfStop (came.NotYet tx) P = Unit {0}
 IfStop came.Went P = Unit {0}
 IfStop came.Full P = Unit {0}
 IfStop (came.Stop h) P = P h

@@ -1,5 +1,5 @@
 -- What a run does: to its members, to the operator's seat, and to the out.
-use Rattle.std.specs.Prelude.{◌≡◌, ℕ, ◌-◌, ◌<◌, ◌≤◌, ◌++◌, [], List, Some, None, Result, Ok, Err, length, take, drop, slice_get}
+use Rattle.std.specs.Prelude.{◌≡◌, ℕ, ◌-◌, ◌<◌, ◌≤◌, ◌++◌, [], List, Some, None, Result, Ok, Err, length, take, drop, slice_get, All}
 use Rattle.rt_base.specs.declared.ids.TxId.{TxId}
 use Rattle.rt_base.specs.declared.operation.Op.{Op}
 use Rattle.rt_base.specs.declared.operation.Outcome.{Outcome}
@@ -85,6 +85,10 @@ IfStopped (Ok x) P Q = Q
 IfStopped (Err (Refused job reply)) P Q = Q
 IfStopped (Err (NoPlan tx e)) P Q = Q
 IfStopped (Err Stopped) P Q = P
+
+-- no worker has a member
+abbrev pub NoMembers : {B Y : Type 0} → List (Worker B Y) → Type 0
+NoMembers ws = All (λ w. length w.members.items ≡ 0) ws
 
 -- The stop of the first worker that met one: the worker keeps it, one of its members met it, and no worker before it met one.
 pub record FirstStop {B Y : Type 0} (gives : Y → ℕ → List Outcome → Op) (p : PlantFacts) (ws : List (Worker B Y)) (h : Halt) : Type 0 where

@@ -94,6 +94,8 @@ impl<B: Board, Y: Body> Member<B, Y> {
 pub struct Worker<B: Board, Y: Body> {
     pub(crate) members: Vec<Member<B, Y>>,
     pub(crate) halt: Option<Halt>,
+    // the place of the member that it tries first
+    pub(crate) first: usize,
 }
 
 impl<B: Board, Y: Body> Worker<B, Y> {
@@ -104,6 +106,7 @@ impl<B: Board, Y: Body> Worker<B, Y> {
         Worker {
             members,
             halt: None,
+            first: 0,
         }
     }
 
@@ -111,7 +114,11 @@ impl<B: Board, Y: Body> Worker<B, Y> {
     pub fn into_members(self) -> Vec<Member<B, Y>>
         ensures parts { result ≡ self.members }
     {
-        let Worker { members, halt: _ } = self;
+        let Worker {
+            members,
+            halt: _,
+            first: _,
+        } = self;
         members
     }
 }

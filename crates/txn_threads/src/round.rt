@@ -1,5 +1,5 @@
 //! A worker's part of a round.
-ghost use Rattle.std.specs.Prelude.{◌≡◌, ◌<◌, ◌+◌, ◌^◌, All, IfSome};
+ghost use Rattle.std.specs.Prelude.{◌≡◌, ◌<◌, ◌+◌, ◌^◌, All, IfSome, length};
 ghost use Rattle.txn_threads.specs.Rounds.{Each, Sits, Ran, Met, MetIn, WorkerSits, WorkerRan, IfStop, IsCause, IsHaltOf, IsPlanHalt, known_after, planned_after};
 ghost use Rattle.txn_threads.specs.declared.member.Halt.TheVariants as stop;
 
@@ -15,6 +15,9 @@ use step_script::Body;
 pub(crate) enum Came {
     // The member's present job is not pending.
     NoJob,
+    // The running job is one of this transaction.
+    NotYet(TxId),
+    // It took a step, or waits for a lock, or found the turn taken.
     Went,
     // The journal is full.
     Full,
@@ -64,6 +67,7 @@ fn came_of(job: JobId, reply: StepReply) -> Came
 {
     match reply {
         StepReply::NoJob { ended: _, last: _ } => Came::NoJob,
+        StepReply::NotYet { running } => Came::NotYet(running.tx),
         StepReply::Full { room: _ } => Came::Full,
         StepReply::Undeclared { item: _ }
         | StepReply::TooEarly { left: _ }
@@ -115,7 +119,7 @@ fn plan_member<B: Board, Y: Body>(plant: &Plant<B>, member: &mut Member<B, Y>) -
         unreachable!()
     };
     match plant.try_plan_next(&mut member.seat, tx) {
-        Tried::Busy => Came::NoJob,
+        Tried::Busy => Came::Went,
         Tried::Said(reply) => {
             member.planned = planned_after(member.planned, &reply);
             came_of_plan(tx, reply)
@@ -168,8 +172,32 @@ fn idle_first<B: Board, Y: Body>(plant: &Plant<B>, members: &mut Vec<Member<B, Y
     idle_member(plant, member)
 }
 
-// A turn of each member. NoJob where all of them answered so.
-fn sweep<B: Board, Y: Body, G: Gate>(
+// The place of the member of a transaction. It looks at each member at most once.
+fn place_of<B: Board, Y: Body>(members: &[Member<B, Y>], tx: TxId) -> Option<usize> {
+    members
+        .iter()
+        .position(|member| member.seat.tx() == Some(tx))
+}
+
+// The turn of an eager member that has jobs to plan.
+fn eager_turn<B: Board, Y: Body, G: Gate>(
+    plant: &Plant<B>,
+    gate: &G,
+    member: &mut Member<B, Y>,
+) -> Came
+    requires sits { Sits Y.gives Y.stands plant.now member.old }
+    ensures ran { Ran Y.gives Y.stands plant.now member.old member.new }
+    ensures met { IfStop result (λ h. Met Y.gives plant.now h member.new) }
+{
+    if member.eager && member.planned < member.jobs {
+        turn(plant, gate, member)
+    } else {
+        Came::NoJob
+    }
+}
+
+// A turn of each eager member that has jobs to plan.
+fn eager_turns<B: Board, Y: Body, G: Gate>(
     plant: &Plant<B>,
     gate: &G,
     members: &mut Vec<Member<B, Y>>,
@@ -178,21 +206,59 @@ fn sweep<B: Board, Y: Body, G: Gate>(
     ensures ran { Each (Ran Y.gives Y.stands plant.now) members.old.items members.new.items }
     ensures met { IfStop result (λ h. MetIn Y.gives plant.now members.new.items h) }
 {
-    let mut none_pending = true;
     for i in 0..members.len() {
         let member = &mut members[i];
-        match turn(plant, gate, member) {
-            Came::NoJob => {}
-            Came::Went => none_pending = false,
+        match eager_turn(plant, gate, member) {
             Came::Full => return Came::Full,
             Came::Stop(halt) => return Came::Stop(halt),
+            _ => {}
         }
     }
-    if none_pending {
-        Came::NoJob
-    } else {
-        Came::Went
+    Came::Went
+}
+
+// The turn of the member at a place.
+fn turn_at<B: Board, Y: Body, G: Gate>(
+    plant: &Plant<B>,
+    gate: &G,
+    members: &mut Vec<Member<B, Y>>,
+    place: usize,
+) -> Came
+    requires sit { All (Sits Y.gives Y.stands plant.now) members.old.items }
+    requires place { place < length members.old.items }
+    ensures ran { Each (Ran Y.gives Y.stands plant.now) members.old.items members.new.items }
+    ensures met { IfStop result (λ h. MetIn Y.gives plant.now members.new.items h) }
+{
+    let member = &mut members[place];
+    turn(plant, gate, member)
+}
+
+// Turns of the members from the one at `first` on, up to one whose job is pending. NoJob where none is. `first` becomes
+// the place of the member whose job runs, as far as the answers tell.
+fn sweep<B: Board, Y: Body, G: Gate>(
+    plant: &Plant<B>,
+    gate: &G,
+    members: &mut Vec<Member<B, Y>>,
+    first: &mut usize,
+) -> Came
+    requires sit { All (Sits Y.gives Y.stands plant.now) members.old.items }
+    ensures ran { Each (Ran Y.gives Y.stands plant.now) members.old.items members.new.items }
+    ensures met { IfStop result (λ h. MetIn Y.gives plant.now members.new.items h) }
+{
+    for _ in 0..members.len() {
+        if *first >= members.len() {
+            *first = 0;
+        }
+        match turn_at(plant, gate, members, *first) {
+            Came::NoJob => *first += 1,
+            Came::NotYet(tx) => {
+                *first = place_of(members.as_slice(), tx).unwrap_or(*first);
+                return Came::Went;
+            }
+            other => return other,
+        }
     }
+    Came::NoJob
 }
 
 // One time through the members.
@@ -200,12 +266,13 @@ fn pass<B: Board, Y: Body, G: Gate>(
     plant: &Plant<B>,
     gate: &G,
     members: &mut Vec<Member<B, Y>>,
+    first: &mut usize,
 ) -> Came
     requires sit { All (Sits Y.gives Y.stands plant.now) members.old.items }
     ensures ran { Each (Ran Y.gives Y.stands plant.now) members.old.items members.new.items }
     ensures met { IfStop result (λ h. MetIn Y.gives plant.now members.new.items h) }
 {
-    match sweep(plant, gate, members) {
+    match sweep(plant, gate, members, first) {
         Came::NoJob => idle_first(plant, members),
         other => other,
     }
@@ -216,16 +283,22 @@ fn passes<B: Board, Y: Body, G: Gate>(
     plant: &Plant<B>,
     gate: &G,
     members: &mut Vec<Member<B, Y>>,
+    first: &mut usize,
 ) -> Option<Halt>
     requires sit { All (Sits Y.gives Y.stands plant.now) members.old.items }
     ensures ran { Each (Ran Y.gives Y.stands plant.now) members.old.items members.new.items }
     ensures met { IfSome result (λ h. MetIn Y.gives plant.now members.new.items h) }
 {
-    for _ in 0..16 {
-        match pass(plant, gate, members) {
-            Came::NoJob | Came::Went => {}
+    match eager_turns(plant, gate, members) {
+        Came::Full => return None,
+        Came::Stop(halt) => return Some(halt),
+        _ => {}
+    }
+    for _ in 1..16 {
+        match pass(plant, gate, members, first) {
             Came::Full => return None,
             Came::Stop(halt) => return Some(halt),
+            _ => {}
         }
     }
     None
@@ -241,6 +314,6 @@ pub(crate) fn round<B: Board, Y: Body, G: Gate>(
     ensures ran { WorkerRan Y.gives Y.stands plant.now worker.old worker.new }
 {
     if worker.halt.is_none() {
-        worker.halt = passes(plant, gate, &mut worker.members);
+        worker.halt = passes(plant, gate, &mut worker.members, &mut worker.first);
     }
 }

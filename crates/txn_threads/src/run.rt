@@ -5,7 +5,7 @@ ghost use Rattle.step_journal.specs.History.{IsLegal};
 ghost use Rattle.shared_plant.specs.Seats.{IsOf};
 ghost use Rattle.io_edge.specs.Causes.{Rose};
 ghost use Rattle.txn_threads.specs.Rounds.{Each, WorkerSits, WorkerRan};
-ghost use Rattle.txn_threads.specs.Runs.{MayRun, HasRun, IsDone, Operated, GotMore, MayDrain, FirstHalt, HaltIs, StopIs, run_stop, IfStopped, Collected, CollectedTo, part, Cleared, WorkerCleared};
+ghost use Rattle.txn_threads.specs.Runs.{MayRun, HasRun, IsDone, Operated, GotMore, MayDrain, FirstHalt, HaltIs, StopIs, run_stop, IfStopped, Collected, CollectedTo, part, Cleared, WorkerCleared, NoMembers};
 
 use crate::gate::Gate;
 use crate::member::{Halt, Member, RunStop, Worker};
@@ -55,6 +55,7 @@ fn drain_all<R: Wait, B: Board, O: EntryOut>(
     requires good { MayDrain (IsLegal plant.now.set) O.got O.good operator.old out.old }
     ensures operated { Operated operator.old operator.new }
     ensures within { operator.new.drained ≤ length operator.new.seen }
+    ensures all { plant.now.room ≤ vec_capacity spare.old → operator.new.drained ≡ length operator.new.seen }
     ensures spare { (spare.new.items ≡ []) × (vec_capacity spare.new ≡ vec_capacity spare.old) }
     ensures stops { O.stops out.old ≤ O.stops out.new }
     ensures ok { IfOk result (λ _. O.lost out.new [] × GotMore O.got out.old out.new (part operator.new.seen operator.old.drained operator.new.drained)) }
@@ -117,7 +118,8 @@ fn all_done<B: Board, Y: Body>(workers: &[Worker<B, Y>]) -> bool
 }
 
 fn has_members<B: Board, Y: Body>(workers: &[Worker<B, Y>]) -> bool
-    ensures { result ≡ false → All (λ w. length w.members.items ≡ 0) workers.now }
+    ensures none { result ≡ false → NoMembers workers.now }
+    ensures some { result ≡ true → NoMembers workers.now → ⊥ }
 {
     for i in 0..workers.len() {
         let worker = &workers[i];
@@ -143,6 +145,7 @@ fn clear_worker<B: Board, Y: Body>(worker: &mut Worker<B, Y>)
 {
     clear_members(&mut worker.members);
     worker.halt = None;
+    worker.first = 0;
 }
 
 fn clear_all<B: Board, Y: Body>(workers: &mut [Worker<B, Y>])
@@ -177,6 +180,7 @@ fn rounds<R: Threads + Wait + Sync, B: Board + Send, Y: Body + Send, G: Gate + S
     ensures stop { IfErr result (λ s. HaltIs workers.new s) }
     ensures operated { Operated operator.old operator.new }
     ensures within { operator.new.drained ≤ length operator.new.seen }
+    ensures all { plant.now.room ≤ vec_capacity spare.old → operator.new.drained ≡ length operator.new.seen }
     ensures good { (story : List Noted) → O.good out.old story → O.good out.new story }
     ensures spare { (spare.new.items ≡ []) × (vec_capacity spare.new ≡ vec_capacity spare.old) }
     ensures stops { O.stops out.old ≤ O.stops out.new }
@@ -209,8 +213,9 @@ fn rounds<R: Threads + Wait + Sync, B: Board + Send, Y: Body + Send, G: Gate + S
 /// drain. A worker that meets a stop makes no further try. At its start it clears what workers and members keep from an
 /// earlier call. It takes no memory, and it may wait.
 ///
-/// That no two members have the same transaction, that a member's transaction has exactly `jobs` planned jobs, or none if
-/// it is eager, and that `spare` has reserved places for the board's room, is left to the caller: no promise needs it.
+/// That no two members have the same transaction, and that a member's transaction has exactly `jobs` planned jobs, or none
+/// if it is eager, is left to the caller: no promise needs it. Where `spare` has reserved places for the board's room, each
+/// drain moves all that the board keeps.
 ///
 /// Refused and NoPlan are the stop of the first worker that met one, in the first round in which some worker did. Where
 /// the out failed in the drain after that round, Stopped comes in their place. Stopped comes only where the stops of
@@ -242,6 +247,8 @@ pub fn run_all<
     ensures stop { IfErr result (λ s. StopIs Y.gives plant.now workers.new s) }
     ensures operated { Operated operator.old operator.new }
     ensures within { operator.old.drained ≤ length operator.old.seen → operator.new.drained ≤ length operator.new.seen }
+    ensures all { (NoMembers workers.old → ⊥) → plant.now.room ≤ vec_capacity spare.old → operator.new.drained ≡ length operator.new.seen }
+    ensures at_once { NoMembers workers.old → IfErr result (λ _. ⊥) × (operator.new ≡ operator.old) × (out.new ≡ out.old) }
     ensures good { (story : List Noted) → O.good out.old story → O.good out.new story }
     ensures spare { (spare.new.items ≡ []) × (vec_capacity spare.new ≡ vec_capacity spare.old) }
     ensures stops { O.stops out.old ≤ O.stops out.new }

@@ -3,7 +3,7 @@ use Rattle.std.specs.Prelude.{IsErrOf}
 use Rattle.counting_laws.specs.Counting.{room_of_jobs}
 use Rattle.sim_history.specs.Sim.{Workload}
 use Rattle.sim_run.specs.Workloads.{workload, ticks_of}
-use Rattle.entry_out.specs.Capped.{CappedSeen}
+use Rattle.plant_report.specs.Kept.{Roomed}
 use Rattle.plant_run.specs.declared.run.RunFault.TheVariants.{Stopped}
 use Rattle.plant_run.specs.Runs.{own_at}
 use Rattle.plant_report.proofs.Keeping.{never_stops, kept_run, only_memory}
@@ -14,8 +14,8 @@ no_memory-requires g c =
     let w : Workload = workload (g.B.Board.set c.args.board) (map g.Y.Body.gives c.args.bodies.items) c.args.ticks.now in
     let was = c.args.out.now in
     let q = c.run_workers.new.out in
-    let out : CappedSeen = record { room = was.room; kept = was.entries.items; full = was.full } in
-    let out' : CappedSeen = record { room = q.room; kept = q.entries.items; full = q.full } in
+    let out : Roomed = record { room = was.room; kept = was.entries.items; full = was.full } in
+    let out' : Roomed = record { room = q.room; kept = q.entries.items; full = q.full } in
     let fits : room_of_jobs w.set.txns (λ tx. length (ticks_of w.releases tx) + own_at c.args.own.now tx) ≤ g.T.Roomy.room =
     subst (λ (n : ℕ). room_of_jobs w.set.txns (λ tx. length (ticks_of w.releases tx) + own_at c.args.own.now tx) ≤ n) c.requires.fresh.0 c.requires.entries in
     only_memory c.in-Err.fault (λ e. (let is : IsErrOf c.run_workers.result Stopped = c.in-Err.is ∙ ap Err e in
@@ -27,8 +27,8 @@ returns-in-Ok-clause-run g c =
     let w : Workload = workload (g.B.Board.set c.args.board) (map g.Y.Body.gives c.args.bodies.items) c.args.ticks.now in
     let was = c.args.out.now in
     let q = c.run_workers.new.out in
-    let out : CappedSeen = record { room = was.room; kept = was.entries.items; full = was.full } in
-    let out' : CappedSeen = record { room = q.room; kept = q.entries.items; full = q.full } in
+    let out : Roomed = record { room = was.room; kept = was.entries.items; full = was.full } in
+    let out' : Roomed = record { room = q.room; kept = q.entries.items; full = q.full } in
     (kept_run w (own_at c.args.own.now) g.T.Roomy.room (g.B.Board.stands c.in-Ok.board) out out' (c.requires.fresh.0, c.requires.fresh.1) c.in-Ok.ensures.whole).0
 
 pub returns-in-Ok-clause-stood : goal.returns-in-Ok-clause-stood
@@ -36,6 +36,6 @@ returns-in-Ok-clause-stood g c =
     let w : Workload = workload (g.B.Board.set c.args.board) (map g.Y.Body.gives c.args.bodies.items) c.args.ticks.now in
     let was = c.args.out.now in
     let q = c.run_workers.new.out in
-    let out : CappedSeen = record { room = was.room; kept = was.entries.items; full = was.full } in
-    let out' : CappedSeen = record { room = q.room; kept = q.entries.items; full = q.full } in
+    let out : Roomed = record { room = was.room; kept = was.entries.items; full = was.full } in
+    let out' : Roomed = record { room = q.room; kept = q.entries.items; full = q.full } in
     (kept_run w (own_at c.args.own.now) g.T.Roomy.room (g.B.Board.stands c.in-Ok.board) out out' (c.requires.fresh.0, c.requires.fresh.1) c.in-Ok.ensures.whole).1

@@ -1,39 +1,28 @@
-use Rattle.std.proofs.Common.{◌≡◌, ◌<◌, length, subst, arith, rules}
-use Rattle.txn_threads.specs.Rounds.{Sits, IfStop, Met}
-use Rattle.txn_threads.proofs.Rounding.{all_refl, all_step, all_sit, at_place, met_at}
+use Rattle.std.proofs.Common.{◌≡◌, length, arith, rules}
+use Rattle.txn_threads.proofs.Rounding.{all_refl, all_sit, all_trans}
 use Rattle.txn_threads.proofs.round.sweep.Goals as goal
+use Rattle.txn_threads.proofs.round.sweep.Goals.{then-first-len, else-first-len}
 
-pub loop-i-init : goal.loop-i-init
-loop-i-init g c = all_refl g.Y.Body.gives g.Y.Body.stands c.args.plant.now c.args.members.now.items c.requires.sit
+pub loop-init : goal.loop-init
+loop-init g c = all_refl g.Y.Body.gives g.Y.Body.stands c.args.plant.now c.args.members.now.items c.requires.sit
 
-pub turn-requires : goal.turn-requires
-turn-requires g c =
-    let n : c.len-i-end.result ≡ length c.args.members.now.items = search rules in let same = c.loop-i.invariant.0 in
-    let less : c.loop-i.i < length c.loop-i.members.items = omega (arith, n, same, c.loop-i-test.true) in record {
-      sits = at_place (Sits g.Y.Body.gives g.Y.Body.stands c.args.plant.now) c.loop-i.members.items c.loop-i.i c.index_mut-member.result.now (all_sit g.Y.Body.gives g.Y.Body.stands c.args.plant.now c.args.members.now.items c.loop-i.members.items c.loop-i.invariant) less c.index_mut-member.ensures.value;
+pub turn_at-requires : goal.turn_at-requires
+turn_at-requires g c =
+    let n : c.len-end.result ≡ length c.args.members.now.items = search rules in
+    let m : c.len.result ≡ length c.loop.members.items = search rules in
+    let same = c.loop.invariant.0 in let left = c.loop-test.true in record {
+      sit = all_sit g.Y.Body.gives g.Y.Body.stands c.args.plant.now c.args.members.now.items c.loop.members.items c.loop.invariant;
+      place = elim c.if-first-len.branch [
+        | then-first-len w ↦ let is = w.first-is in omega (arith, n, same, left, is)
+        | else-first-len w ↦ let is = w.first-is in let low = w.if-first-len in omega (arith, m, is, low)
+      ];
     }
 
-pub returns-in-Full-clause-ran : goal.returns-in-Full-clause-ran
-returns-in-Full-clause-ran g c =
-    let n : c.len-i-end.result ≡ length c.args.members.now.items = search rules in let same = c.loop-i.invariant.0 in
-    let less : c.loop-i.i < length c.loop-i.members.items = omega (arith, n, same, c.loop-i-test.true) in
-    all_step g.Y.Body.gives g.Y.Body.stands c.args.plant.now c.args.members.now.items c.loop-i.members.items c.loop-i.i c.index_mut-member.result.now c.turn.new.member c.loop-i.invariant less c.index_mut-member.ensures.value c.turn.ensures.ran
+pub loop-preserved : goal.loop-preserved
+loop-preserved g c = all_trans g.Y.Body.gives g.Y.Body.stands c.args.plant.now c.args.members.now.items c.loop.members.items c.turn_at.new.members.items c.loop.invariant c.turn_at.ensures.ran
 
-pub returns-in-Stop-clause-ran : goal.returns-in-Stop-clause-ran
-returns-in-Stop-clause-ran g c =
-    let n : c.len-i-end.result ≡ length c.args.members.now.items = search rules in let same = c.loop-i.invariant.0 in
-    let less : c.loop-i.i < length c.loop-i.members.items = omega (arith, n, same, c.loop-i-test.true) in
-    all_step g.Y.Body.gives g.Y.Body.stands c.args.plant.now c.args.members.now.items c.loop-i.members.items c.loop-i.i c.index_mut-member.result.now c.turn.new.member c.loop-i.invariant less c.index_mut-member.ensures.value c.turn.ensures.ran
+pub returns-in-NotYet-clause-ran : goal.returns-in-NotYet-clause-ran
+returns-in-NotYet-clause-ran g c = all_trans g.Y.Body.gives g.Y.Body.stands c.args.plant.now c.args.members.now.items c.loop.members.items c.turn_at.new.members.items c.loop.invariant c.turn_at.ensures.ran
 
-pub returns-in-Stop-clause-met : goal.returns-in-Stop-clause-met
-returns-in-Stop-clause-met g c =
-    let n : c.len-i-end.result ≡ length c.args.members.now.items = search rules in let same = c.loop-i.invariant.0 in
-    let less : c.loop-i.i < length c.loop-i.members.items = omega (arith, n, same, c.loop-i-test.true) in
-    met_at g.Y.Body.gives c.args.plant.now c.loop-i.members.items c.loop-i.i c.turn.new.member c.in-Stop.halt less
-    (subst (λ k. IfStop k (λ h. Met g.Y.Body.gives c.args.plant.now h c.turn.new.member)) c.in-Stop.is c.turn.ensures.met)
-
-pub loop-i-preserved : goal.loop-i-preserved
-loop-i-preserved g c =
-    let n : c.len-i-end.result ≡ length c.args.members.now.items = search rules in let same = c.loop-i.invariant.0 in
-    let less : c.loop-i.i < length c.loop-i.members.items = omega (arith, n, same, c.loop-i-test.true) in
-    all_step g.Y.Body.gives g.Y.Body.stands c.args.plant.now c.args.members.now.items c.loop-i.members.items c.loop-i.i c.index_mut-member.result.now c.turn.new.member c.loop-i.invariant less c.index_mut-member.ensures.value c.turn.ensures.ran
+pub returns-in_default-clause-ran : goal.returns-in_default-clause-ran
+returns-in_default-clause-ran g c = all_trans g.Y.Body.gives g.Y.Body.stands c.args.plant.now c.args.members.now.items c.loop.members.items c.turn_at.new.members.items c.loop.invariant c.turn_at.ensures.ran

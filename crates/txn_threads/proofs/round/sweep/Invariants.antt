@@ -1,5 +1,5 @@
 use Rattle.txn_threads.specs.Rounds.{Each, Ran}
 use Rattle.txn_threads.proofs.round.sweep.Given as goal
 
-abbrev pub invariant-loop-i : goal.invariant-loop-i
-invariant-loop-i g l = Each (Ran g.Y.Body.gives g.Y.Body.stands l.fn.plant) l.fn.members.items l.members.items
+abbrev pub invariant-loop : goal.invariant-loop
+invariant-loop g l = Each (Ran g.Y.Body.gives g.Y.Body.stands l.fn.plant) l.fn.members.items l.members.items

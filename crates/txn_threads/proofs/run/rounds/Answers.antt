@@ -28,6 +28,7 @@ loop-init g c = let e = c.in-Ok.ensures in (
   e.may,
   c.drain_all.ensures.stops,
   c.drain_all.ensures.good,
+  c.drain_all.ensures.all,
 )
 
 pub round_all-requires-clause-sit : goal.round_all-requires-clause-sit
@@ -99,4 +100,5 @@ loop-preserved g c = let i = c.loop.invariant in let d = c.drain_all-in-loop.ens
   c.in-Ok-drain_all.ensures.may,
   omega (arith, was, rose),
   (λ story fine. d.good story (i.11 story fine)),
+  (λ places. let same = i.7 in d.all (omega (arith, places, same))),
 )

@@ -20,3 +20,4 @@ invariant-loop g l =
     × MayDrain (IsLegal l.fn.plant.set) g.O.EntryOut.got g.O.EntryOut.good l.operator l.out
     × (g.O.EntryOut.stops l.fn.out ≤ g.O.EntryOut.stops l.out)
     × ((story : List Entry) → g.O.EntryOut.good l.fn.out story → g.O.EntryOut.good l.out story)
+    × (l.fn.plant.room ≤ vec_capacity l.fn.spare → l.operator.drained ≡ length l.operator.seen)

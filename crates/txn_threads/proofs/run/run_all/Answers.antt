@@ -8,12 +8,12 @@ use Rattle.txn_threads.proofs.run.run_all.Goals as goal
 pub returns-then-not-has_members-clause-members : goal.returns-then-not-has_members-clause-members
 returns-then-not-has_members-clause-members g c =
     let no : c.has_members.result ≡ false = search rules in
-    none_have_run g.Y.Body.gives g.Y.Body.stands c.args.plant.now c.args.workers.now c.clear_all.new.workers c.clear_all.ensures (c.has_members.ensures no)
+    none_have_run g.Y.Body.gives g.Y.Body.stands c.args.plant.now c.args.workers.now c.clear_all.new.workers c.clear_all.ensures (c.has_members.ensures.none no)
 
 pub returns-then-not-has_members-clause-done : goal.returns-then-not-has_members-clause-done
 returns-then-not-has_members-clause-done g c =
     let no : c.has_members.result ≡ false = search rules in
-    none_done c.args.plant.now c.clear_all.new.workers (c.has_members.ensures no)
+    none_done c.args.plant.now c.clear_all.new.workers (c.has_members.ensures.none no)
 
 pub returns-then-not-has_members-clause-none : goal.returns-then-not-has_members-clause-none
 returns-then-not-has_members-clause-none g c = cleared_none g.Y.Body.gives g.Y.Body.stands c.args.workers.now c.clear_all.new.workers c.clear_all.ensures

@@ -1,0 +1,16 @@
+use Rattle.txn_threads.specs.Rounds.{Sits, Met, MetIn}
+use Rattle.txn_threads.proofs.Rounding.{all_refl, all_step, at_place, met_at, if_stop}
+use Rattle.txn_threads.proofs.round.turn_at.Goals as goal
+
+pub turn-requires : goal.turn-requires
+turn-requires g c =
+    record { sits = at_place (Sits g.Y.Body.gives g.Y.Body.stands c.args.plant.now) c.args.members.now.items c.args.place c.index_mut-member.result.now c.requires.sit c.requires.place c.index_mut-member.ensures.value }
+
+pub returns-clause-ran : goal.returns-clause-ran
+returns-clause-ran g c =
+    let ms = c.args.members.now.items in
+    all_step g.Y.Body.gives g.Y.Body.stands c.args.plant.now ms ms c.args.place c.index_mut-member.result.now c.turn.new.member (all_refl g.Y.Body.gives g.Y.Body.stands c.args.plant.now ms c.requires.sit) c.requires.place c.index_mut-member.ensures.value c.turn.ensures.ran
+
+pub returns-clause-met : goal.returns-clause-met
+returns-clause-met g c =
+    if_stop c.turn.result (λ h. Met g.Y.Body.gives c.args.plant.now h c.turn.new.member) _ (λ h met. met_at g.Y.Body.gives c.args.plant.now c.args.members.now.items c.args.place c.turn.new.member h c.requires.place met) c.turn.ensures.met
