@@ -10,6 +10,9 @@ use rt_base::{JobId, PlanRefused, Tick, TxId};
 use shared_plant::{Plant, Tried};
 use step_script::Body;
 
+// How often a worker goes through its members in a round, at most. This keeps the number of rounds small.
+const TIMES_THROUGH: u32 = 16;
+
 // What came of a try.
 #[derive(Clone, Copy)]
 pub(crate) enum Came {
@@ -261,7 +264,7 @@ fn sweep<B: Board, Y: Body, G: Gate>(
     Came::NoJob
 }
 
-// One time through the members.
+// One time through the members: their turns, and where all answer NoJob a try to idle on the first one's seat.
 fn pass<B: Board, Y: Body, G: Gate>(
     plant: &Plant<B>,
     gate: &G,
@@ -278,7 +281,8 @@ fn pass<B: Board, Y: Body, G: Gate>(
     }
 }
 
-// Sixteen times through the members, or up to a full journal or a stop.
+// Times through the members, up to a full journal or a stop. The first time only eager members have a turn, so that their
+// jobs are planned while other jobs run.
 fn passes<B: Board, Y: Body, G: Gate>(
     plant: &Plant<B>,
     gate: &G,
@@ -294,7 +298,7 @@ fn passes<B: Board, Y: Body, G: Gate>(
         Came::Stop(halt) => return Some(halt),
         _ => {}
     }
-    for _ in 1..16 {
+    for _ in 1..TIMES_THROUGH {
         match pass(plant, gate, members, first) {
             Came::Full => return None,
             Came::Stop(halt) => return Some(halt),

@@ -207,15 +207,16 @@ fn rounds<R: Threads + Wait + Sync, B: Board + Send, Y: Body + Send, G: Gate + S
 
 /// Runs all workers, each in a thread of its own where one can be made, in rounds, until of every member's transaction
 /// as many jobs have ended as it is to have. Before the first round and after each it drains the kept entries through
-/// `spare` to `out`. In a round a worker goes at most sixteen times through its members; each time it makes one step try
-/// for each member, a plan try for an eager one whose planned jobs have ended, and a try to idle where no member's job is
-/// pending. A try that finds the journal full ends the worker's part of the round, and is made again after the next
-/// drain. A worker that meets a stop makes no further try. At its start it clears what workers and members keep from an
-/// earlier call. It takes no memory, and it may wait.
+/// `spare` to `out`. In a round a worker goes at most sixteen times through its members. Each time it begins with the
+/// member whose job runs, as far as the answers told, and makes at most one step try a member, a plan try for an eager
+/// one whose planned jobs have ended, and a try to idle where no member's job is pending. One step costs it about one
+/// try, with a look at each of its members where the job of another runs. A try that finds the journal full ends the
+/// worker's part of the round, and is made again after the next drain. A worker that meets a stop makes no further try.
+/// At its start it clears what workers and members keep from an earlier call. It takes no memory, and it may wait.
 ///
-/// That no two members have the same transaction, and that a member's transaction has exactly `jobs` planned jobs, or none
-/// if it is eager, is left to the caller: no promise needs it. Where `spare` has reserved places for the board's room, each
-/// drain moves all that the board keeps.
+/// That no two members have the same transaction, and that a member's transaction has exactly `jobs` planned jobs, or
+/// none if it is eager, is left to the caller: no promise needs it. Where `spare` has reserved places for the board's
+/// room, each drain moves all that the board keeps.
 ///
 /// Refused and NoPlan are the stop of the first worker that met one, in the first round in which some worker did. Where
 /// the out failed in the drain after that round, Stopped comes in their place. Stopped comes only where the stops of

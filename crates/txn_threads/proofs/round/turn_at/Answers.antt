@@ -1,4 +1,4 @@
-use Rattle.txn_threads.specs.Rounds.{Sits, Met, MetIn}
+use Rattle.txn_threads.specs.Rounds.{Sits, Met}
 use Rattle.txn_threads.proofs.Rounding.{all_refl, all_step, at_place, met_at, if_stop}
 use Rattle.txn_threads.proofs.round.turn_at.Goals as goal
 
