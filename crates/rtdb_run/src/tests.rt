@@ -1,5 +1,6 @@
 //! The statuses and what is written, over sources and sinks in memory.
 mod ends;
+mod long;
 mod prefixes;
 mod runs;
 mod scenarios;
@@ -88,23 +89,22 @@ fn generated(rt: HostRuntime) -> Result<(), Fail> {
 #[test]
 fn loads(rt: HostRuntime) -> Result<(), Fail> {
     let alloc = rt.alloc();
+    let one =
+        "jobs 256 committed 256 overrun 0 late 0 stale 0 quit 0\nentries 1535 plans 256 steps 1024 blocks 0 idles 255\nnow 4084 longest-delay 0\n";
+    let two =
+        "jobs 512 committed 512 overrun 0 late 0 stale 0 quit 0\nentries 3071 plans 512 steps 2048 blocks 256 idles 255\nnow 6128 longest-delay 1\n";
+    let all =
+        "jobs 16384 committed 16384 overrun 0 late 0 stale 0 quit 0\nentries 90367 plans 16384 steps 65536 blocks 8192 idles 255\nnow 132856 longest-delay 1\n";
     let rows = [
-        (
-            "1",
-            "jobs 256 committed 256 overrun 0 late 0 stale 0 quit 0\nentries 1535 plans 256 steps 1024 blocks 0 idles 255\nnow 4084 longest-delay 0\n",
-        ),
-        (
-            "2",
-            "jobs 512 committed 512 overrun 0 late 0 stale 0 quit 0\nentries 3071 plans 512 steps 2048 blocks 256 idles 255\nnow 6128 longest-delay 1\n",
-        ),
-        (
-            "64",
-            "jobs 16384 committed 16384 overrun 0 late 0 stale 0 quit 0\nentries 90367 plans 16384 steps 65536 blocks 8192 idles 255\nnow 132856 longest-delay 1\n",
-        ),
+        (["load", "1"].as_slice(), one),
+        (["load", "1", "--workers", "8"].as_slice(), one),
+        (["load", "2"].as_slice(), two),
+        (["load", "2", "--workers=8"].as_slice(), two),
+        (["load", "64"].as_slice(), all),
     ];
-    for (n, text) in rows {
-        let (status, said) = replied(&rt, alloc, ["load", n].as_slice(), BASE)?;
-        assert_eq!(rt; said.as_slice(), text.as_bytes(), "at {n}");
+    for (words, text) in rows {
+        let (status, said) = replied(&rt, alloc, words, BASE)?;
+        assert_eq!(rt; said.as_slice(), text.as_bytes());
         assert_eq!(rt; status, Status::Ok);
     }
     Ok(())

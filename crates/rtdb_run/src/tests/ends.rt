@@ -1,8 +1,8 @@
 //! Sources that fail or give too much, and sinks that fail.
 use super::scenarios::{BASE, BASE_REPORT};
-use super::{NONE, USAGE, replied, said, sink, words_of};
+use super::{NONE, USAGE, sink, words_of};
 use crate::{Status, rtdb};
-use io_edge::{MemSink, MemSource};
+use io_edge::MemSource;
 use std::test::Fail;
 use txn_threads::NoGate;
 
@@ -85,33 +85,5 @@ fn each_write_fails(rt: HostRuntime) -> Result<(), Fail> {
         146 <= failed && failed < 999,
         "the last that failed is {failed}"
     );
-    Ok(())
-}
-
-// A run of 2,048 jobs, whose report does not fit, has written what fits of it. The whole report is legal.
-#[test]
-fn long_run(rt: HostRuntime) -> Result<(), Fail> {
-    let alloc = rt.alloc();
-    let (_, scenario) = replied(&rt, alloc, ["gen", "8"].as_slice(), NONE)?;
-    let words = words_of(alloc, &["run"])?;
-    let mut sinks = Vec::new(alloc);
-    for (room, status) in [(200_000, Status::WriteFault), (1_000_000, Status::Ok)] {
-        let mut source = MemSource::new(scenario.as_slice().to_vec(alloc)?, Vec::new(alloc));
-        let mut sink = MemSink::new(alloc, room, 1000, Vec::new(alloc))
-            .ok()
-            .ok_or("memory")?;
-        assert_eq!(rt;
-            rtdb(&rt, alloc, &words, &mut source, &mut sink, &NoGate),
-            status
-        );
-        sinks.push(sink.bytes().to_vec(alloc)?)?;
-    }
-    let [part, whole] = sinks.as_slice() else {
-        return Err("two".into());
-    };
-    assert_eq!(rt; part.len(), 200_000);
-    assert!(rt; whole.as_slice().starts_with(part.as_slice()));
-    let (_, verdict) = said(&rt, alloc, "replay", whole.as_slice().to_vec(alloc)?)?;
-    assert_eq!(rt; verdict.as_slice(), b"legal\n".as_slice());
     Ok(())
 }

@@ -1,63 +1,25 @@
 //! Runs by several workers: the same bytes, eager transactions, and a gate that two bodies are inside of at once.
 use super::scenarios::{BASE, BASE_REPORT};
-use super::{NONE, replied, words_of};
+use super::{replied, sink, words_of};
 use crate::{Status, rtdb};
-use io_edge::{MemSink, MemSource};
+use io_edge::MemSource;
 use rt_base::TxId;
-use std::alloc::Global;
 use std::hint::spin_loop;
-use std::sync::Wait;
 use std::sync::atomic::AtomicU64;
 use std::sync::atomic::Ordering::SeqCst;
 use std::test::Fail;
-use std::thread::Threads;
-use txn_threads::{Gate, NoGate};
+use txn_threads::Gate;
 
-// The bytes of these texts are the same, however many workers there are.
+// The bytes of the report are the same, however many workers there are.
 #[test]
 fn same_bytes(rt: HostRuntime) -> Result<(), Fail> {
     let alloc = rt.alloc();
-    let two =
-        "jobs 512 committed 512 overrun 0 late 0 stale 0 quit 0\nentries 3071 plans 512 steps 2048 blocks 256 idles 255\nnow 6128 longest-delay 1\n";
-    let rows = [
-        (["run", "--workers", "1"].as_slice(), BASE, BASE_REPORT),
-        (["run", "--workers", "2"].as_slice(), BASE, BASE_REPORT),
-        (["run", "--workers=64"].as_slice(), BASE, BASE_REPORT),
-        (["load", "2", "--workers", "8"].as_slice(), NONE, two),
-    ];
-    for (words, input, text) in rows {
-        let (status, said) = replied(&rt, alloc, words, input)?;
-        assert_eq!(rt; said.as_slice(), text.as_bytes());
-        assert_eq!(rt; status, Status::Ok);
+    for workers in ["1", "2", "64"] {
+        let words = ["run", "--workers", workers];
+        let (status, said) = replied(&rt, alloc, words.as_slice(), BASE)?;
+        assert_eq!(rt; said.as_slice(), BASE_REPORT.as_bytes(), "at {workers}");
+        assert_eq!(rt; status, Status::Ok, "at {workers}");
     }
-    Ok(())
-}
-
-// The report of a long run.
-fn reported<R: Threads + Wait + Sync>(
-    rt: &R,
-    alloc: Global,
-    workers: &str,
-    input: &[u8],
-) -> Result<(Status, Vec<u8>), Fail> {
-    let words = words_of(alloc, &["run", "--workers", workers])?;
-    let mut source = MemSource::new(input.to_vec(alloc)?, Vec::new(alloc));
-    let mut sink = MemSink::new(alloc, 8_000_000, 1_000_000, Vec::new(alloc))
-        .ok()
-        .ok_or("memory")?;
-    let status = rtdb(rt, alloc, &words, &mut source, &mut sink, &NoGate);
-    Ok((status, sink.bytes().to_vec(alloc)?))
-}
-
-#[test]
-fn same_long_run(rt: HostRuntime) -> Result<(), Fail> {
-    let alloc = rt.alloc();
-    let (_, scenario) = replied(&rt, alloc, ["gen", "8"].as_slice(), NONE)?;
-    let (status, one) = reported(&rt, alloc, "1", &scenario)?;
-    assert_eq!(rt; status, Status::Ok);
-    let (status, four) = reported(&rt, alloc, "4", &scenario)?;
-    assert_eq!(rt; status, Status::Ok);
-    assert!(rt; one.as_slice() == four.as_slice());
     Ok(())
 }
 
@@ -138,7 +100,7 @@ fn gate(rt: HostRuntime) -> Result<(), Fail> {
     let alloc = rt.alloc();
     let words = words_of(alloc, &["run", "--workers", "2"])?;
     let mut source = MemSource::new(BASE.as_bytes().to_vec(alloc)?, Vec::new(alloc));
-    let mut sink = super::sink(alloc, 1000, Vec::new(alloc))?;
+    let mut sink = sink(alloc, 1000, Vec::new(alloc))?;
     let gate = Meeting {
         sample: AtomicU64::new(0),
         control: AtomicU64::new(0),
