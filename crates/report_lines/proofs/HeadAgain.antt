@@ -112,16 +112,16 @@ rows_again second f body d base xs none tail line lacks told (suc k) i e =
 no_digit : ¬ IsInRange 48 57 10
 no_digit h = omega (arith, h.0, h.1)
 
-field_lacks : (w : List ℕ) → Lacks 10 w → Lacks 10 (field w)
+pub field_lacks : (w : List ℕ) → Lacks 10 w → Lacks 10 (field w)
 field_lacks w a = lacks_append 10 (codes " ") w (lacks_test 10 (codes " ") refl) a
 
-word_lacks : (w rest : List ℕ) → Lacks 10 w → Lacks 10 rest → Lacks 10 (field w ++ rest)
+pub word_lacks : (w rest : List ℕ) → Lacks 10 w → Lacks 10 rest → Lacks 10 (field w ++ rest)
 word_lacks w rest a b = lacks_append 10 (field w) rest (field_lacks w a) b
 
-number_lacks : (n : ℕ) (rest : List ℕ) → n < 2 ^ 64 → Lacks 10 rest → Lacks 10 (field (decimal n) ++ rest)
+pub number_lacks : (n : ℕ) (rest : List ℕ) → n < 2 ^ 64 → Lacks 10 rest → Lacks 10 (field (decimal n) ++ rest)
 number_lacks n rest lt b = word_lacks (decimal n) rest (decimal_lacks 10 n no_digit lt) b
 
-signed_lacks : (z : ℤ) → IsI64 z → Lacks 10 (signed_decimal z)
+pub signed_lacks : (z : ℤ) → IsI64 z → Lacks 10 (signed_decimal z)
 signed_lacks (pos n) lt = decimal_lacks 10 n no_digit (omega arith)
 signed_lacks (negsuc n) lt =
     lacks_append 10 (codes "-") (decimal (suc n)) (lacks_test 10 (codes "-") refl) (decimal_lacks 10 (suc n) no_digit (omega arith))
@@ -143,14 +143,14 @@ quiet_lacks true quiet lt =
 
 -- ---- items
 
-abbrev item_body : Names → ℕ → ItemDecl → List ℕ
+abbrev pub item_body : Names → ℕ → ItemDecl → List ℕ
 item_body names i decl = codes "item" ++ item_rest (name_at names.items i) decl.kind (signed_decimal decl.initial)
 
-item_ends : (names : Names) (i : ℕ) (decl : ItemDecl) (rest : List ℕ)
+pub item_ends : (names : Names) (i : ℕ) (decl : ItemDecl) (rest : List ℕ)
     → item_line names i decl ++ rest ≡ item_body names i decl ++ 10 ∷ rest
 item_ends names i decl rest = simp append_assoc
 
-item_lacks : (names : Names) (i : ℕ) (decl : ItemDecl) → is_name (name_at names.items i) ≡ true → IsItemDecl decl
+pub item_lacks : (names : Names) (i : ℕ) (decl : ItemDecl) → is_name (name_at names.items i) ≡ true → IsItemDecl decl
     → Lacks 10 (item_body names i decl)
 item_lacks names i decl plain fits =
     lacks_append 10 (codes "item") (item_rest (name_at names.items i) decl.kind (signed_decimal decl.initial))
@@ -202,7 +202,7 @@ all_items names set h =
     ap (λ (n : ℕ). take n names.items) (sym h.one_each.items) ∙ take-length names.items in
     rw (all, take-length set.items) refl
 
-abbrev txn_body : Bool → Names → ℕ → TxnDecl → List ℕ
+abbrev pub txn_body : Bool → Names → ℕ → TxnDecl → List ℕ
 txn_body second names tx decl =
     codes "txn" ++ txn_rest second (name_at names.txns tx) decl (list_text names decl.reads) (list_text names decl.writes)
 
@@ -211,7 +211,7 @@ regrouped : (t n a b c d e r rs w ws q rest : List ℕ)
     ≡ (t ++ (n ++ (a ++ (b ++ (c ++ (d ++ (e ++ (r ++ (rs ++ (w ++ (ws ++ q))))))))))) ++ 10 ∷ rest
 regrouped t n a b c d e r rs w ws q rest = simp append_assoc
 
-txn_ends : (second : Bool) (names : Names) (tx : ℕ) (decl : TxnDecl) (rest : List ℕ)
+pub txn_ends : (second : Bool) (names : Names) (tx : ℕ) (decl : TxnDecl) (rest : List ℕ)
     → txn_line second names tx decl ++ rest ≡ txn_body second names tx decl ++ 10 ∷ rest
 txn_ends second names tx decl rest =
     regrouped (codes "txn") (field (name_at names.txns tx)) (field (decimal decl.prio)) (field (decimal decl.period))
@@ -219,13 +219,13 @@ txn_ends second names tx decl rest =
     (field (list_text names decl.reads)) (field (codes "writes")) (field (list_text names decl.writes))
     (quiet_text second decl.quiet) rest
 
-named_list_lacks : (names : Names) (set : Set) (ids : List ItemId) → HasLines names set → AreItemsOf set ids
+pub named_list_lacks : (names : Names) (set : Set) (ids : List ItemId) → HasLines names set → AreItemsOf set ids
     → Lacks 10 (list_text names ids)
 named_list_lacks names set ids h are =
     list_lacks names 10 ids h.item_names (λ k d lt. omega (arith, are.in_range k d lt, h.one_each.items)) refl
     (lacks_test 10 (codes ",") refl) (lacks_test 10 (codes "-") refl)
 
-txn_lacks : (second : Bool) (names : Names) (set : Set) (tx : ℕ) (decl : TxnDecl) → HasLines names set
+pub txn_lacks : (second : Bool) (names : Names) (set : Set) (tx : ℕ) (decl : TxnDecl) → HasLines names set
     → is_name (name_at names.txns tx) ≡ true → IsTxnDecl decl → AreItemsOf set decl.reads → AreItemsOf set decl.writes
     → Lacks 10 (txn_body second names tx decl)
 txn_lacks second names set tx decl h plain fits reads writes =
@@ -331,14 +331,14 @@ all_txns names set h =
     ap (λ (n : ℕ). take n names.txns) (sym h.one_each.txns) ∙ take-length names.txns in
     rw (all, take-length set.txns) refl
 
-abbrev set_body : Names → ℕ → TogetherDecl → List ℕ
+abbrev pub set_body : Names → ℕ → TogetherDecl → List ℕ
 set_body names k set = codes "together" ++ set_rest set.within (list_text names set.items)
 
-set_ends : (names : Names) (k : ℕ) (set : TogetherDecl) (rest : List ℕ)
+pub set_ends : (names : Names) (k : ℕ) (set : TogetherDecl) (rest : List ℕ)
     → together_line names k set ++ rest ≡ set_body names k set ++ 10 ∷ rest
 set_ends names k set rest = simp append_assoc
 
-abbrev no_set : TogetherDecl
+abbrev pub no_set : TogetherDecl
 no_set = record { items = []; within = 0 }
 
 set_told_at : (p : Part) (names : Names) (set : Set) (second : Bool) (k : ℕ) → HasLines names set → second ≡ true
@@ -387,11 +387,11 @@ mode_told : (second admitted : Bool) (d : Decls)
 mode_told second admitted d =
     told_is second d (codes "mode" ++ field (mode_word admitted)) (found.Mode admitted) (mode_found d.names d.txn_names second admitted)
 
-mode_lacks : (admitted : Bool) → Lacks 10 (codes "mode" ++ field (mode_word admitted))
+pub mode_lacks : (admitted : Bool) → Lacks 10 (codes "mode" ++ field (mode_word admitted))
 mode_lacks true = lacks_test 10 (codes "mode admitted") refl
 mode_lacks false = lacks_test 10 (codes "mode trial") refl
 
-mode_ends : (admitted : Bool) (rest : List ℕ)
+pub mode_ends : (admitted : Bool) (rest : List ℕ)
     → mode_line admitted ++ rest ≡ (codes "mode" ++ field (mode_word admitted)) ++ 10 ∷ rest
 mode_ends true rest = refl
 mode_ends false rest = refl
@@ -403,7 +403,7 @@ mode_again second admitted d n rest =
     ∙ one_line second d n (codes "mode" ++ field (mode_word admitted)) rest (mode_lacks admitted)
     ∙ ap (λ (t : Told). after second d n t rest) (mode_told second admitted d)
 
-abbrev version : Bool → List ℕ
+abbrev pub version : Bool → List ℕ
 version true = codes "rtdb report 2"
 version false = codes "rtdb report 1"
 

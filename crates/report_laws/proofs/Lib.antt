@@ -1,0 +1,17 @@
+mod Lines
+mod Forms
+mod Jobs
+mod Every
+mod Fits
+mod Steps
+mod Entries
+mod Rows
+mod Declared
+mod Sections
+mod Whole
+mod Parts
+mod Declarations
+mod Ages
+mod Bodies
+mod Runs
+mod Law

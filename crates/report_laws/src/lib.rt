@@ -1,0 +1,43 @@
+//! The law that each report is legal. It is about the definitions alone.
+#![tactic(auto)]
+
+ghost use Rattle.report_laws.specs.Laws.{ReportIsLegal, DocumentHasTypes, RunReportIsLegal};
+
+use counting_laws::counting;
+use deadline_laws::response;
+use report_lines::head_is_read_back;
+use run_report::{legal_has_lines, legal_has_rows};
+use set_admission::admitted_unless_refused;
+use txn_compiler::compiled_unless_refused;
+
+/// The report of a compiled set, which meets the admission rule where the mode says so, and of a legal history of it is
+/// said to be legal. Its validities, intervals and values are to be those of their types; no rule bounds them.
+pub fn report_is_legal()
+    ensures { ReportIsLegal }
+{
+    counting();
+    response();
+    head_is_read_back();
+    legal_has_lines();
+    legal_has_rows();
+    compiled_unless_refused();
+    admitted_unless_refused();
+}
+
+/// The numbers of a document that is read, and so of each legal text, are those of their types.
+pub fn document_has_types()
+    ensures { DocumentHasTypes }
+{}
+
+/// The report of each run of a scenario, as a trial or admitted, is said to be legal.
+pub fn run_report_is_legal()
+    ensures { RunReportIsLegal }
+{
+    counting();
+    response();
+    head_is_read_back();
+    legal_has_lines();
+    legal_has_rows();
+    compiled_unless_refused();
+    admitted_unless_refused();
+}
