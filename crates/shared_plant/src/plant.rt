@@ -37,7 +37,7 @@ impl<B: Board> Model for Plant<B> {
 
     ghost Value = { PlantFacts };
 
-    ghost view = { λ p. record { id = p.cell.id; set = B.set p.cell.origin.board; room = B.room p.cell.origin.board; start = p.cell.start; seats = p.cell.seats } };
+    ghost view = { λ p. record { id = p.cell.id; set = B.set p.cell.origin.board.value; room = B.room p.cell.origin.board.value; start = p.cell.start; seats = p.cell.seats } };
 
     ghost invariant = { λ p. p.need ≡ p.cell.seats };
 }
@@ -77,7 +77,8 @@ impl<B: Board> Plant<B> {
         let Ok(mut seats) = Vec::with_capacity(alloc, need as usize) else {
             return Err((board, OutOfMemory));
         };
-        match TurnCell::<SharedBoard<B>>::new::<P>(alloc, SharedBoard { board }, need) {
+        let shared = SharedBoard::boxed(alloc, board)?;
+        match TurnCell::<SharedBoard<B>>::new::<P>(alloc, shared, need) {
             Ok((cell, cells)) => {
                 seat_all(cells, txs, front, &mut seats);
                 Ok((Plant { cell, need }, seats))

@@ -1,19 +1,21 @@
 //! A board in a cell: its story is the board's history, its notes are the entries, and its fixed part is the set and the
-//! room. Each call gives the board's answer and the entry that the board appended, if any.
-ghost use Rattle.std.specs.Prelude.{◌≡◌, ℕ, ◌+◌, ◌-◌, ◌≤◌, ◌<◌, ◌++◌, List, length, min, take, drop, vec_len, vec_capacity};
+//! room. It has a place of its own on the heap, so that a turn does not move it. Each call gives the board's answer and the
+//! entry that the board appended, if any.
+ghost use Rattle.std.specs.Prelude.{◌≡◌, ℕ, ◌+◌, ◌-◌, ◌≤◌, ◌<◌, ◌++◌, List, length, min, take, drop, vec_len, vec_capacity, IfOk, IfErr};
 ghost use Rattle.step_journal.specs.declared.entry.Entry.{Entry as Noted};
 ghost use Rattle.board.specs.Stories.{noted, plan_entry, plan_next_entry, step_entry, idle_entry, plan_answer, plan_next_answer, step_answer, idle_answer, now_of};
 ghost use Rattle.shared_plant.specs.Shared.{IsNext};
 
 use board::{Board, IdleReply, StepReply};
-use rt_base::{JobId, Op, PlanRefused, Tick, TxId};
+use rt_base::{JobId, Op, OutOfMemory, PlanRefused, Tick, TxId};
+use std::alloc::Global;
 use step_journal::Entry;
 use turn_cell::Storied;
 use txn_set::CompiledSet;
 
 #[derive(Drop)]
 pub(crate) struct SharedBoard<B> {
-    pub(crate) board: B,
+    pub(crate) board: Box<B>,
 }
 
 impl<B: Board> Storied for SharedBoard<B> {
@@ -21,11 +23,11 @@ impl<B: Board> Storied for SharedBoard<B> {
 
     type Fixed = (CompiledSet, usize);
 
-    ghost stands = { λ s story. B.stands s.board story };
+    ghost stands = { λ s story. B.stands s.board.value story };
 
-    ghost fixed = { λ s. (B.set s.board, B.room s.board) };
+    ghost fixed = { λ s. (B.set s.board.value, B.room s.board.value) };
 
-    ghost first = { λ s. B.first s.board };
+    ghost first = { λ s. B.first s.board.value };
 
     fn count(&self) -> u64 {
         self.board.count()
@@ -37,11 +39,22 @@ impl<B: Board> Storied for SharedBoard<B> {
 }
 
 impl<B: Board> SharedBoard<B> {
+    // A place of its own for the board, which is handed back after want of memory.
+    pub(crate) fn boxed(alloc: Global, board: B) -> Result<SharedBoard<B>, (B, OutOfMemory)>
+        ensures ok { IfOk result (λ s. s.board.value ≡ board) }
+        ensures err { IfErr result (λ e. e.0 ≡ board) }
+    {
+        match Box::new(alloc, board) {
+            Ok(board) => Ok(SharedBoard { board }),
+            Err(failed) => Err((failed.value, OutOfMemory)),
+        }
+    }
+
     pub(crate) fn into_board(self) -> B
-        ensures { result ≡ self.board }
+        ensures { result ≡ self.board.value }
     {
         let SharedBoard { board } = self;
-        board
+        Box::into_inner(board)
     }
 
     pub(crate) fn plan(
@@ -49,11 +62,11 @@ impl<B: Board> SharedBoard<B> {
         tx: TxId,
         tick: Tick,
     ) -> (Result<JobId, PlanRefused>, Option<Entry>)
-        requires { tx.0 < length (B.set self.old.board).txns }
-        ensures fixed { (B.set self.new.board ≡ B.set self.old.board) × (B.room self.new.board ≡ B.room self.old.board) × (B.first self.new.board ≡ B.first self.old.board) }
-        ensures answer { (story : List Noted) → B.stands self.old.board story → result.0 ≡ plan_answer (B.set self.old.board) story (length story - B.first self.old.board) (B.room self.old.board) tx.0 tick }
-        ensures entry { (story : List Noted) → B.stands self.old.board story → result.1 ≡ plan_entry tx tick result.0 }
-        ensures after { (story : List Noted) → B.stands self.old.board story → IsNext B.stands B.set B.first self.old.board self.new.board story (noted story result.1) }
+        requires { tx.0 < length (B.set self.old.board.value).txns }
+        ensures fixed { (B.set self.new.board.value ≡ B.set self.old.board.value) × (B.room self.new.board.value ≡ B.room self.old.board.value) × (B.first self.new.board.value ≡ B.first self.old.board.value) }
+        ensures answer { (story : List Noted) → B.stands self.old.board.value story → result.0 ≡ plan_answer (B.set self.old.board.value) story (length story - B.first self.old.board.value) (B.room self.old.board.value) tx.0 tick }
+        ensures entry { (story : List Noted) → B.stands self.old.board.value story → result.1 ≡ plan_entry tx tick result.0 }
+        ensures after { (story : List Noted) → B.stands self.old.board.value story → IsNext B.stands B.set B.first self.old.board.value self.new.board.value story (noted story result.1) }
     {
         let reply = self.board.plan(tx, tick);
         let entry = entry_of_plan(tx, tick, &reply);
@@ -64,11 +77,11 @@ impl<B: Board> SharedBoard<B> {
         &mut self,
         tx: TxId,
     ) -> (Result<(JobId, Tick), PlanRefused>, Option<Entry>)
-        requires { tx.0 < length (B.set self.old.board).txns }
-        ensures fixed { (B.set self.new.board ≡ B.set self.old.board) × (B.room self.new.board ≡ B.room self.old.board) × (B.first self.new.board ≡ B.first self.old.board) }
-        ensures answer { (story : List Noted) → B.stands self.old.board story → result.0 ≡ plan_next_answer (B.set self.old.board) story (length story - B.first self.old.board) (B.room self.old.board) tx.0 }
-        ensures entry { (story : List Noted) → B.stands self.old.board story → result.1 ≡ plan_next_entry tx result.0 }
-        ensures after { (story : List Noted) → B.stands self.old.board story → IsNext B.stands B.set B.first self.old.board self.new.board story (noted story result.1) }
+        requires { tx.0 < length (B.set self.old.board.value).txns }
+        ensures fixed { (B.set self.new.board.value ≡ B.set self.old.board.value) × (B.room self.new.board.value ≡ B.room self.old.board.value) × (B.first self.new.board.value ≡ B.first self.old.board.value) }
+        ensures answer { (story : List Noted) → B.stands self.old.board.value story → result.0 ≡ plan_next_answer (B.set self.old.board.value) story (length story - B.first self.old.board.value) (B.room self.old.board.value) tx.0 }
+        ensures entry { (story : List Noted) → B.stands self.old.board.value story → result.1 ≡ plan_next_entry tx result.0 }
+        ensures after { (story : List Noted) → B.stands self.old.board.value story → IsNext B.stands B.set B.first self.old.board.value self.new.board.value story (noted story result.1) }
     {
         let reply = self.board.plan_next(tx);
         let entry = entry_of_plan_next(tx, &reply);
@@ -76,11 +89,11 @@ impl<B: Board> SharedBoard<B> {
     }
 
     pub(crate) fn step(&mut self, job: JobId, op: Op) -> (StepReply, Option<Entry>)
-        requires { job.tx.0 < length (B.set self.old.board).txns }
-        ensures fixed { (B.set self.new.board ≡ B.set self.old.board) × (B.room self.new.board ≡ B.room self.old.board) × (B.first self.new.board ≡ B.first self.old.board) }
-        ensures answer { (story : List Noted) → B.stands self.old.board story → result.0 ≡ step_answer (B.set self.old.board) story (length story - B.first self.old.board) (B.room self.old.board) job op }
-        ensures entry { (story : List Noted) → B.stands self.old.board story → result.1 ≡ step_entry (now_of (B.set self.old.board) story) job op result.0 }
-        ensures after { (story : List Noted) → B.stands self.old.board story → IsNext B.stands B.set B.first self.old.board self.new.board story (noted story result.1) }
+        requires { job.tx.0 < length (B.set self.old.board.value).txns }
+        ensures fixed { (B.set self.new.board.value ≡ B.set self.old.board.value) × (B.room self.new.board.value ≡ B.room self.old.board.value) × (B.first self.new.board.value ≡ B.first self.old.board.value) }
+        ensures answer { (story : List Noted) → B.stands self.old.board.value story → result.0 ≡ step_answer (B.set self.old.board.value) story (length story - B.first self.old.board.value) (B.room self.old.board.value) job op }
+        ensures entry { (story : List Noted) → B.stands self.old.board.value story → result.1 ≡ step_entry (now_of (B.set self.old.board.value) story) job op result.0 }
+        ensures after { (story : List Noted) → B.stands self.old.board.value story → IsNext B.stands B.set B.first self.old.board.value self.new.board.value story (noted story result.1) }
     {
         let now = self.board.now();
         let reply = self.board.step(job, op);
@@ -89,10 +102,10 @@ impl<B: Board> SharedBoard<B> {
     }
 
     pub(crate) fn idle(&mut self) -> (IdleReply, Option<Entry>)
-        ensures fixed { (B.set self.new.board ≡ B.set self.old.board) × (B.room self.new.board ≡ B.room self.old.board) × (B.first self.new.board ≡ B.first self.old.board) }
-        ensures answer { (story : List Noted) → B.stands self.old.board story → result.0 ≡ idle_answer (B.set self.old.board) story (length story - B.first self.old.board) (B.room self.old.board) }
-        ensures entry { (story : List Noted) → B.stands self.old.board story → result.1 ≡ idle_entry (now_of (B.set self.old.board) story) result.0 }
-        ensures after { (story : List Noted) → B.stands self.old.board story → IsNext B.stands B.set B.first self.old.board self.new.board story (noted story result.1) }
+        ensures fixed { (B.set self.new.board.value ≡ B.set self.old.board.value) × (B.room self.new.board.value ≡ B.room self.old.board.value) × (B.first self.new.board.value ≡ B.first self.old.board.value) }
+        ensures answer { (story : List Noted) → B.stands self.old.board.value story → result.0 ≡ idle_answer (B.set self.old.board.value) story (length story - B.first self.old.board.value) (B.room self.old.board.value) }
+        ensures entry { (story : List Noted) → B.stands self.old.board.value story → result.1 ≡ idle_entry (now_of (B.set self.old.board.value) story) result.0 }
+        ensures after { (story : List Noted) → B.stands self.old.board.value story → IsNext B.stands B.set B.first self.old.board.value self.new.board.value story (noted story result.1) }
     {
         let now = self.board.now();
         let reply = self.board.idle();
@@ -101,13 +114,13 @@ impl<B: Board> SharedBoard<B> {
     }
 
     pub(crate) fn drain(&mut self, most: usize, into: &mut Vec<Entry>) -> usize
-        ensures fixed { (B.set self.new.board ≡ B.set self.old.board) × (B.room self.new.board ≡ B.room self.old.board) × (B.first self.new.board ≡ B.first self.old.board + result) }
-        ensures count { (story : List Noted) → B.stands self.old.board story → result ≡ min most (min (length story - B.first self.old.board) (vec_capacity into.old - vec_len into.old)) }
-        ensures moved { (story : List Noted) → B.stands self.old.board story → into.new.items ≡ into.old.items ++ take result (drop (B.first self.old.board) story) }
+        ensures fixed { (B.set self.new.board.value ≡ B.set self.old.board.value) × (B.room self.new.board.value ≡ B.room self.old.board.value) × (B.first self.new.board.value ≡ B.first self.old.board.value + result) }
+        ensures count { (story : List Noted) → B.stands self.old.board.value story → result ≡ min most (min (length story - B.first self.old.board.value) (vec_capacity into.old - vec_len into.old)) }
+        ensures moved { (story : List Noted) → B.stands self.old.board.value story → into.new.items ≡ into.old.items ++ take result (drop (B.first self.old.board.value) story) }
         ensures places { vec_capacity into.new ≡ vec_capacity into.old }
-        ensures within { (story : List Noted) → B.stands self.old.board story → B.first self.old.board + result ≤ length story }
-        ensures fits { (story : List Noted) → B.stands self.old.board story → length story - B.first self.old.board ≤ B.room self.old.board }
-        ensures after { (story : List Noted) → B.stands self.old.board story → IsNext B.stands B.set B.first self.old.board self.new.board story story }
+        ensures within { (story : List Noted) → B.stands self.old.board.value story → B.first self.old.board.value + result ≤ length story }
+        ensures fits { (story : List Noted) → B.stands self.old.board.value story → length story - B.first self.old.board.value ≤ B.room self.old.board.value }
+        ensures after { (story : List Noted) → B.stands self.old.board.value story → IsNext B.stands B.set B.first self.old.board.value self.new.board.value story story }
     {
         self.board.drain(most, into)
     }

@@ -18,9 +18,9 @@ pub(crate) fn settle<B: Board>(
 ) -> u64
     requires cell { seat.old.cell ≡ cell.now.id }
     requires turn { seat.old.view.holds ≡ true }
-    requires story { B.stands taken.value.board (noted seat.old.view.seen entry) }
-    requires fixed { (B.set taken.value.board ≡ B.set cell.now.origin.board) × (B.room taken.value.board ≡ B.room cell.now.origin.board) }
-    requires first { B.first taken.value.board ≡ counted seat.old.view }
+    requires story { B.stands taken.value.board.value (noted seat.old.view.seen entry) }
+    requires fixed { (B.set taken.value.board.value ≡ B.set cell.now.origin.board.value) × (B.room taken.value.board.value ≡ B.room cell.now.origin.board.value) }
+    requires first { B.first taken.value.board.value ≡ counted seat.old.view }
     ensures cell { seat.new.cell ≡ seat.old.cell }
     ensures view { seat.new.view ≡ released (noting_own seat.old.view entry) }
     ensures front { result ≡ length (noted seat.old.view.seen entry) }

@@ -10,15 +10,23 @@ seat_all-requires-clause-fresh g c =
     let id = c.in-Ok-new.cell.id in let past = g.P.Past.past in let first = g.B.Board.first c.args.board in
     let txs : ℕ = length c.txns.result.now in let n : (txs + 1) - 1 ≡ txs = omega arith in
     let counted = (g.met.B.Board.is_story c.args.board past c.requires).counted in
-    let within : first ≤ length past = omega arith in
-    (id, past, first, c.count-front.ensures past c.requires, within, subst (λ k. c.in-Ok-new.cells.items ≡ replicate k (fresh id past first false) ++ fresh id past first true ∷ []) n c.in-Ok-new.ensures.fresh)
+    let within : first ≤ length past = omega arith in (
+      id,
+      past,
+      first,
+      c.count-front.ensures past c.requires,
+      within,
+      subst (λ b. c.in-Ok-new.cells.items ≡ replicate txs (fresh id past (g.B.Board.first b) false) ++ fresh id past (g.B.Board.first b) true ∷ []) c.in_ok-shared.ensures.ok
+          (subst (λ k. c.in-Ok-new.cells.items ≡ replicate k (fresh id past (g.B.Board.first c.in_ok-shared.shared.board.value) false) ++ fresh id past (g.B.Board.first c.in_ok-shared.shared.board.value) true ∷ []) n c.in-Ok-new.ensures.fresh),
+    )
 
 pub returns-in-Ok-new-clause-members : goal.returns-in-Ok-new-clause-members
 returns-in-Ok-new-clause-members g c =
     let id = c.in-Ok-new.cell.id in let past = g.P.Past.past in let first = g.B.Board.first c.args.board in
     let txs : ℕ = length c.txns.result.now in let n : (txs + 1) - 1 ≡ txs = omega arith in
-    let fresh_is = subst (λ k. c.in-Ok-new.cells.items ≡ replicate k (fresh id past first false) ++ fresh id past first true ∷ []) n c.in-Ok-new.ensures.fresh in
+    let fresh_is = subst (λ b. c.in-Ok-new.cells.items ≡ replicate txs (fresh id past (g.B.Board.first b) false) ++ fresh id past (g.B.Board.first b) true ∷ []) c.in_ok-shared.ensures.ok
+    (subst (λ k. c.in-Ok-new.cells.items ≡ replicate k (fresh id past (g.B.Board.first c.in_ok-shared.shared.board.value) false) ++ fresh id past (g.B.Board.first c.in_ok-shared.shared.board.value) true ∷ []) n c.in-Ok-new.ensures.fresh) in
     let cell = c.in-Ok-new.cell in
-    let p : PlantFacts = record { id = cell.id; set = g.B.Board.set cell.origin.board; room = g.B.Board.room cell.origin.board; start = cell.start; seats = cell.seats } in
-    let long : txs ≡ length p.set.txns = ap length c.txns.ensures ∙ (ap (λ (z : Set). length z.txns) c.set-2.ensures ∙ sym (ap (λ x. length (g.B.Board.set x.board).txns) c.in-Ok-new.ensures.cell.0)) in
+    let p : PlantFacts = record { id = cell.id; set = g.B.Board.set cell.origin.board.value; room = g.B.Board.room cell.origin.board.value; start = cell.start; seats = cell.seats } in
+    let long : txs ≡ length p.set.txns = ap length c.txns.ensures ∙ (ap (λ (z : Set). length z.txns) c.set-2.ensures ∙ (sym (ap (λ b. length (g.B.Board.set b).txns) c.in_ok-shared.ensures.ok) ∙ sym (ap (λ x. length (g.B.Board.set x.board.value).txns) c.in-Ok-new.ensures.cell.0))) in
     subst (AreOf p) (sym (c.seat_all.ensures id past first fresh_is)) (all_are_of p past first txs long)

@@ -12,21 +12,21 @@ use Rattle.shared_plant.proofs.plant.Plant.try_idle.Goals as goal
 pub invariant_of-seat-2 : goal.invariant_of-seat-2
 invariant_of-seat-2 g c =
     let said = c.in-Some.ensures in
-    kept_noted c.seat.inside.seat c.settle-seat-inside.new.seat c.seat.inside.tx c.seat.inside.front c.settle-seat-inside.result c.try_take.new.seat.view.seen (g.B.Board.first c.in-Some.taken.value.board) c.idle-reply.result.1 c.seat.invariant said.story.0
+    kept_noted c.seat.inside.seat c.settle-seat-inside.new.seat c.seat.inside.tx c.seat.inside.front c.settle-seat-inside.result c.try_take.new.seat.view.seen (g.B.Board.first c.in-Some.taken.value.board.value) c.idle-reply.result.1 c.seat.invariant said.story.0
     (c.settle-seat-inside.ensures.view ∙ ap (λ (v : View Entry). released (noting_own v c.idle-reply.result.1)) said.some.0) c.settle-seat-inside.ensures.front
 
 pub returns-clause-said : goal.returns-clause-said
 returns-clause-said g c =
     let said = c.in-Some.ensures in
     let story : List Entry = c.try_take.new.seat.view.seen in
-    let at = ap (λ s. s.board) c.value_mut.ensures.value in
-    let x = c.value_mut.result.now.board in
+    let at = ap (λ s. s.board.value) c.value_mut.ensures.value in
+    let x = c.value_mut.result.now.board.value in
     let stood = subst (λ b. g.B.Board.stands b story) (sym at) said.story.1 in
     let next = c.idle-reply.ensures.after story stood in
     answered g.B.Board.set g.B.Board.room g.B.Board.first
     (λ set room told base. c.idle-reply.result.0 ≡ idle_answer set told (length told - base) room)
     (λ set told. idle_entry (now_of set told) c.idle-reply.result.0)
-    x c.in-Some.taken.value.board c.self.inside.cell.origin.board c.args.self.now c.seat.inside.seat c.try_take.new.seat c.settle-seat-inside.new.seat c.seat.inside.tx c.idle-reply.result.1 c.args.seat.now
+    x c.in-Some.taken.value.board.value c.self.inside.cell.origin.board.value c.args.self.now c.seat.inside.seat c.try_take.new.seat c.settle-seat-inside.new.seat c.seat.inside.tx c.idle-reply.result.1 c.args.seat.now
     at said.story.2 (ap (λ (p : PlantFacts). p.set) c.self.view_is) (ap (λ (p : PlantFacts). p.room) c.self.view_is)
     said.some.0 said.story.0 said.base
     (c.idle-reply.ensures.answer story stood) (c.idle-reply.ensures.entry story stood) next.legal next.within

@@ -13,22 +13,22 @@ use Rattle.shared_plant.proofs.plant.Plant.try_step.Goals as goal
 pub invariant_of-seat-2 : goal.invariant_of-seat-2
 invariant_of-seat-2 g c =
     let said = c.in-Some-try_take.ensures in
-    kept_noted c.seat.inside.seat c.settle-seat-inside.new.seat c.seat.inside.tx c.seat.inside.front c.settle-seat-inside.result c.try_take.new.seat.view.seen (g.B.Board.first c.in-Some-try_take.taken.value.board) c.step-reply.result.1 c.seat.invariant said.story.0
+    kept_noted c.seat.inside.seat c.settle-seat-inside.new.seat c.seat.inside.tx c.seat.inside.front c.settle-seat-inside.result c.try_take.new.seat.view.seen (g.B.Board.first c.in-Some-try_take.taken.value.board.value) c.step-reply.result.1 c.seat.invariant said.story.0
     (c.settle-seat-inside.ensures.view ∙ ap (λ (v : View Entry). released (noting_own v c.step-reply.result.1)) said.some.0) c.settle-seat-inside.ensures.front
 
 pub returns-clause-said : goal.returns-clause-said
 returns-clause-said g c = λ tx e.
     let said = c.in-Some-try_take.ensures in
     let story : List Entry = c.try_take.new.seat.view.seen in
-    let at = ap (λ s. s.board) c.value_mut.ensures.value in
-    let x = c.value_mut.result.now.board in
+    let at = ap (λ s. s.board.value) c.value_mut.ensures.value in
+    let x = c.value_mut.result.now.board.value in
     let stood = subst (λ b. g.B.Board.stands b story) (sym at) said.story.1 in
     let next = c.step-reply.ensures.after story stood in
     let same : c.in-Some.tx ≡ tx = ap (the_tx tx) (sym c.in-Some.is ∙ (ap (λ (s : SeatFacts). s.tx) c.seat.view_is ∙ e)) in
     answered g.B.Board.set g.B.Board.room g.B.Board.first
     (λ set room told base. c.step-reply.result.0 ≡ step_answer set told (length told - base) room (record { tx = tx; serial = c.args.serial }) c.args.op)
     (λ set told. step_entry (now_of set told) (record { tx = tx; serial = c.args.serial }) c.args.op c.step-reply.result.0)
-    x c.in-Some-try_take.taken.value.board c.self.inside.cell.origin.board c.args.self.now c.seat.inside.seat c.try_take.new.seat c.settle-seat-inside.new.seat c.seat.inside.tx c.step-reply.result.1 c.args.seat.now
+    x c.in-Some-try_take.taken.value.board.value c.self.inside.cell.origin.board.value c.args.self.now c.seat.inside.seat c.try_take.new.seat c.settle-seat-inside.new.seat c.seat.inside.tx c.step-reply.result.1 c.args.seat.now
     at said.story.2 (ap (λ (p : PlantFacts). p.set) c.self.view_is) (ap (λ (p : PlantFacts). p.room) c.self.view_is)
     said.some.0 said.story.0 said.base
     (c.step-reply.ensures.answer story stood ∙ ap (λ (t : TxId). step_answer (g.B.Board.set x) story (length story - g.B.Board.first x) (g.B.Board.room x) (record { tx = t; serial = c.args.serial }) c.args.op) same)
