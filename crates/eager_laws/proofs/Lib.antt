@@ -1,7 +1,7 @@
 mod Waiting
-mod Plans
-mod Near
+pub mod Plans
+pub mod Near
 mod Open
-mod Scenario
-mod Fits
+pub mod Scenario
+pub mod Fits
 mod Closing

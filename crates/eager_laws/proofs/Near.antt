@@ -72,10 +72,10 @@ no_plan_more w own done e h no_plan none = record {
 }
 
 -- a plan
-plan_here : (tx : TxId) (tick n : ℕ) → n ≡ tx.0 → plans_in n (Planned tx tick) ≡ 1
+pub plan_here : (tx : TxId) (tick n : ℕ) → n ≡ tx.0 → plans_in n (Planned tx tick) ≡ 1
 plan_here tx tick n e = ap {B = ℕ} (λ (b : Bool). cond b 1 0) (eq-eqb n tx.0 e)
 
-plan_there : (tx : TxId) (tick n : ℕ) → n ≢ tx.0 → plans_in n (Planned tx tick) ≡ 0
+pub plan_there : (tx : TxId) (tick n : ℕ) → n ≢ tx.0 → plans_in n (Planned tx tick) ≡ 0
 plan_there tx tick n ne = ap {B = ℕ} (λ (b : Bool). cond b 1 0) (ne_eqb n tx.0 ne)
 
 pub plan_more : (w : Workload) (own : ℕ → ℕ) (done : List Entry) (tx : TxId) (tick : ℕ) → IsNear w own done → tx.0 < length w.set.txns → plan_count done tx.0 < own tx.0
@@ -97,7 +97,8 @@ given_may : (b : Bool) (p : Entry × State) (e : Entry) → entry_given (given b
 given_may true p e h = refl
 given_may false p e h = absurd cc
 
-plan_may : (set : Set) (s : State) (tx : TxId) (tick : ℕ) → IsLegalEntry set s (Planned tx tick) → MayPlan set s tx.0 tick
+-- a legal plan is of a transaction of the set
+pub plan_may : (set : Set) (s : State) (tx : TxId) (tick : ℕ) → IsLegalEntry set s (Planned tx tick) → MayPlan set s tx.0 tick
 unfolding step
 plan_may set s tx tick legal = may_plan_is set s tx.0 tick (given_may (may_plan set s tx.0 tick) (Planned (record { 0 = tx.0 }) tick, with_plan s tx.0 tick) (Planned tx tick) legal)
 

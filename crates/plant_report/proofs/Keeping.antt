@@ -9,7 +9,7 @@ use Rattle.sim_history.specs.Sim.{Workload}
 use Rattle.sim_run.specs.Workloads.{ticks_of}
 use Rattle.plant_report.specs.Kept.{Roomed, IsRefused, stops_of}
 use Rattle.plant_history.specs.Histories.{IsRunOf}
-use Rattle.eager_laws.specs.Laws.{RunFits}
+use Rattle.eager_laws.proofs.Fits.{run_fits}
 use Rattle.plant_run.specs.declared.run.RunFault.{RunFault}
 use Rattle.plant_run.specs.declared.run.RunFault.TheVariants.{Stopped, Memory}
 use Rattle.plant_run.specs.Runs.{IsWholeRun, IsStoppedRun}
@@ -33,10 +33,10 @@ too_long : (room kept : ℕ) (full : Bool) (out : List Entry) (piece : List Entr
 too_long room kept true out piece e le h = omega (arith, le, h.over)
 too_long room kept false out piece e le h = cc
 
-pub never_stops : RunFits → (w : Workload) (own : ℕ → ℕ) (room : ℕ) (out out' : Roomed) → IsCompiled w.set → Kept room out [] → out.full ≡ false
+pub never_stops : (w : Workload) (own : ℕ → ℕ) (room : ℕ) (out out' : Roomed) → IsCompiled w.set → Kept room out [] → out.full ≡ false
     → room_of_jobs w.set.txns (λ tx. length (ticks_of w.releases tx) + own tx) ≤ room
     → IsStoppedRun w own (Kept room out) (Kept room out') (IsRefused out') → Rose (stops_of out.full) (stops_of out'.full) → ⊥
-never_stops run_fits w own room out out' ok fresh going le h rose =
+never_stops w own room out out' ok fresh going le h rose =
     let full : out'.full ≡ true = rose_full out'.full (subst (λ (b : Bool). Rose (stops_of b) (stops_of out'.full)) going rose) in
     let got = h.grown [] fresh in
     let fits : length h.history ≤ room_of_jobs w.set.txns (λ tx. length (ticks_of w.releases tx) + own tx) = run_fits w own h.history ok h.so_far in

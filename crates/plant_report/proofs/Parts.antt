@@ -77,10 +77,6 @@ pub by_answer : {A E P Q R : Type 0} (r : Result A E) → (P → R) → (Q → R
 by_answer (Ok x) f k h e = f h
 by_answer (Err x) f k h e = k e
 
-pub ok_both : {A E P Q R : Type 0} (r : Result A E) → (P → Q → R) → IfOk r (λ _. P) → IfOk r (λ _. Q) → IfOk r (λ _. R)
-ok_both (Ok x) f h k = f h k
-ok_both (Err e) f h k = tt
-
 pub err_both : {A E P Q R : Type 0} (r : Result A E) → (P → Q → R) → OnErr r P → OnErr r Q → OnErr r R
 err_both (Ok x) f h k = tt
 err_both (Err e) f h k = f h k

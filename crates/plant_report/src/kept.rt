@@ -9,7 +9,6 @@ ghost use Rattle.plant_run.specs.Runs.{own_at};
 ghost use Rattle.plant_run.specs.declared.run.RunFault.TheVariants as faults;
 
 use board::Board;
-use eager_laws::run_fits;
 use entry_out::{EntryOut, Stopped, append};
 use plant_run::{RunFault, run_workers};
 use rt_base::{List, OutOfMemory, Tick};
@@ -109,7 +108,6 @@ fn run_into<
     ensures stood { IfOk result (λ b. B.stands b out.new.entries.items) }
     ensures set { IfOk result (λ b. B.set b ≡ B.set board) }
 {
-    run_fits();
     match run_workers(
         rt, alloc, board, bodies, ticks, own, workers, spare, gate, out,
     ) {

@@ -6,10 +6,10 @@ use Rattle.job_rows.specs.Upkeep.{Follows, planned_jobs}
 use Rattle.report_lines.specs.Texts.{entries_text}
 use Rattle.report_out.specs.Outs.{Begun, OutSeen, IsGoing, seen}
 use Rattle.report_out.proofs.Taking.{opens, goes}
-use Rattle.report_out.proofs.Pieces.{all_going}
+use Rattle.report_out.proofs.Pieces.{all_going, both_ok}
 use Rattle.report_out.proofs.Stopping.{has_front}
 use Rattle.written_run.proofs.Handing.{not_full, sink_cause, if_ok}
-use Rattle.plant_report.proofs.Parts.{by_answer, ok_both, err_both}
+use Rattle.plant_report.proofs.Parts.{by_answer, err_both}
 use Rattle.plant_report.proofs.history.put_lines.Goals as goal
 
 pub returns-clause-same_sink : goal.returns-clause-same_sink
@@ -30,7 +30,7 @@ returns-clause-all g c =
     let out : OutSeen = seen q.standing q.names.now q.writer q.lines.items q.bytes (g.K.Sink.taken q.sink.now) in
     let opened = opens g.T.Reported.begun was.sink.ghost_name set (seen was.standing was.names.now was.writer was.lines.items was.bytes (g.K.Sink.taken was.sink.now))
     c.requires.begun c.requires.fresh.0 c.requires.fresh.1 c.requires.fresh.2 c.requires.one_each c.requires.rows in
-    ok_both c.put.result
+    both_ok c.put.result
     (λ lost h. (let is : IsGoing g.T.Reported.begun out c.args.entries.now =
     all_going g.T.Reported.begun out set c.args.entries.now (ap (λ (b : Begun). b.set) c.requires.begun) c.requires.legal lost (h [] opened).1 in
     subst (λ (b : Begun). Appends b.front out.taken (entries_text b.names c.args.entries.now)) c.requires.begun is.has))
@@ -44,7 +44,7 @@ returns-clause-left g c =
     let out : OutSeen = seen q.standing q.names.now q.writer q.lines.items q.bytes (g.K.Sink.taken q.sink.now) in
     let opened = opens g.T.Reported.begun was.sink.ghost_name set (seen was.standing was.names.now was.writer was.lines.items was.bytes (g.K.Sink.taken was.sink.now))
     c.requires.begun c.requires.fresh.0 c.requires.fresh.1 c.requires.fresh.2 c.requires.one_each c.requires.rows in
-    ok_both c.put.result
+    both_ok c.put.result
     (λ lost h. (let is : IsGoing g.T.Reported.begun out c.args.entries.now =
     all_going g.T.Reported.begun out set c.args.entries.now (ap (λ (b : Begun). b.set) c.requires.begun) c.requires.legal lost (h [] opened).1 in
     (subst (λ (b : Begun). Follows b.set out.rows c.args.entries.now) c.requires.begun is.follows, is.sent)))

@@ -19,7 +19,7 @@ no_memory-requires g c =
     let fits : room_of_jobs w.set.txns (λ tx. length (ticks_of w.releases tx) + own_at c.args.own.now tx) ≤ g.T.Roomy.room =
     subst (λ (n : ℕ). room_of_jobs w.set.txns (λ tx. length (ticks_of w.releases tx) + own_at c.args.own.now tx) ≤ n) c.requires.fresh.0 c.requires.entries in
     only_memory c.in-Err.fault (λ e. (let is : IsErrOf c.run_workers.result Stopped = c.in-Err.is ∙ ap Err e in
-    never_stops c.run_fits.ensures w (own_at c.args.own.now) g.T.Roomy.room out out' c.requires.compiled (c.requires.fresh.0, c.requires.fresh.1) c.requires.fresh.2 fits
+    never_stops w (own_at c.args.own.now) g.T.Roomy.room out out' c.requires.compiled (c.requires.fresh.0, c.requires.fresh.1) c.requires.fresh.2 fits
     (c.run_workers.ensures.stopped is) (c.run_workers.ensures.cause is)))
 
 pub returns-in-Ok-clause-run : goal.returns-in-Ok-clause-run
