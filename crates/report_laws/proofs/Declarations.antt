@@ -275,9 +275,6 @@ record DocumentFits (d : Document) : Type 0 where
   pub head : HeadFits d.head
   pub entries : Every EntryHasValue d.entries
 
-abbrev Answer : Type 0
-Answer = Result Document DocumentError
-
 unless_fits : (o : Option DocumentError) (made d : Document) → DocumentFits made → unless o made ≡ Ok d → DocumentFits d
 unless_fits None made d h e = let same : made ≡ d = cc in subst DocumentFits same h
 unless_fits (Some x) made d h e = absurd cc

@@ -46,9 +46,6 @@ first_passes test w rest lacks ends passes =
 no_digit : ¬ IsInRange 48 57 10
 no_digit h = omega (arith, h.0, h.1)
 
-no_minus : ¬ IsInRange 48 57 45
-no_minus h = omega (arith, h.0, h.1)
-
 pub last_lacks : (n : ℕ) → n < 2 ^ 64 → Lacks 10 (field (decimal n))
 last_lacks n lt = field_lacks (decimal n) (decimal_lacks 10 n no_digit lt)
 

@@ -1,5 +1,5 @@
 -- Each report is legal.
-use Rattle.std.proofs.Common.{◌≡◌, ℕ, ◌+◌, ◌<◌, ◌^◌, Bool, true, false, List, ◌++◌, drop, Option, Some, None, Result, Ok, refl, ap, ◌∙◌, arith, append_assoc, codes}
+use Rattle.std.proofs.Common.{◌≡◌, ℕ, ◌+◌, ◌<◌, ◌^◌, Bool, true, false, List, ◌++◌, drop, Option, Some, None, Ok, refl, ap, ◌∙◌, arith, append_assoc, codes}
 use Rattle.std.specs.Prelude.{option_map}
 use Rattle.std.specs.List.{All}
 use Rattle.rt_base.specs.declared.name.Names.{Names}
@@ -24,7 +24,6 @@ use Rattle.report_head.specs.declared.read.Head.{Head}
 use Rattle.report_lines.specs.Texts.{is_second, declarations, ceilings_of, entries_text, jobs_text, finals_text}
 use Rattle.report_lines.specs.Laws.{IsItemDecl, IsTxnDecl, HasLines, head_again, HeadIsReadBack}
 use Rattle.report_reader.specs.declared.document.Document.{Document}
-use Rattle.report_reader.specs.declared.document.DocumentError.{DocumentError}
 use Rattle.report_reader.specs.Document.{lines_of, body_of, after_head, document_of, is_second as is_second_text}
 use Rattle.run_report.specs.Report.{limits_text, report_of}
 use Rattle.run_report.specs.Legal.{LegalHasLines, LegalHasRows}
@@ -74,9 +73,6 @@ has_lines text r items within = record {
 }
 
 -- ---- the document
-
-abbrev Answer : Type 0
-Answer = Result Document DocumentError
 
 -- the declarations and what follows them are read as one document
 document_again : (names : Names) (set : Set) (admitted : Bool) (rest : List ℕ) (d : Document) → HeadIsReadBack → HasLines names set

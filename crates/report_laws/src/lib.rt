@@ -1,4 +1,4 @@
-//! The law that each report is legal. It is about the definitions alone.
+//! The laws that each report is legal, and so that of each run of a scenario. They are about the definitions alone.
 #![tactic(auto)]
 
 ghost use Rattle.report_laws.specs.Laws.{ReportIsLegal, DocumentHasTypes, RunReportIsLegal};
@@ -29,7 +29,8 @@ pub fn document_has_types()
     ensures { DocumentHasTypes }
 {}
 
-/// The report of each run of a scenario, as a trial or admitted, is said to be legal.
+/// The report of each run of a scenario, as a trial or admitted, is said to be legal, where the scenario's initial values,
+/// samples and constants are of 64 bits.
 pub fn run_report_is_legal()
     ensures { RunReportIsLegal }
 {
