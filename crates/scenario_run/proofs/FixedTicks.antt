@@ -1,14 +1,16 @@
 -- The fixed ticks of transactions, one after another.
-use Rattle.std.proofs.Common.{◌≡◌, ℕ, zero, suc, ◌+◌, ◌<◌, ◌≤◌, List, [], ◌∷◌, ◌++◌, length, get_or, drop, refl, sym, ap, ◌∙◌, arith, add-one, drop-cons, append_assoc, append-nil, length-drop}
+use Rattle.std.proofs.Common.{◌≡◌, ℕ, ◌+◌, ◌*◌, ◌<◌, ◌≤◌, List, [], ◌∷◌, ◌++◌, map, length, get_or, drop, refl, sym, ap, ◌∙◌, arith, add-one, drop-cons, append_assoc, append-nil, length-drop}
+use Rattle.std.specs.List.{range_with_len}
+use Rattle.std.proofs.lemmas.List.FromFn.{map-range_with_len_more}
 use Rattle.txn_set.specs.declared.decl.TxnDecl.{TxnDecl}
 use Rattle.scenario.specs.declared.releases.Releases.{Releases}
-use Rattle.scenario.specs.Releases.{jobs_of, ticks_of, total_jobs, fixed_ticks}
+use Rattle.scenario.specs.Releases.{ticks_of, fixed_ticks}
 
--- no transaction has more jobs than all
-pub jobs_below : (rs : List Releases) (n : ℕ) (d : Releases) → n < length rs → jobs_of (get_or rs n d) ≤ total_jobs rs
-jobs_below [] n d lt = absurd (omega (arith, lt))
-jobs_below (r ∷ rs) zero d lt = omega arith
-jobs_below (r ∷ rs) (suc n) d lt = omega (arith, jobs_below rs n d (omega (arith, lt)))
+-- one tick more
+pub next_tick : (offset period k : ℕ) (ticks ticks' : List ℕ) → ticks' ≡ ticks ++ (offset + k * period) ∷ [] → ticks ≡ map (λ j. offset + j * period) (range_with_len 0 k)
+    → ticks' ≡ map (λ j. offset + j * period) (range_with_len 0 (k + 1))
+next_tick offset period k ticks ticks' new so_far =
+    new ∙ (ap (λ (l : List ℕ). l ++ (offset + k * period) ∷ []) so_far ∙ sym (map-range_with_len_more (λ j. offset + j * period) 0 k k (omega arith)))
 
 step : (ts : List TxnDecl) (rs : List Releases) (i : ℕ) (t : TxnDecl) (r : Releases) → i < length ts → i < length rs
     → fixed_ticks (drop i ts) (drop i rs) ≡ ticks_of (get_or ts i t) (get_or rs i r) ∷ fixed_ticks (drop (i + 1) ts) (drop (i + 1) rs)

@@ -13,7 +13,7 @@ use Rattle.set_admission.proofs.Kept.{keeps_bounds}
 use Rattle.scenario.specs.Shown.{Shown, set_of}
 use Rattle.scenario_run.specs.Runs.{IsGuaranteed, KeepsBoundsUnless, IsRunText}
 use Rattle.eager_laws.specs.Plannable.{own_of}
-use Rattle.eager_laws.specs.Laws.{NoneEager}
+use Rattle.eager_laws.proofs.Scenario.{none_eager}
 use Rattle.plant_history.proofs.Fixed.{fixed_sim}
 use Rattle.plant_report.specs.Eager.{IsRunTextBy}
 use Rattle.workload_laws.specs.Runs.{workload_of}
@@ -35,8 +35,8 @@ bounded : (trial : Bool) (set : Set) (history : List Entry) → IsCompiled set �
 bounded true set history ok legal h = tt
 bounded false set history ok legal h = keeps_bounds set history ok ((decided set ok).by_found.0 h) legal
 
-pub run_text : NoneEager → (trial : Bool) (s : Shown) (text : List ℕ) → IsCompiled (set_of s) → IsAdmittedUnless trial (set_of s) → IsRunTextBy s.names (not trial) (workload_of s) (own_of s) text → IsRunText trial s text
-run_text none_eager trial s text ok h t =
+pub run_text : (trial : Bool) (s : Shown) (text : List ℕ) → IsCompiled (set_of s) → IsAdmittedUnless trial (set_of s) → IsRunTextBy s.names (not trial) (workload_of s) (own_of s) text → IsRunText trial s text
+run_text trial s text ok h t =
     let history = t.history in
     let legal = t.run.so_far.legal in
     record {

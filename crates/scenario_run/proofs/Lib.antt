@@ -1,6 +1,5 @@
 pub mod Guarantees
 pub mod FixedTicks
-pub mod FixedMore
 pub mod Owned
 pub mod Ready
 pub mod Replying

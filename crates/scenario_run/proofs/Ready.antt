@@ -15,14 +15,16 @@ use Rattle.scenario.specs.Shown.{set_of}
 use Rattle.scenario.specs.Releases.{eager_of, fixed_ticks}
 use Rattle.std.specs.List.{sum}
 use Rattle.eager_laws.specs.Plannable.{ArePlannable, own_jobs, own_of}
-use Rattle.eager_laws.specs.Laws.{ScenarioIsPlannable, EagerHaveNoReleases, ScenarioHasRoom}
+use Rattle.eager_laws.proofs.Scenario.{plannable, eager_alone}
+use Rattle.eager_laws.proofs.Fits.{scenario_room}
 use Rattle.workload_laws.specs.Runs.{workload_of}
 use Rattle.workload_laws.proofs.Obeys.{obeys}
 use Rattle.workload_laws.proofs.Accepted.{accepted}
 use Rattle.plant_history.proofs.Fixed.{sim_is_run}
 use Rattle.written_run.specs.Written.{IsTextBy, Wrote, WroteFront}
 use Rattle.plant_report.specs.Eager.{IsRunTextBy}
-use Rattle.scenario_run.specs.Runs.{Declares, IsReady, functions_of, own_at}
+use Rattle.plant_run.specs.Runs.{own_at}
+use Rattle.scenario_run.specs.Runs.{Declares, IsReady, functions_of}
 use Rattle.scenario_run.proofs.Owned.{own_is, own_total}
 
 pub functions_same : (scripts : List Script) → map (λ s. next_of (program_of s)) scripts ≡ functions_of scripts
@@ -73,9 +75,9 @@ AcceptedBy w own = AreAccepted w.set w.releases
 abbrev pub ObedientBy : Workload → (ℕ → ℕ) → Type 0
 ObedientBy w own = IsObedient w
 
-pub ready : ScenarioIsPlannable → EagerHaveNoReleases → (set : Set) (scripts : List Script) (releases : List Releases) → IsCompiled set → (d : Declares set scripts releases)
+pub ready : (set : Set) (scripts : List Script) (releases : List Releases) → IsCompiled set → (d : Declares set scripts releases)
     → (scripts' : List Script) (ticks : List (List ℕ)) (own : List ℕ) → scripts' ≡ scripts → ticks ≡ fixed_ticks set.txns releases → own ≡ map eager_of releases → IsReady set scripts' ticks own
-ready plannable eager_alone set scripts releases ok d scripts' ticks own e f g =
+ready set scripts releases ok d scripts' ticks own e f g =
     let s = d.scenario in
     let compiled : IsCompiled (set_of s) = subst IsCompiled d.set_is ok in
     let txns : length s.txns ≡ length set.txns = sym (ap (λ (q : Set). length q.txns) d.set_is) in
@@ -94,10 +96,10 @@ ready plannable eager_alone set scripts releases ok d scripts' ticks own e f g =
 abbrev HasRoom : ℕ → Workload → (ℕ → ℕ) → Type 0
 HasRoom room w own = room_of_jobs w.set.txns (λ tx. length (ticks_of w.releases tx) + own tx) ≤ room
 
-pub room_is : ScenarioHasRoom → (set : Set) (scripts : List Script) (releases : List Releases) (d : Declares set scripts releases)
+pub room_is : (set : Set) (scripts : List Script) (releases : List Releases) (d : Declares set scripts releases)
     → (scripts' : List Script) (ticks : List (List ℕ)) (own : List ℕ) → scripts' ≡ scripts → ticks ≡ fixed_ticks set.txns releases → own ≡ map eager_of releases
     → room_of_jobs set.txns (λ tx. length (ticks_of ticks tx) + own_at own tx) ≤ d.scenario.room
-room_is scenario_room set scripts releases d scripts' ticks own e f g =
+room_is set scripts releases d scripts' ticks own e f g =
     let s = d.scenario in
     let enough : HasRoom s.room (workload_of s) (own_of s) = let below = scenario_room s d.is in omega (arith, below) in
     declared (HasRoom s.room) set scripts releases d scripts' ticks own e f g enough

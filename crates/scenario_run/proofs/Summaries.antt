@@ -13,12 +13,13 @@ use Rattle.scenario.specs.declared.releases.Releases.{Releases}
 use Rattle.scenario.specs.Shown.{Shown, set_of}
 use Rattle.scenario.specs.Scenarios.{IsScenario}
 use Rattle.scenario.specs.Releases.{is_eager, eager_of, fixed_ticks}
-use Rattle.eager_laws.specs.Laws.{NoneEager}
+use Rattle.eager_laws.proofs.Scenario.{none_eager}
 use Rattle.workload_laws.specs.Runs.{workload_of}
 use Rattle.run_report.specs.Summary.{summary_of}
 use Rattle.step_journal.specs.History.{IsLegal}
 use Rattle.scenario_writer.specs.Generated.{generated_of, releases_each, each}
-use Rattle.scenario_run.specs.Runs.{Declares, functions_of, own_at, IsSummaryBy, IsLoadText}
+use Rattle.plant_run.specs.Runs.{own_at}
+use Rattle.scenario_run.specs.Runs.{Declares, functions_of, IsSummaryBy, IsLoadText}
 use Rattle.scenario_run.proofs.Owned.{own_is}
 use Rattle.scenario_run.proofs.Ready.{moved, ticks_same}
 use Rattle.command_replies.proofs.Compiles.{lists}
@@ -72,8 +73,8 @@ unfolding generated_of
 releases_of_generated n = refl
 
 -- no transaction of the generated scenario is eager
-pub generated_own : NoneEager → (n : ℕ) (s : Shown) (own : List ℕ) → s ≡ generated_of n → own ≡ map eager_of s.releases → (tx : ℕ) → own_at own tx ≡ 0
-generated_own none_eager n s own e f tx =
+pub generated_own : (n : ℕ) (s : Shown) (own : List ℕ) → s ≡ generated_of n → own ≡ map eager_of s.releases → (tx : ℕ) → own_at own tx ≡ 0
+generated_own n s own e f tx =
     let calm : list_any is_eager s.releases ≡ false =
     ap (λ (q : Shown). list_any is_eager q.releases) e ∙ (ap (list_any is_eager) (releases_of_generated n) ∙ calm_from (range_with_len 0 n)) in
     ap (λ (o : ℕ → ℕ). o tx) (own_is s own f) ∙ none_eager s calm tx

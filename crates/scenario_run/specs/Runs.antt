@@ -1,5 +1,5 @@
 -- The run of a scenario, what holds of it, and the text that it has.
-use Rattle.std.specs.Prelude.{◌≡◌, ℕ, ◌<◌, ◌≤◌, Bool, true, false, not, List, [], map, length, slice_index_or}
+use Rattle.std.specs.Prelude.{◌≡◌, ℕ, ◌<◌, ◌≤◌, Bool, true, false, not, List, [], map, length}
 use Rattle.std.specs.List.{list_any}
 use Rattle.rt_base.specs.declared.ids.JobId.{JobId}
 use Rattle.txn_set.specs.Set.{Set}
@@ -13,6 +13,7 @@ use Rattle.sim_history.specs.Sim.{Body, Workload, IsSim}
 use Rattle.sim_run.specs.Workloads.{workload, ticks_of, AreAccepted, IsObedient}
 use Rattle.plant_history.specs.Histories.{IsRunOf}
 use Rattle.eager_laws.specs.Plannable.{ArePlannable, own_of}
+use Rattle.plant_run.specs.Runs.{own_at}
 use Rattle.step_script.specs.declared.script.Script.{Script}
 use Rattle.step_script.specs.Scripts.{program_of, next_of}
 use Rattle.scenario.specs.declared.releases.Releases.{Releases}
@@ -52,10 +53,6 @@ pub record Declares (set : Set) (scripts : List Script) (releases : List Release
 
 abbrev pub functions_of : List Script → List Body
 functions_of scripts = map next_of (map program_of scripts)
-
--- how many jobs each transaction plans itself, 0 past the end
-abbrev pub own_at : List ℕ → ℕ → ℕ
-own_at own tx = slice_index_or own tx 0
 
 -- scripts, ticks and own jobs with which a board of this set can be run
 pub record IsReady (set : Set) (scripts : List Script) (ticks : List (List ℕ)) (own : List ℕ) : Type 0 where

@@ -1,16 +1,16 @@
 //! The summary of a generated scenario's run.
 ghost use Rattle.std.specs.Prelude.{◌≡◌, ◌+◌, ◌<◌, ◌≤◌, ℕ, [], length, IfOk};
+ghost use Rattle.txn_set.specs.Set.{IsCompiled};
 ghost use Rattle.counting_laws.specs.Counting.{room_of_jobs};
 ghost use Rattle.sim_run.specs.Workloads.{workload, ticks_of};
-ghost use Rattle.scenario_run.specs.Runs.{IsReady, own_at, functions_of, IsSummaryBy};
+ghost use Rattle.plant_run.specs.Runs.{own_at};
+ghost use Rattle.scenario_run.specs.Runs.{IsReady, functions_of, IsSummaryBy};
 ghost use Rattle.scenario_run.specs.Replies.{LoadReply};
 
 use crate::prepared::{BOARD_ROOM, Bodies, prepared};
 use board::Board;
 use command_replies::{Reply, compiled, written};
-use eager_laws::{scenario_is_plannable, scenario_plans_next};
 use lock_core::Core;
-use plant_history::fixed_is_sim;
 use plant_report::keep_run;
 use rt_base::OutOfMemory;
 use run_report::summary;
@@ -32,6 +32,7 @@ fn summary_on<R: Threads + Wait + Sync, B: Board + Send + Drop, G: Gate + Sync>(
     gate: &G,
 ) -> Result<Vec<u8>, OutOfMemory>
     requires opened { B.stands board [] }
+    requires compiled { IsCompiled (B.set board) }
     requires ready { IsReady (B.set board) bodies.scripts.items bodies.ticks.items bodies.own.items }
     requires fixed { (tx : ℕ) → own_at bodies.own.items tx ≡ 0 }
     requires room { 1024 < B.room board }
@@ -39,7 +40,6 @@ fn summary_on<R: Threads + Wait + Sync, B: Board + Send + Drop, G: Gate + Sync>(
     requires workers { (1 ≤ workers) × (workers ≤ 64) }
     ensures { IfOk result (λ text. IsSummaryBy (workload (B.set board) (functions_of bodies.scripts.items) bodies.ticks.items) text.items) }
 {
-    fixed_is_sim();
     let Bodies {
         scripts,
         ticks,
@@ -52,7 +52,7 @@ fn summary_on<R: Threads + Wait + Sync, B: Board + Send + Drop, G: Gate + Sync>(
 }
 
 /// The reply of `load`: the summary of the run, by so many workers, of the scenario that is generated of so many
-/// transactions. It may wait.
+/// transactions. Err comes only where a growth was refused. It may wait.
 pub fn load<R: Threads + Wait + Sync, G: Gate + Sync>(
     rt: &R,
     alloc: Global,
@@ -73,8 +73,6 @@ pub fn load<R: Threads + Wait + Sync, G: Gate + Sync>(
         releases,
         room,
     } = generated(alloc, n)?;
-    scenario_is_plannable();
-    scenario_plans_next();
     let Ok(set) = compiled(alloc, items, txns, together)? else {
         unreachable!()
     };

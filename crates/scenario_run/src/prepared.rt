@@ -5,7 +5,6 @@ ghost use Rattle.scenario.specs.Releases.{fixed_ticks, eager_of};
 ghost use Rattle.scenario_run.specs.Runs.{Declares, IsReady};
 
 use crate::ticks::{all_fixed, all_own, count, count_own};
-use eager_laws::scenario_is_plannable;
 use rt_base::{List, OutOfMemory, Tick};
 use scenario::Releases;
 use std::alloc::Global;
@@ -48,7 +47,6 @@ pub(crate) fn prepared(
     ensures ready { IfOk result (λ b. IsReady set.now b.scripts.items b.ticks.items b.own.items) }
 {
     set.is_compiled();
-    scenario_is_plannable();
     let scripts = scripts.into_vec();
     let ticks = all_fixed(alloc, set.txns(), releases.as_slice())?;
     let own = all_own(alloc, releases.as_slice())?;

@@ -9,7 +9,8 @@ ghost use Rattle.scenario.specs.Scenarios.{IsScenario};
 ghost use Rattle.report_lines.specs.Texts.{NamesSet};
 ghost use Rattle.written_run.specs.Written.{Wrote, WroteFront};
 ghost use Rattle.plant_report.specs.Eager.{IsRunTextBy};
-ghost use Rattle.scenario_run.specs.Runs.{IsReady, own_at, functions_of};
+ghost use Rattle.plant_run.specs.Runs.{own_at};
+ghost use Rattle.scenario_run.specs.Runs.{IsReady, functions_of};
 ghost use Rattle.scenario_run.specs.Replies.{RunReply, RunText};
 
 use crate::prepared::{BOARD_ROOM, Bodies, prepared};
@@ -17,7 +18,6 @@ use crate::stop::Stop;
 use crate::written::write_on;
 use admitted_core::AdmittedCore;
 use command_replies::{Reply, admitted, compiled, refused_admission, refused_set};
-use eager_laws::{scenario_is_plannable, scenario_plans_next};
 use io_edge::Sink;
 use lock_core::Core;
 use rt_base::Names;
@@ -114,8 +114,6 @@ fn trial<R: Threads + Wait + Sync, K: Sink, G: Gate + Sync>(
     ensures fault { IsErrOf result Stop.Writing → Rose (K.faults sink.old) (K.faults sink.new) }
     ensures reading { IsErrOf result Stop.Reading → ⊥ }
 {
-    scenario_is_plannable();
-    scenario_plans_next();
     let Scenario {
         names,
         items,
@@ -154,8 +152,6 @@ fn admitted_run<R: Threads + Wait + Sync, K: Sink, G: Gate + Sync>(
     ensures fault { IsErrOf result Stop.Writing → Rose (K.faults sink.old) (K.faults sink.new) }
     ensures reading { IsErrOf result Stop.Reading → ⊥ }
 {
-    scenario_is_plannable();
-    scenario_plans_next();
     let Scenario {
         names,
         items,

@@ -3,7 +3,7 @@ ghost use Rattle.std.specs.Prelude.{◌≡◌, ◌≤◌, ◌<◌, ◌^◌, ℕ,
 ghost use Rattle.std.specs.List.{All, sum};
 ghost use Rattle.scenario.specs.Releases.{jobs_of, eager_of, ticks_of, total_jobs, fixed_ticks};
 ghost use Rattle.scenario.specs.Scenarios.{HasTextTimes};
-ghost use Rattle.scenario_run.specs.Runs.{own_at};
+ghost use Rattle.plant_run.specs.Runs.{own_at};
 
 use rt_base::{List, OutOfMemory, Tick};
 use scenario::Releases;

@@ -12,14 +12,14 @@ ghost use Rattle.written_run.specs.Written.{Wrote, WroteFront};
 ghost use Rattle.written_run.specs.declared.written.RunFault.TheVariants as faults;
 ghost use Rattle.plant_report.specs.Eager.{IsRunTextBy};
 ghost use Rattle.scenario_run.specs.declared.stop.Stop.TheVariants as stops;
-ghost use Rattle.scenario_run.specs.Runs.{IsReady, own_at, functions_of};
+ghost use Rattle.plant_run.specs.Runs.{own_at};
+ghost use Rattle.scenario_run.specs.Runs.{IsReady, functions_of};
 
 use crate::prepared::Bodies;
 use crate::stop::Stop;
 use crate::ticks::none_own;
 use board::Board;
 use io_edge::Sink;
-use plant_history::fixed_is_sim;
 use plant_report::{write_eager_run, write_run};
 use rt_base::Names;
 use run_report::ReportWriter;
@@ -71,7 +71,6 @@ fn write_fixed<R: Threads + Wait + Sync, B: Board + Send + Drop, K: Sink, G: Gat
     ensures fault { IsErrOf result Stop.Writing → Rose (K.faults sink.old) (K.faults sink.new) }
     ensures reading { IsErrOf result Stop.Reading → ⊥ }
 {
-    fixed_is_sim();
     let Bodies {
         scripts,
         ticks,

@@ -7,4 +7,4 @@ pub returns-clause-ready : goal.returns-clause-ready
 returns-clause-ready c =
     let ticks : c.in_ok-ticks.ticks.items ≡ fixed_ticks c.args.set.now.txns c.args.releases.now = search rules in
     let own : c.in_ok-own.own.items ≡ map eager_of c.args.releases.now = search rules in
-    ready c.scenario_is_plannable.ensures.plannable c.scenario_is_plannable.ensures.eager c.args.set.now c.args.scripts c.args.releases.now c.is_compiled.ensures c.requires _ _ _ c.into_vec-scripts.ensures ticks own
+    ready c.args.set.now c.args.scripts c.args.releases.now c.is_compiled.ensures c.requires _ _ _ c.into_vec-scripts.ensures ticks own

@@ -8,7 +8,8 @@ use Rattle.sim_run.specs.Workloads.{workload}
 use Rattle.plant_report.specs.Eager.{IsRunTextBy}
 use Rattle.command_replies.specs.declared.status.Status.TheVariants as statuses
 use Rattle.command_replies.proofs.Replying.{taken}
-use Rattle.scenario_run.specs.Runs.{Declares, own_at, functions_of}
+use Rattle.plant_run.specs.Runs.{own_at}
+use Rattle.scenario_run.specs.Runs.{Declares, functions_of}
 use Rattle.scenario_run.specs.Replies.{RunText}
 use Rattle.scenario_run.proofs.Ready.{text_of, room_is, wrote_of, front_of, kept_or_front, err_of}
 use Rattle.scenario_run.proofs.Replying.{admitted_reply}
@@ -26,7 +27,7 @@ write_admitted-requires-clause-entries g c κs within =
     c.in_ok-bodies.ensures.ticks ∙ ap (λ (q : Set). fixed_ticks q.txns c.args.scenario.releases) on in
     let d : Declares c.in-Ok-2.set c.args.scenario.scripts c.args.scenario.releases =
     record { scenario = s; is = c.requires.scenario; set_is = same ∙ set_is; programs_are = refl; releases_are = refl } in
-    room_is c.scenario_plans_next.ensures.room c.in-Ok-2.set c.args.scenario.scripts c.args.scenario.releases d c.in_ok-bodies.bodies.scripts.items c.in_ok-bodies.bodies.ticks.items c.in_ok-bodies.bodies.own.items
+    room_is c.in-Ok-2.set c.args.scenario.scripts c.args.scenario.releases d c.in_ok-bodies.bodies.scripts.items c.in_ok-bodies.bodies.ticks.items c.in_ok-bodies.bodies.own.items
     c.in_ok-bodies.ensures.scripts ticks c.in_ok-bodies.ensures.own
 
 pub returns-in-Ok-write_admitted-clause-whole : goal.returns-in-Ok-write_admitted-clause-whole
@@ -42,7 +43,7 @@ returns-in-Ok-write_admitted-clause-whole g c = λ done.
     let d : Declares c.in-Ok-2.set c.args.scenario.scripts c.args.scenario.releases =
     record { scenario = s; is = c.requires.scenario; set_is = same ∙ set_is; programs_are = refl; releases_are = refl } in
     wrote_of (λ x. IsRunTextBy s.names true (workload c.in-Ok-2.set (functions_of c.in_ok-bodies.bodies.scripts.items) c.in_ok-bodies.bodies.ticks.items) (own_at c.in_ok-bodies.bodies.own.items) x) (RunText false s) _ _
-    (λ text h. admitted_reply c.scenario_is_plannable.ensures.none_eager s statuses.Ok text c.requires.scenario none (ap refusal (sym set_is) ∙ admits) refl
+    (λ text h. admitted_reply s statuses.Ok text c.requires.scenario none (ap refusal (sym set_is) ∙ admits) refl
     (text_of s.names true c.in-Ok-2.set c.args.scenario.scripts c.args.scenario.releases d c.in_ok-bodies.bodies.scripts.items c.in_ok-bodies.bodies.ticks.items c.in_ok-bodies.bodies.own.items text
     c.in_ok-bodies.ensures.scripts ticks c.in_ok-bodies.ensures.own h))
     (c.in-Ok-write_admitted.ensures.whole)
@@ -60,7 +61,7 @@ returns-clause-cut g c = λ is.
     let d : Declares c.in-Ok-2.set c.args.scenario.scripts c.args.scenario.releases =
     record { scenario = s; is = c.requires.scenario; set_is = same ∙ set_is; programs_are = refl; releases_are = refl } in
     front_of (λ x. IsRunTextBy s.names true (workload c.in-Ok-2.set (functions_of c.in_ok-bodies.bodies.scripts.items) c.in_ok-bodies.bodies.ticks.items) (own_at c.in_ok-bodies.bodies.own.items) x) (RunText false s) _ _
-    (λ text h. admitted_reply c.scenario_is_plannable.ensures.none_eager s statuses.Ok text c.requires.scenario none (ap refusal (sym set_is) ∙ admits) refl
+    (λ text h. admitted_reply s statuses.Ok text c.requires.scenario none (ap refusal (sym set_is) ∙ admits) refl
     (text_of s.names true c.in-Ok-2.set c.args.scenario.scripts c.args.scenario.releases d c.in_ok-bodies.bodies.scripts.items c.in_ok-bodies.bodies.ticks.items c.in_ok-bodies.bodies.own.items text
     c.in_ok-bodies.ensures.scripts ticks c.in_ok-bodies.ensures.own h))
     (c.in-Err-write_admitted.ensures.cut (err_of _ _ is))
@@ -78,7 +79,7 @@ returns-clause-short g c = λ is.
     let d : Declares c.in-Ok-2.set c.args.scenario.scripts c.args.scenario.releases =
     record { scenario = s; is = c.requires.scenario; set_is = same ∙ set_is; programs_are = refl; releases_are = refl } in
     kept_or_front (λ x. IsRunTextBy s.names true (workload c.in-Ok-2.set (functions_of c.in_ok-bodies.bodies.scripts.items) c.in_ok-bodies.bodies.ticks.items) (own_at c.in_ok-bodies.bodies.own.items) x) (RunText false s) _ _
-    (λ text h. admitted_reply c.scenario_is_plannable.ensures.none_eager s statuses.Ok text c.requires.scenario none (ap refusal (sym set_is) ∙ admits) refl
+    (λ text h. admitted_reply s statuses.Ok text c.requires.scenario none (ap refusal (sym set_is) ∙ admits) refl
     (text_of s.names true c.in-Ok-2.set c.args.scenario.scripts c.args.scenario.releases d c.in_ok-bodies.bodies.scripts.items c.in_ok-bodies.bodies.ticks.items c.in_ok-bodies.bodies.own.items text
     c.in_ok-bodies.ensures.scripts ticks c.in_ok-bodies.ensures.own h))
     (c.in-Err-write_admitted.ensures.short (err_of _ _ is))

@@ -3,7 +3,8 @@ use Rattle.txn_set.specs.Set.{Set}
 use Rattle.sim_run.specs.Workloads.{workload}
 use Rattle.run_report.specs.Report.{opening_text}
 use Rattle.plant_report.specs.Eager.{IsRunTextBy}
-use Rattle.scenario_run.specs.Runs.{own_at, functions_of}
+use Rattle.plant_run.specs.Runs.{own_at}
+use Rattle.scenario_run.specs.Runs.{functions_of}
 use Rattle.scenario_run.proofs.Ready.{on_ok, wrote_of, text_on, own_few}
 use Rattle.scenario_run.proofs.run.write_trial.Goals as goal
 

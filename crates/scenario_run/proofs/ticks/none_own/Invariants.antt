@@ -1,5 +1,5 @@
 use Rattle.std.proofs.Common.{◌≡◌, ℕ, ◌<◌}
-use Rattle.scenario_run.specs.Runs.{own_at}
+use Rattle.plant_run.specs.Runs.{own_at}
 use Rattle.scenario_run.proofs.ticks.none_own.Given as goal
 
 abbrev pub invariant-loop-jobs : goal.invariant-loop-jobs

@@ -1,4 +1,4 @@
-use Rattle.scenario_run.proofs.FixedMore.{next_tick}
+use Rattle.scenario_run.proofs.FixedTicks.{next_tick}
 use Rattle.scenario_run.proofs.ticks.periodic.Goals as goal
 
 pub loop-k-preserved : goal.loop-k-preserved

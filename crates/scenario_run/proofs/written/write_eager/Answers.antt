@@ -2,7 +2,8 @@ use Rattle.std.proofs.Common.{rules, ◌≡◌, Err, map, refl, sym, ap}
 use Rattle.step_script.specs.Scripts.{program_of, next_of}
 use Rattle.sim_run.specs.Workloads.{workload}
 use Rattle.plant_report.specs.Eager.{IsRunTextBy}
-use Rattle.scenario_run.specs.Runs.{own_at, functions_of}
+use Rattle.plant_run.specs.Runs.{own_at}
+use Rattle.scenario_run.specs.Runs.{functions_of}
 use Rattle.scenario_run.proofs.Ready.{functions_same, moved, ObedientBy, places_for, text_by, same_stop, wrote_of, front_of, kept_or_front}
 use Rattle.scenario_run.proofs.written.write_eager.Goals as goal
 

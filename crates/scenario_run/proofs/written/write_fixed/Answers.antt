@@ -3,7 +3,8 @@ use Rattle.step_script.specs.Scripts.{program_of, next_of}
 use Rattle.sim_run.specs.Workloads.{workload}
 use Rattle.written_run.specs.Written.{IsTextBy}
 use Rattle.plant_report.specs.Eager.{IsRunTextBy}
-use Rattle.scenario_run.specs.Runs.{own_at, functions_of}
+use Rattle.plant_run.specs.Runs.{own_at}
+use Rattle.scenario_run.specs.Runs.{functions_of}
 use Rattle.scenario_run.proofs.Ready.{functions_same, moved, ObedientBy, text_by, fixed_text, wrote_of, front_of}
 use Rattle.scenario_run.proofs.written.write_fixed.Goals as goal
 
