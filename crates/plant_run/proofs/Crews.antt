@@ -1,8 +1,8 @@
 -- Members of workers, from the dealing to the end of their run.
 use Rattle.std.proofs.Common.{◌≡◌, ℕ, zero, suc, ◌+◌, ◌<◌, ◌++◌, Bool, true, if◌then◌else◌, nat_lt, List, [], ◌∷◌, length, map, reverse, slice_index_or, Option, None, Some, All, refl, sym, ap, subst, ◌∙◌, arith}
 use Rattle.std.proofs.lemmas.Bool.Decides.{nat_tests}
-use Rattle.std.proofs.lemmas.List.{reverse-append}
-use Rattle.std.proofs.lemmas.List.Elements.{All-push, All-head, All-tail}
+use Rattle.std.proofs.lemmas.List.{reverse-append, length-reverse}
+use Rattle.std.proofs.lemmas.List.Elements.{All-cons, All-push, All-head, All-tail}
 use Rattle.rt_base.specs.declared.ids.TxId.{TxId}
 use Rattle.rt_base.specs.declared.operation.Op.{Op}
 use Rattle.rt_base.specs.declared.operation.Outcome.{Outcome}
@@ -51,12 +51,15 @@ all_reverse : {X : Type 0} (P : X → Type 0) (xs : List X) → All P xs → All
 all_reverse P [] all = all
 all_reverse P (x ∷ xs) all = subst (All P) (sym (reverse-append (x ∷ []) xs)) (All-push P (reverse xs) x (all_reverse P xs (All-tail P x xs all)) (All-head P x xs all))
 
-map_reverse : {X Z : Type 0} (f : X → Z) (xs : List X) → map f (reverse xs) ≡ reverse (map f xs)
-map_reverse f [] = refl
-map_reverse f (x ∷ xs) = ap (map f) (reverse-append (x ∷ []) xs) ∙ (snoc (reverse xs) x ∙ (ap (λ l. l ++ f x ∷ []) (map_reverse f xs) ∙ sym (reverse-append (f x ∷ []) (map f xs)))) where
-  snoc : (ys : List _) (y : _) → map f (ys ++ y ∷ []) ≡ map f ys ++ f y ∷ []
-  snoc [] y = refl
-  snoc (z ∷ ys) y = ap (λ l. f z ∷ l) (snoc ys y)
+-- lists each turned round
+
+total_turned : {X V : Type 0} (f : List X → ℕ) (items : V → List X) → ((xs : List X) → f (reverse xs) ≡ f xs) → (vs : List V) → total f (map (λ v. reverse (items v)) vs) ≡ total f (map items vs)
+total_turned f items same [] = refl
+total_turned f items same (v ∷ vs) = omega (arith, same (items v), total_turned f items same vs)
+
+all_turned : {X V : Type 0} (P : X → Type 0) (items : V → List X) (vs : List V) → All (All P) (map items vs) → All (All P) (map (λ v. reverse (items v)) vs)
+all_turned P items [] all = all
+all_turned P items (v ∷ vs) all = All-cons (All P) (reverse (items v)) (map (λ v. reverse (items v)) vs) (all_reverse P (items v) (All-head (All P) (items v) (map items vs) all)) (all_turned P items vs (All-tail (All P) (items v) (map items vs) all))
 
 -- elements at one place
 
@@ -79,19 +82,16 @@ module _ {B Y : Type 0} where
   abbrev pub teams : List (Worker B Y) → List (List (Member B Y))
   teams ws = map (λ (w : Worker B Y). team_of w) ws
 
-  teams_are : (ws : List (Worker B Y)) → teams ws ≡ rows (map (λ (w : Worker B Y). w.members) ws)
-  teams_are [] = refl
-  teams_are (w ∷ ws) = ap (λ (l : List (List (Member B Y))). team_of w ∷ l) (teams_are ws)
-
   pub staffed : (gives : Y → ℕ → List Outcome → Op) (bodies : List Body) (releases : List (List ℕ)) (own : ℕ → ℕ) (id : TableId) (past : List Entry) (first : ℕ)
-      (lists : List (Row B Y)) (ws : List (Worker B Y)) → map (λ (w : Worker B Y). w.members) ws ≡ reverse lists
+      (lists : List (Row B Y)) (ws : List (Worker B Y)) → teams ws ≡ reverse (map (λ (v : Row B Y). reverse v.items) lists)
       → AreDealt gives bodies releases own id past first 0 (rows lists) → AreDealt gives bodies releases own id past first 0 (teams ws)
   staffed gives bodies releases own id past first lists ws is a =
-      let same : teams ws ≡ reverse (rows lists) = teams_are ws ∙ (ap rows is ∙ map_reverse (λ (v : Row B Y). v.items) lists) in
-      subst (AreDealt gives bodies releases own id past first 0) (sym same) (record {
-        each = all_reverse (All (IsDealt gives bodies releases own id past first)) (rows lists) a.each;
-        once = λ tx. omega (arith, total_reverse (members_at tx) (rows lists), a.once tx);
-        count = omega (arith, total_reverse (λ (l : List (Member B Y)). length l) (rows lists), a.count);
+      let items : Row B Y → List (Member B Y) = λ v. v.items in
+      let turned : List (List (Member B Y)) = map (λ (v : Row B Y). reverse v.items) lists in
+      subst (AreDealt gives bodies releases own id past first 0) (sym is) (record {
+        each = all_reverse (All (IsDealt gives bodies releases own id past first)) turned (all_turned (IsDealt gives bodies releases own id past first) items lists a.each);
+        once = λ tx. omega (arith, total_reverse (members_at tx) turned, total_turned (members_at tx) items (total_reverse (λ (m : Member B Y). sits_at tx m.seat.tx)) lists, a.once tx);
+        count = omega (arith, total_reverse (λ (l : List (Member B Y)). length l) turned, total_turned (λ (l : List (Member B Y)). length l) items (λ xs. length-reverse xs) lists, a.count);
       })
 
   pub all_teams : (P : Member B Y → Type 0) (ws : List (Worker B Y)) → All (All P) (teams ws) → All (λ (w : Worker B Y). All P w.members.items) ws

@@ -128,14 +128,16 @@ fn deal<B: Board, Y: Body + Drop>(
     }
 }
 
-// A worker for each list, the last first.
+// A worker for each list, the last first. The members of each are turned round: dealing put the last transaction first.
 fn staff<B: Board, Y: Body + Drop>(lists: Vec<Vec<Member<B, Y>>>, workers: &mut Vec<Worker<B, Y>>)
     requires empty { workers.old.items ≡ [] }
     requires places { vec_len lists ≤ vec_capacity workers.old }
-    ensures { map (λ w. w.members) workers.new.items ≡ reverse lists.items }
+    ensures { map (λ w. team_of w) workers.new.items ≡ reverse (map (λ l. reverse l.items) lists.items) }
 {
     let mut lists = lists;
     for _ in 0..lists.len() {
-        workers.push_reserved(Worker::new(lists.pop().unwrap()));
+        let mut members = lists.pop().unwrap();
+        members.reverse();
+        workers.push_reserved(Worker::new(members));
     }
 }

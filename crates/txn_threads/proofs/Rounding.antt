@@ -1,5 +1,5 @@
 -- Tries of members, and rounds.
-use Rattle.std.proofs.Common.{◌≡◌, ℕ, ◌+◌, ◌-◌, ◌<◌, ◌≤◌, le_refl, length-append, List, [], ◌∷◌, ◌++◌, Option, Some, None, IfSome, length, All, Bool, slice_index_or, slice_set, refl, sym, ap, subst, ◌∙◌, arith, append_assoc, append-nil}
+use Rattle.std.proofs.Common.{◌≡◌, ℕ, ◌+◌, ◌-◌, ◌<◌, ◌≤◌, le_refl, length-append, List, [], ◌∷◌, ◌++◌, Option, Some, None, length, All, Bool, slice_index_or, slice_set, refl, sym, ap, subst, ◌∙◌, arith, append_assoc, append-nil}
 use Rattle.std.proofs.lemmas.List.{length-set, get_or-set_same, get_or-set_other, get_or_default}
 use Rattle.std.proofs.lemmas.Option.{slice_get-get_or}
 use mathlib.Core.Logic.{dite}
@@ -24,7 +24,7 @@ use Rattle.txn_threads.specs.Scripts.{job_of, own_outcomes, AreAsked}
 use Rattle.txn_threads.specs.Plans.{plans_in, ArePlanned}
 use Rattle.txn_threads.specs.Rising.{AreRising}
 use Rattle.txn_threads.specs.Tasks.{Tied}
-use Rattle.txn_threads.specs.Rounds.{Each, Sits, Ran, IsRefusal, IsRefused, Met, MetIn, IfStop}
+use Rattle.txn_threads.specs.Rounds.{Each, Sits, Ran, IsRefusal, IsRefused, Met, MetIn, IfStop, halt_of}
 use Rattle.txn_threads.proofs.Counting.{ended_grow}
 use Rattle.txn_threads.proofs.Scripting.{asked_append}
 use Rattle.txn_threads.proofs.Rises.{rising_append}
@@ -230,17 +230,20 @@ module _ {B Y : Type 0} (gives : Y → ℕ → List Outcome → Op) where
   pub met_at : (p : PlantFacts) (ms : List (Member B Y)) (i : ℕ) (m : Member B Y) (h : Halt) → i < length ms → Met gives p h m → MetIn gives p (slice_set ms i m) h
   met_at p ms i m h less met = (i, m, slice_get-get_or (slice_set ms i m) i m (subst (λ n. i < n) (sym (length-set ms i m)) less) ∙ ap Some (get_or-set_same ms i m m less), met)
 
+pub none_some_halt : (h : Halt) → None ≡ Some h → ⊥
+none_some_halt h e = cc
+
 abbrev the_halt : Halt → Option Halt → Halt
 the_halt other None = other
 the_halt other (Some h) = h
 
-pub none_some_halt : (h : Halt) → None ≡ Some h → ⊥
-none_some_halt h e = cc
-
--- the stop that a worker has just met, or none
-pub just_met : {B Y : Type 0} (gives : Y → ℕ → List Outcome → Op) (p : PlantFacts) (ms : List (Member B Y)) (o : Option Halt) → IfSome o (λ h. MetIn gives p ms h) → (h : Halt) → o ≡ Some h → MetIn gives p ms h
-just_met gives p ms None s h is = absurd (none_some_halt h is)
-just_met gives p ms (Some k) s h is = subst (λ (x : Halt). MetIn gives p ms x) (ap (the_halt h) is) s
+-- the stop that came of a try, or none
+pub stop_of_came : (c : Came) (P : Halt → Type 0) → IfStop c P → (h : Halt) → halt_of c ≡ Some h → P h
+stop_of_came came.NoJob P s h is = absurd (none_some_halt h is)
+stop_of_came (came.NotYet tx) P s h is = absurd (none_some_halt h is)
+stop_of_came came.Went P s h is = absurd (none_some_halt h is)
+stop_of_came came.Full P s h is = absurd (none_some_halt h is)
+stop_of_came (came.Stop k) P s h is = subst P (ap (the_halt h) is) s
 
 pub if_stop : (c : Came) (P Q : Halt → Type 0) → ((h : Halt) → P h → Q h) → IfStop c P → IfStop c Q
 if_stop came.NoJob P Q f s = tt

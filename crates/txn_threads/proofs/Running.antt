@@ -22,7 +22,7 @@ use Rattle.txn_threads.specs.Rising.{AreRising}
 use Rattle.txn_threads.specs.Tasks.{Tied}
 use Rattle.txn_threads.specs.Rounds.{Each, Sits, Ran, Halted, WorkerSits, WorkerRan}
 use Rattle.txn_threads.specs.Runs.{MayRun, HasRun, IsDone, FirstStop, FirstHalt, HaltIs, StopIs, run_stop, IfStopped, Cleared, WorkerCleared}
-use Rattle.txn_threads.proofs.Rounding.{each_refl, each_trans, each_has, all_sit, all_refl, all_trans, none_some_halt}
+use Rattle.txn_threads.proofs.Rounding.{each_refl, each_trans, each_step, each_has, all_sit, all_refl, all_trans, none_some_halt}
 use Rattle.txn_threads.proofs.Planning.{few_plans}
 
 -- loops over lists
@@ -79,6 +79,9 @@ module _ {B Y : Type 0} (gives : Y → ℕ → List Outcome → Op) (stands : Y 
 
   pub workers_trans : (p : PlantFacts) (xs ys zs : List (Worker B Y)) → Each (WorkerRan gives stands p) xs ys → Each (WorkerRan gives stands p) ys zs → Each (WorkerRan gives stands p) xs zs
   workers_trans p xs ys zs = each_trans (WorkerRan gives stands p) (worker_trans p) xs ys zs
+
+  pub workers_step : (p : PlantFacts) (xs ys : List (Worker B Y)) (i : ℕ) (y z : Worker B Y) → Each (WorkerRan gives stands p) xs ys → i < length ys → y ≡ slice_index_or ys i y → WorkerRan gives stands p y z → Each (WorkerRan gives stands p) xs (slice_set ys i z)
+  workers_step p = each_step (WorkerRan gives stands p) (worker_trans p)
 
   pub workers_sit : (p : PlantFacts) (xs ys : List (Worker B Y)) → Each (WorkerRan gives stands p) xs ys → All (WorkerSits gives stands p) ys
   workers_sit p xs ys e = each_has (WorkerRan gives stands p) (WorkerSits gives stands p) (λ a b r. (all_sit gives stands p a.members.items b.members.items r.0, r.1)) xs ys e

@@ -1,5 +1,5 @@
 -- What rounds do to members and workers.
-use Rattle.std.specs.Prelude.{◌≡◌, ℕ, ◌+◌, ◌-◌, ◌<◌, ◌≤◌, ◌++◌, List, Some, true, Result, Ok, Err, length, slice_get, slice_index_or, All}
+use Rattle.std.specs.Prelude.{◌≡◌, ℕ, ◌+◌, ◌-◌, ◌<◌, ◌≤◌, ◌++◌, List, Option, Some, None, true, Result, Ok, Err, length, slice_get, slice_index_or, All}
 use Rattle.rt_base.specs.declared.ids.TxId.{TxId}
 use Rattle.rt_base.specs.declared.ids.JobId.{JobId}
 use Rattle.rt_base.specs.declared.operation.Op.{Op}
@@ -117,6 +117,14 @@ IfStop (came.NotYet tx) P = Unit {0}
 IfStop came.Went P = Unit {0}
 IfStop came.Full P = Unit {0}
 IfStop (came.Stop h) P = P h
+
+-- the stop that came of a try
+abbrev pub halt_of : Came → Option Halt
+halt_of came.NoJob = None
+halt_of (came.NotYet tx) = None
+halt_of came.Went = None
+halt_of came.Full = None
+halt_of (came.Stop h) = Some h
 
 -- how many jobs are known to have ended, after an answer
 abbrev pub known_after : ℕ → StepReply → ℕ

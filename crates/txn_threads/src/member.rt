@@ -2,6 +2,7 @@
 ghost use Rattle.std.specs.Prelude.{◌≡◌, None};
 ghost use Rattle.txn_threads.specs.Runs.{Cleared};
 
+use crate::round::Came;
 use crate::task::Task;
 use board::{Board, StepReply};
 use rt_base::{JobId, PlanRefused, TxId};
@@ -96,6 +97,8 @@ pub struct Worker<B: Board, Y: Body> {
     pub(crate) halt: Option<Halt>,
     // the place of the member that it tries first
     pub(crate) first: usize,
+    // what came of its last try
+    pub(crate) came: Came,
 }
 
 impl<B: Board, Y: Body> Worker<B, Y> {
@@ -107,6 +110,7 @@ impl<B: Board, Y: Body> Worker<B, Y> {
             members,
             halt: None,
             first: 0,
+            came: Came::NoJob,
         }
     }
 
@@ -118,6 +122,7 @@ impl<B: Board, Y: Body> Worker<B, Y> {
             members,
             halt: _,
             first: _,
+            came: _,
         } = self;
         members
     }

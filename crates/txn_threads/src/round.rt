@@ -1,6 +1,6 @@
 //! A worker's part of a round.
-ghost use Rattle.std.specs.Prelude.{◌≡◌, ◌<◌, ◌+◌, ◌^◌, All, IfSome, length};
-ghost use Rattle.txn_threads.specs.Rounds.{Each, Sits, Ran, Met, MetIn, WorkerSits, WorkerRan, IfStop, IsCause, IsHaltOf, IsPlanHalt, known_after, planned_after};
+ghost use Rattle.std.specs.Prelude.{◌≡◌, ◌<◌, ◌+◌, ◌^◌, All, length};
+ghost use Rattle.txn_threads.specs.Rounds.{Each, Sits, Ran, Met, MetIn, WorkerSits, WorkerRan, IfStop, IsCause, IsHaltOf, IsPlanHalt, halt_of, known_after, planned_after};
 ghost use Rattle.txn_threads.specs.declared.member.Halt.TheVariants as stop;
 
 use crate::gate::Gate;
@@ -16,7 +16,7 @@ const TIMES_THROUGH: u32 = 16;
 // What came of a try.
 #[derive(Clone, Copy)]
 pub(crate) enum Came {
-    // The member's present job is not pending.
+    // The member's present job is not pending, or nothing was.
     NoJob,
     // The running job is one of this transaction.
     NotYet(TxId),
@@ -158,8 +158,9 @@ fn came_of_idle(reply: &IdleReply) -> Came
     ensures { IfStop result (λ h. ⊥) }
 {
     match reply {
+        IdleReply::NotIdle { running } => Came::NotYet(running.tx),
         IdleReply::Full { room: _ } => Came::Full,
-        _ => Came::Went,
+        IdleReply::Nothing | IdleReply::Advanced { to: _ } => Came::NoJob,
     }
 }
 
@@ -169,14 +170,14 @@ fn idle_first<B: Board, Y: Body>(plant: &Plant<B>, members: &mut Vec<Member<B, Y
     ensures goes_on { IfStop result (λ h. ⊥) }
 {
     if members.is_empty() {
-        return Came::Went;
+        return Came::NoJob;
     }
     let member = &mut members[0];
     idle_member(plant, member)
 }
 
 // The place of the member of a transaction. It looks at each member at most once.
-fn place_of<B: Board, Y: Body>(members: &[Member<B, Y>], tx: TxId) -> Option<usize> {
+pub(crate) fn place_of<B: Board, Y: Body>(members: &[Member<B, Y>], tx: TxId) -> Option<usize> {
     members
         .iter()
         .position(|member| member.seat.tx() == Some(tx))
@@ -236,8 +237,9 @@ fn turn_at<B: Board, Y: Body, G: Gate>(
     turn(plant, gate, member)
 }
 
-// Turns of the members from the one at `first` on, up to one whose job is pending. NoJob where none is. `first` becomes
-// the place of the member whose job runs, as far as the answers tell.
+// Turns of the members from the one at `first` on, up to one whose job is pending. NoJob where none is, and NotYet where
+// the job of another worker's member runs. `first` becomes the place of the member whose job runs, as far as the answers
+// tell.
 fn sweep<B: Board, Y: Body, G: Gate>(
     plant: &Plant<B>,
     gate: &G,
@@ -254,10 +256,13 @@ fn sweep<B: Board, Y: Body, G: Gate>(
         }
         match turn_at(plant, gate, members, *first) {
             Came::NoJob => *first += 1,
-            Came::NotYet(tx) => {
-                *first = place_of(members.as_slice(), tx).unwrap_or(*first);
-                return Came::Went;
-            }
+            Came::NotYet(tx) => match place_of(members.as_slice(), tx) {
+                Some(place) => {
+                    *first = place;
+                    return Came::Went;
+                }
+                None => return Came::NotYet(tx),
+            },
             other => return other,
         }
     }
@@ -281,31 +286,41 @@ fn pass<B: Board, Y: Body, G: Gate>(
     }
 }
 
-// Times through the members, up to a full journal or a stop. The first time only eager members have a turn, so that their
-// jobs are planned while other jobs run.
+// Times through the members, for as long as one of their jobs runs: up to a full journal or a stop, up to an answer that
+// the job of another worker's member runs, and up to a try to idle. The first time only eager members have a turn, so that
+// their jobs are planned while other jobs run.
 fn passes<B: Board, Y: Body, G: Gate>(
     plant: &Plant<B>,
     gate: &G,
     members: &mut Vec<Member<B, Y>>,
     first: &mut usize,
-) -> Option<Halt>
+) -> Came
     requires sit { All (Sits Y.gives Y.stands plant.now) members.old.items }
     ensures ran { Each (Ran Y.gives Y.stands plant.now) members.old.items members.new.items }
-    ensures met { IfSome result (λ h. MetIn Y.gives plant.now members.new.items h) }
+    ensures met { IfStop result (λ h. MetIn Y.gives plant.now members.new.items h) }
 {
     match eager_turns(plant, gate, members) {
-        Came::Full => return None,
-        Came::Stop(halt) => return Some(halt),
+        Came::Full => return Came::Full,
+        Came::Stop(halt) => return Came::Stop(halt),
         _ => {}
     }
     for _ in 1..TIMES_THROUGH {
         match pass(plant, gate, members, first) {
-            Came::Full => return None,
-            Came::Stop(halt) => return Some(halt),
-            _ => {}
+            Came::Went => {}
+            other => return other,
         }
     }
-    None
+    Came::Went
+}
+
+// The stop that came of a try.
+fn halt_of(came: Came) -> Option<Halt>
+    ensures { result ≡ halt_of came }
+{
+    match came {
+        Came::Stop(halt) => Some(halt),
+        _ => None,
+    }
 }
 
 // A worker's part of a round.
@@ -318,6 +333,7 @@ pub(crate) fn round<B: Board, Y: Body, G: Gate>(
     ensures ran { WorkerRan Y.gives Y.stands plant.now worker.old worker.new }
 {
     if worker.halt.is_none() {
-        worker.halt = passes(plant, gate, &mut worker.members, &mut worker.first);
+        worker.came = passes(plant, gate, &mut worker.members, &mut worker.first);
+        worker.halt = halt_of(worker.came);
     }
 }

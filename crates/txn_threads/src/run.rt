@@ -1,5 +1,5 @@
 //! All workers, in rounds.
-ghost use Rattle.std.specs.Prelude.{◌≡◌, ◌≤◌, List, All, None, [], length, IfOk, IfErr, IfSome, IfNone, vec_capacity, true, false};
+ghost use Rattle.std.specs.Prelude.{◌≡◌, ◌<◌, ◌≤◌, List, All, None, [], length, IfOk, IfErr, IfSome, IfNone, vec_capacity, true, false};
 ghost use Rattle.step_journal.specs.declared.entry.Entry.{Entry as Noted};
 ghost use Rattle.step_journal.specs.History.{IsLegal};
 ghost use Rattle.shared_plant.specs.Seats.{IsOf};
@@ -9,9 +9,10 @@ ghost use Rattle.txn_threads.specs.Runs.{MayRun, HasRun, IsDone, Operated, GotMo
 
 use crate::gate::Gate;
 use crate::member::{Halt, Member, RunStop, Worker};
-use crate::round::round;
+use crate::round::{Came, place_of, round};
 use board::Board;
 use entry_out::{EntryOut, Stopped};
+use rt_base::TxId;
 use shared_plant::{Plant, Seat};
 use std::sync::Wait;
 use std::thread;
@@ -38,6 +39,99 @@ fn round_all<R: Threads + Sync, B: Board + Send, Y: Body + Send, G: Gate + Sync>
             ensures { WorkerRan Y.gives Y.stands plant.entry.now worker.old worker.new }
         { round(plant, gate, worker) },
     );
+}
+
+// The part of one worker of a round, in the thread of the caller.
+fn round_at<B: Board, Y: Body, G: Gate>(
+    plant: &Plant<B>,
+    workers: &mut [Worker<B, Y>],
+    place: usize,
+    gate: &G,
+)
+    requires sit { All (WorkerSits Y.gives Y.stands plant.now) workers.old }
+    requires place { place < length workers.old }
+    ensures ran { Each (WorkerRan Y.gives Y.stands plant.now) workers.old workers.new }
+{
+    let worker = &mut workers[place];
+    round(plant, gate, worker);
+}
+
+// The place of the worker that has the member of a transaction. It looks at each member at most once.
+fn worker_of<B: Board, Y: Body>(workers: &[Worker<B, Y>], tx: TxId) -> Option<usize>
+    ensures within { IfSome result (λ i. i < length workers.now) }
+{
+    for i in 0..workers.len() {
+        let worker = &workers[i];
+        if place_of(worker.members.as_slice(), tx).is_some() {
+            return Some(i);
+        }
+    }
+    None
+}
+
+// Whether an eager member has jobs to plan.
+fn has_plans<B: Board, Y: Body>(members: &[Member<B, Y>]) -> bool {
+    members
+        .iter()
+        .any(|member| member.eager && member.planned < member.jobs)
+}
+
+// The worker that alone can go on after a round of all, as the first answer tells that a job runs. None where an eager
+// member has jobs to plan.
+fn first_running<B: Board, Y: Body>(workers: &[Worker<B, Y>]) -> Option<usize>
+    ensures within { IfSome result (λ i. i < length workers.now) }
+{
+    let mut running = None;
+    for i in 0..workers.len() {
+        let worker = &workers[i];
+        if has_plans(worker.members.as_slice()) {
+            return None;
+        }
+        match worker.came {
+            Came::NotYet(tx) => running = running.or(Some(tx)),
+            _ => {}
+        }
+    }
+    worker_of(workers, running?)
+}
+
+// The worker that alone can go on after the part of one: itself where its job may run on, or the one whose job it was told
+// to run.
+fn next_running<B: Board, Y: Body>(workers: &[Worker<B, Y>], place: usize) -> Option<usize>
+    requires place { place < length workers.now }
+    ensures within { IfSome result (λ i. i < length workers.now) }
+{
+    match workers[place].came {
+        Came::Went => Some(place),
+        Came::NotYet(tx) => worker_of(workers, tx),
+        _ => None,
+    }
+}
+
+// One round: of the worker that alone can go on, in the thread of the caller, or else of all workers. It gives the worker
+// that alone can go on after it.
+fn round_of<R: Threads + Sync, B: Board + Send, Y: Body + Send, G: Gate + Sync>(
+    rt: &R,
+    plant: &Plant<B>,
+    workers: &mut [Worker<B, Y>],
+    alone: Option<usize>,
+    gate: &G,
+) -> Option<usize>
+    requires sit { All (WorkerSits Y.gives Y.stands plant.now) workers.old }
+    requires alone { IfSome alone (λ i. i < length workers.old) }
+    ensures ran { Each (WorkerRan Y.gives Y.stands plant.now) workers.old workers.new }
+    ensures within { IfSome result (λ i. i < length workers.new) }
+{
+    match alone {
+        Some(place) => {
+            round_at(plant, workers, place, gate);
+            next_running(workers, place)
+        }
+        None => {
+            round_all(rt, plant, workers, gate);
+            first_running(workers)
+        }
+    }
 }
 
 // All kept entries, through the spare list to the out.
@@ -146,6 +240,7 @@ fn clear_worker<B: Board, Y: Body>(worker: &mut Worker<B, Y>)
     clear_members(&mut worker.members);
     worker.halt = None;
     worker.first = 0;
+    worker.came = Came::NoJob;
 }
 
 fn clear_all<B: Board, Y: Body>(workers: &mut [Worker<B, Y>])
@@ -189,11 +284,12 @@ fn rounds<R: Threads + Wait + Sync, B: Board + Send, Y: Body + Send, G: Gate + S
     let Ok(()) = drain_all(rt, plant, operator, spare, out) else {
         return Err(RunStop::Stopped);
     };
+    let mut alone = None;
     for _ in rt.forever() {
         if all_done(workers) {
             return Ok(());
         }
-        round_all(rt, plant, workers, gate);
+        alone = round_of(rt, plant, workers, alone, gate);
         let Ok(()) = drain_all(rt, plant, operator, spare, out) else {
             return Err(RunStop::Stopped);
         };
@@ -209,10 +305,16 @@ fn rounds<R: Threads + Wait + Sync, B: Board + Send, Y: Body + Send, G: Gate + S
 /// as many jobs have ended as it is to have. Before the first round and after each it drains the kept entries through
 /// `spare` to `out`. In a round a worker goes at most sixteen times through its members. Each time it begins with the
 /// member whose job runs, as far as the answers told, and makes at most one step try a member, a plan try for an eager
-/// one whose planned jobs have ended, and a try to idle where no member's job is pending. One step costs it about one
-/// try, with a look at each of its members where the job of another runs. A try that finds the journal full ends the
-/// worker's part of the round, and is made again after the next drain. A worker that meets a stop makes no further try.
-/// At its start it clears what workers and members keep from an earlier call. It takes no memory, and it may wait.
+/// one whose planned jobs have ended, and a try to idle where no member's job is pending. A try that finds the journal
+/// full ends the worker's part of the round, and is made again after the next drain. An answer that the job of another
+/// worker's member runs ends it too, as no try could go on, and so does a try to idle. A worker that meets a stop makes
+/// no further try. At its start it clears what workers and members keep from an earlier call. It takes no memory, and it
+/// may wait.
+///
+/// One job runs at a time. Where the answers of a round told whose, and no eager member has jobs to plan, the next round is
+/// of its worker alone, in the thread of the caller: the others could only be told to wait, and starting their threads
+/// costs more than many steps. After a try to idle the next round is of all workers again. One step costs about one try,
+/// with a look at each member where the job of another worker's member runs.
 ///
 /// That no two members have the same transaction, and that a member's transaction has exactly `jobs` planned jobs, or
 /// none if it is eager, is left to the caller: no promise needs it. Where `spare` has reserved places for the board's

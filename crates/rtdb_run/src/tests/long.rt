@@ -50,7 +50,7 @@ fn reported<R: Threads + Wait + Sync, G: Gate + Sync>(
 #[test]
 fn same_report(rt: HostRuntime) -> Result<(), Fail> {
     let alloc = rt.alloc();
-    let (_, scenario) = replied(&rt, alloc, ["gen", "8"].as_slice(), NONE)?;
+    let (_, scenario) = replied(&rt, alloc, ["gen", "40"].as_slice(), NONE)?;
     let (status, one) = reported(&rt, alloc, "1", &scenario, ENOUGH, &NoGate)?;
     assert_eq!(rt; status, Status::Ok);
     let (status, four) = reported(&rt, alloc, "4", &scenario, ENOUGH, &NoGate)?;

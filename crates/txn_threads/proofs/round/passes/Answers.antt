@@ -1,5 +1,3 @@
-use Rattle.std.proofs.Common.{subst}
-use Rattle.txn_threads.specs.Rounds.{IfStop, MetIn}
 use Rattle.txn_threads.proofs.Rounding.{all_sit, all_trans}
 use Rattle.txn_threads.proofs.round.passes.Goals as goal
 
@@ -12,11 +10,5 @@ pass-requires g c = record { sit = all_sit g.Y.Body.gives g.Y.Body.stands c.args
 pub loop-preserved : goal.loop-preserved
 loop-preserved g c = all_trans g.Y.Body.gives g.Y.Body.stands c.args.plant.now c.args.members.now.items c.loop.members.items c.pass.new.members.items c.loop.invariant c.pass.ensures.ran
 
-pub returns-in-Full-pass-clause-ran : goal.returns-in-Full-pass-clause-ran
-returns-in-Full-pass-clause-ran g c = all_trans g.Y.Body.gives g.Y.Body.stands c.args.plant.now c.args.members.now.items c.loop.members.items c.pass.new.members.items c.loop.invariant c.pass.ensures.ran
-
-pub returns-in-Stop-pass-clause-ran : goal.returns-in-Stop-pass-clause-ran
-returns-in-Stop-pass-clause-ran g c = all_trans g.Y.Body.gives g.Y.Body.stands c.args.plant.now c.args.members.now.items c.loop.members.items c.pass.new.members.items c.loop.invariant c.pass.ensures.ran
-
-pub returns-in-Stop-pass-clause-met : goal.returns-in-Stop-pass-clause-met
-returns-in-Stop-pass-clause-met g c = subst (λ k. IfStop k (λ h. MetIn g.Y.Body.gives c.args.plant.now c.pass.new.members.items h)) c.in-Stop-pass.is c.pass.ensures.met
+pub returns-in_default-pass-clause-ran : goal.returns-in_default-pass-clause-ran
+returns-in_default-pass-clause-ran g c = all_trans g.Y.Body.gives g.Y.Body.stands c.args.plant.now c.args.members.now.items c.loop.members.items c.pass.new.members.items c.loop.invariant c.pass.ensures.ran

@@ -21,8 +21,11 @@ turn_at-requires g c =
 pub loop-preserved : goal.loop-preserved
 loop-preserved g c = all_trans g.Y.Body.gives g.Y.Body.stands c.args.plant.now c.args.members.now.items c.loop.members.items c.turn_at.new.members.items c.loop.invariant c.turn_at.ensures.ran
 
-pub returns-in-NotYet-clause-ran : goal.returns-in-NotYet-clause-ran
-returns-in-NotYet-clause-ran g c = all_trans g.Y.Body.gives g.Y.Body.stands c.args.plant.now c.args.members.now.items c.loop.members.items c.turn_at.new.members.items c.loop.invariant c.turn_at.ensures.ran
+pub returns-in-Some-clause-ran : goal.returns-in-Some-clause-ran
+returns-in-Some-clause-ran g c = all_trans g.Y.Body.gives g.Y.Body.stands c.args.plant.now c.args.members.now.items c.loop.members.items c.turn_at.new.members.items c.loop.invariant c.turn_at.ensures.ran
+
+pub returns-in-None-clause-ran : goal.returns-in-None-clause-ran
+returns-in-None-clause-ran g c = all_trans g.Y.Body.gives g.Y.Body.stands c.args.plant.now c.args.members.now.items c.loop.members.items c.turn_at.new.members.items c.loop.invariant c.turn_at.ensures.ran
 
 pub returns-in_default-clause-ran : goal.returns-in_default-clause-ran
 returns-in_default-clause-ran g c = all_trans g.Y.Body.gives g.Y.Body.stands c.args.plant.now c.args.members.now.items c.loop.members.items c.turn_at.new.members.items c.loop.invariant c.turn_at.ensures.ran

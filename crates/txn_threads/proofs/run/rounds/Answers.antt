@@ -29,10 +29,14 @@ loop-init g c = let e = c.in-Ok.ensures in (
   c.drain_all.ensures.stops,
   c.drain_all.ensures.good,
   c.drain_all.ensures.all,
+  tt,
 )
 
-pub round_all-requires-clause-sit : goal.round_all-requires-clause-sit
-round_all-requires-clause-sit g c κs within = workers_sit g.Y.Body.gives g.Y.Body.stands c.args.plant.now c.args.workers.now c.loop.workers c.loop.invariant.2
+pub round_of-alone-requires-clause-sit : goal.round_of-alone-requires-clause-sit
+round_of-alone-requires-clause-sit g c κs within = workers_sit g.Y.Body.gives g.Y.Body.stands c.args.plant.now c.args.workers.now c.loop.workers c.loop.invariant.2
+
+pub round_of-alone-requires-clause-alone : goal.round_of-alone-requires-clause-alone
+round_of-alone-requires-clause-alone g c κs within = c.loop.invariant.13
 
 pub drain_all-requires-in-loop-clause-plant : goal.drain_all-requires-in-loop-clause-plant
 drain_all-requires-in-loop-clause-plant g c = let q = c.loop.invariant.4 in of_same c.args.plant.now c.args.operator.now c.loop.operator q.plant q.tx c.requires.plant
@@ -53,7 +57,7 @@ pub returns-in-Some-first_halt-clause-good : goal.returns-in-Some-first_halt-cla
 returns-in-Some-first_halt-clause-good g c = λ story fine. c.drain_all-in-loop.ensures.good story (c.loop.invariant.11 story fine)
 
 pub returns-in_default-drain_all-clause-ran : goal.returns-in_default-drain_all-clause-ran
-returns-in_default-drain_all-clause-ran g c = workers_trans g.Y.Body.gives g.Y.Body.stands c.args.plant.now c.args.workers.now c.loop.workers c.round_all.new.workers c.loop.invariant.2 c.round_all.ensures.ran
+returns-in_default-drain_all-clause-ran g c = workers_trans g.Y.Body.gives g.Y.Body.stands c.args.plant.now c.args.workers.now c.loop.workers c.round_of-alone.new.workers c.loop.invariant.2 c.round_of-alone.ensures.ran
 
 pub returns-in_default-drain_all-clause-operated : goal.returns-in_default-drain_all-clause-operated
 returns-in_default-drain_all-clause-operated g c = operated_trans c.args.operator.now c.loop.operator c.drain_all-in-loop.new.operator c.loop.invariant.4 c.drain_all-in-loop.ensures.operated
@@ -69,10 +73,10 @@ returns-in_default-drain_all-clause-got g c =
     )
 
 pub returns-in-Some-first_halt-clause-ran : goal.returns-in-Some-first_halt-clause-ran
-returns-in-Some-first_halt-clause-ran g c = workers_trans g.Y.Body.gives g.Y.Body.stands c.args.plant.now c.args.workers.now c.loop.workers c.round_all.new.workers c.loop.invariant.2 c.round_all.ensures.ran
+returns-in-Some-first_halt-clause-ran g c = workers_trans g.Y.Body.gives g.Y.Body.stands c.args.plant.now c.args.workers.now c.loop.workers c.round_of-alone.new.workers c.loop.invariant.2 c.round_of-alone.ensures.ran
 
 pub returns-in-Some-first_halt-clause-stop : goal.returns-in-Some-first_halt-clause-stop
-returns-in-Some-first_halt-clause-stop g c = subst (λ s. HaltIs c.round_all.new.workers s) (sym c.stop_of.ensures) (halt_is c.round_all.new.workers c.in-Some-first_halt.halt c.in-Some-first_halt.ensures.some)
+returns-in-Some-first_halt-clause-stop g c = subst (λ s. HaltIs c.round_of-alone.new.workers s) (sym c.stop_of.ensures) (halt_is c.round_of-alone.new.workers c.in-Some-first_halt.halt c.in-Some-first_halt.ensures.some)
 
 pub returns-in-Some-first_halt-clause-operated : goal.returns-in-Some-first_halt-clause-operated
 returns-in-Some-first_halt-clause-operated g c = operated_trans c.args.operator.now c.loop.operator c.drain_all-in-loop.new.operator c.loop.invariant.4 c.drain_all-in-loop.ensures.operated
@@ -90,7 +94,7 @@ pub loop-preserved : goal.loop-preserved
 loop-preserved g c = let i = c.loop.invariant in let d = c.drain_all-in-loop.ensures in let was = i.10 in let rose = d.stops in (
   tt,
   tt,
-  workers_trans g.Y.Body.gives g.Y.Body.stands c.args.plant.now c.args.workers.now c.loop.workers c.round_all.new.workers i.2 c.round_all.ensures.ran,
+  workers_trans g.Y.Body.gives g.Y.Body.stands c.args.plant.now c.args.workers.now c.loop.workers c.round_of-alone.new.workers i.2 c.round_of-alone.ensures.ran,
   c.in-None-first_halt.ensures.none,
   operated_trans c.args.operator.now c.loop.operator c.drain_all-in-loop.new.operator i.4 d.operated,
   d.within,
@@ -101,4 +105,5 @@ loop-preserved g c = let i = c.loop.invariant in let d = c.drain_all-in-loop.ens
   omega (arith, was, rose),
   (λ story fine. d.good story (i.11 story fine)),
   (λ places. let same = i.7 in d.all (omega (arith, places, same))),
+  c.round_of-alone.ensures.within,
 )
