@@ -1,2 +1,3 @@
 pub mod Compiles
 pub mod Replying
+pub mod Analysing

@@ -1,3 +1,4 @@
 pub mod Texts
 pub mod Verdicts
 pub mod Replies
+pub mod Analysis

@@ -1,13 +1,15 @@
 //! What a command answers to a scenario's declarations and to a report: a status, and the text that it writes.
 #![tactic(auto)]
 
+mod analysis;
 mod reply;
 mod sets;
 mod status;
 mod verdict;
 
+pub use analysis::{margins, rates};
 pub use reply::{
-    Reply, no_names, refused, refused_admission, refused_scenario, refused_set, written,
+    Reply, no_names, refused, refused_admission, refused_rates, refused_scenario, refused_set, written,
 };
 pub use sets::{admitted, bounds, ceilings, compiled};
 pub use status::Status;

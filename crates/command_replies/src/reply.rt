@@ -2,15 +2,18 @@
 ghost use Rattle.std.specs.Prelude.{◌≡◌, [], IfOk};
 ghost use Rattle.command_replies.specs.Replies.{Refused};
 ghost use Rattle.refusal_lines.specs.Causes.{scenario_cause, compile_cause, admit_cause};
+ghost use Rattle.analysis_lines.specs.Lines.{rate_cause};
 ghost use Rattle.command_replies.specs.Texts.{refused_line};
 
 use crate::status::Status;
+use analysis_lines::put_rate_cause;
 use refusal_lines::{put_admit_cause, put_compile_cause, put_scenario_cause};
 use rt_base::{List, Names, OutOfMemory};
 use scenario_reader::ScenarioError;
 use set_admission::AdmitError;
 use std::alloc::Global;
 use txn_compiler::CompileError;
+use update_rates::RateError;
 
 /// The text that a status writes.
 #[derive(Drop)]
@@ -83,5 +86,14 @@ pub fn refused_admission(
 {
     let mut cause = Vec::new(alloc);
     put_admit_cause(&mut cause, names, error)?;
+    refused(alloc, Status::Refused, &cause)
+}
+
+/// Why declarations get no rates.
+pub fn refused_rates(alloc: Global, names: &Names, error: RateError) -> Result<Reply, OutOfMemory>
+    ensures { IfOk result (λ r. Refused (rate_cause names.now error) r.status r.text.items) }
+{
+    let mut cause = Vec::new(alloc);
+    put_rate_cause(&mut cause, names, error)?;
     refused(alloc, Status::Refused, &cause)
 }

@@ -74,9 +74,11 @@ pub record IsNoName (name : Text) : Type 0 where
   pub replay : bytes_eq (codes "replay") name ≡ false
   pub gen : bytes_eq (codes "gen") name ≡ false
   pub load : bytes_eq (codes "load") name ≡ false
+  pub rates : bytes_eq (codes "rates") name ≡ false
+  pub margin : bytes_eq (codes "margin") name ≡ false
 
 not_met : (name : Text) → IsNoName name → subcommand_met names idle name ≡ None
-not_met name unnamed = rw (unnamed.ceilings, unnamed.admit, unnamed.run, unnamed.replay, unnamed.gen, unnamed.load) refl
+not_met name unnamed = rw (unnamed.ceilings, unnamed.admit, unnamed.run, unnamed.replay, unnamed.gen, unnamed.load, unnamed.rates, unnamed.margin) refl
 
 refused : (name : Text) → IsNoName name → IsPlainWord name → turn_fault top names start name ≡ stray_fault top
 refused name unnamed plain =

@@ -6,7 +6,7 @@ use Rattle.clap.specs.Simple.{Shape, built_leaf, inherited, marked_built, with_l
 use Rattle.clap.specs.Kinds.{Kinds}
 use Rattle.clap.proofs.OnLiterals.{clap_on_literals}
 use Rattle.command_words.specs.declared.command.Command.{Command}
-use Rattle.command_words.specs.declared.command.PlainCommand.TheVariants.{Ceilings, Admit, Replay}
+use Rattle.command_words.specs.declared.command.PlainCommand.TheVariants.{Ceilings, Admit, Replay, Rates, Margin}
 use Rattle.command_words.specs.Commands.{Text, Part, trial, workers, workers_are, number, number_of, run_of, load_of, gen_of, alone}
 use Rattle.command_words.specs.Asking.{generate, load_by, run_by, said_of}
 use Rattle.command_words.specs.Shape.{generating, loading, rtdb, running}
@@ -83,6 +83,22 @@ replay_answer (flag ∷ ps) = refl
 replay_answer (option_word ∷ ps) = refl
 replay_answer (joined v k ∷ ps) = refl
 replay_answer (numeral v k ∷ ps) = refl
+
+pub rates_answer : (ps : List Piece) → answer (codes "rates") (built_sub (new_app (codes "rates")).top) ps ≡ alone Rates (map part ps)
+unfolding clap_on_literals
+rates_answer [] = refl
+rates_answer (flag ∷ ps) = refl
+rates_answer (option_word ∷ ps) = refl
+rates_answer (joined v k ∷ ps) = refl
+rates_answer (numeral v k ∷ ps) = refl
+
+pub margin_answer : (ps : List Piece) → answer (codes "margin") (built_sub (new_app (codes "margin")).top) ps ≡ alone Margin (map part ps)
+unfolding clap_on_literals
+margin_answer [] = refl
+margin_answer (flag ∷ ps) = refl
+margin_answer (option_word ∷ ps) = refl
+margin_answer (joined v k ∷ ps) = refl
+margin_answer (numeral v k ∷ ps) = refl
 
 pub gen_answer : (v : Text) (k : ℕ) (ps : List Piece) → number_of v ≡ Some k → answer (codes "gen") (built_sub generating.top) (numeral v k ∷ ps) ≡ gen_of (map part (numeral v k ∷ ps))
 unfolding clap_on_literals

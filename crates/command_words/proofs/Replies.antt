@@ -14,13 +14,13 @@ use Rattle.clap.specs.declared.error.kind.ErrorKind.{ErrorKind}
 use Rattle.clap.proofs.OnLiterals.{clap_on_literals}
 use Rattle.line_fields.proofs.CutLaws.{both_true}
 use Rattle.command_words.specs.declared.command.Command.{Command}
-use Rattle.command_words.specs.declared.command.PlainCommand.TheVariants.{Ceilings, Admit, Replay}
+use Rattle.command_words.specs.declared.command.PlainCommand.TheVariants.{Ceilings, Admit, Replay, Rates, Margin}
 use Rattle.command_words.specs.Commands.{Text, Part, alone, command_of, gen_of, load_of, named, number_of, parts_of, run_of}
 use Rattle.command_words.specs.Asking.{begins_with_number, is_askable, is_name, is_part, said, wants_number}
 use Rattle.command_words.specs.Shape.{generating, rtdb}
 use Rattle.command_words.proofs.Walks.{IsPlainWord, fault_by, fault_is, rows_are, rows_by, text_of}
 use Rattle.command_words.proofs.Enters.{IsNoName, fault_below, fault_there, names, rows_below, start, stopped_at, top}
-use Rattle.command_words.proofs.Leaves.{AreRight, Piece, admit_answer, answer, built_sub, ceilings_answer, flag, gen_answer, joined, load_answer, load_sub, numeral, option_word, outcome, part, replay_answer, run_answer, run_sub, sound, token}
+use Rattle.command_words.proofs.Leaves.{AreRight, Piece, admit_answer, answer, built_sub, ceilings_answer, flag, gen_answer, joined, load_answer, load_sub, margin_answer, numeral, option_word, outcome, part, rates_answer, replay_answer, run_answer, run_sub, sound, token}
 use Rattle.command_words.proofs.Parts.{Pieces, no_parts, pieces_of, plain_number, plain_word}
 
 abbrev reply : List Text → Option Command
@@ -60,6 +60,14 @@ gen_reply = reply_below (codes "gen") (built_sub generating.top) refl refl refl 
 load_reply : (words : List Text) (ps : Pieces words) → reply (codes "load" ∷ words) ≡ answer (codes "load") load_sub ps.pieces
 unfolding clap_on_literals
 load_reply = reply_below (codes "load") load_sub refl refl refl refl
+
+rates_reply : (words : List Text) (ps : Pieces words) → reply (codes "rates" ∷ words) ≡ answer (codes "rates") (built_sub (new_app (codes "rates")).top) ps.pieces
+unfolding clap_on_literals
+rates_reply = reply_below (codes "rates") (built_sub (new_app (codes "rates")).top) refl refl refl refl
+
+margin_reply : (words : List Text) (ps : Pieces words) → reply (codes "margin" ∷ words) ≡ answer (codes "margin") (built_sub (new_app (codes "margin")).top) ps.pieces
+unfolding clap_on_literals
+margin_reply = reply_below (codes "margin") (built_sub (new_app (codes "margin")).top) refl refl refl refl
 
 -- the words that begin with a number
 
@@ -102,37 +110,43 @@ flipped a b e = go (bytes_eq b a) refl
 abbrev Wants : Text → List Text → Type 0
 Wants name words = (not (wants_number name) || begins_with_number words) ≡ true
 
-abbrev chosen : Bool → Bool → Bool → Bool → Bool → Bool → List Part → Option Command
-chosen ceilings admit run replay gen load parts =
+abbrev chosen : Bool → Bool → Bool → Bool → Bool → Bool → Bool → Bool → List Part → Option Command
+chosen ceilings admit run replay gen load rates margin parts =
     if ceilings then alone Ceilings parts
     else (if admit then alone Admit parts
     else (if run then run_of parts
     else (if replay then alone Replay parts
     else (if gen then gen_of parts
     else (if load then load_of parts
-    else None)))))
+    else (if rates then alone Rates parts
+    else (if margin then alone Margin parts
+    else None)))))))
 
-by_name : (name : Text) (words : List Text) (ps : Pieces words) → Wants name words → is_name name ≡ true → (ceilings admit run replay gen load : Bool)
-    → bytes_eq name (codes "ceilings") ≡ ceilings → bytes_eq name (codes "admit") ≡ admit → bytes_eq name (codes "run") ≡ run → bytes_eq name (codes "replay") ≡ replay → bytes_eq name (codes "gen") ≡ gen → bytes_eq name (codes "load") ≡ load
-    → reply (name ∷ words) ≡ chosen ceilings admit run replay gen load (map part ps.pieces)
-by_name name words ps wants first true b c d e f is i j k l m =
+by_name : (name : Text) (words : List Text) (ps : Pieces words) → Wants name words → is_name name ≡ true → (ceilings admit run replay gen load rates margin : Bool)
+    → bytes_eq name (codes "ceilings") ≡ ceilings → bytes_eq name (codes "admit") ≡ admit → bytes_eq name (codes "run") ≡ run → bytes_eq name (codes "replay") ≡ replay → bytes_eq name (codes "gen") ≡ gen → bytes_eq name (codes "load") ≡ load → bytes_eq name (codes "rates") ≡ rates → bytes_eq name (codes "margin") ≡ margin
+    → reply (name ∷ words) ≡ chosen ceilings admit run replay gen load rates margin (map part ps.pieces)
+by_name name words ps wants first true b1 b2 b3 b4 b5 b6 b7 is i j k l m n o =
     ap (λ n. reply (n ∷ words)) (same name (codes "ceilings") is) ∙ (ceilings_reply words ps ∙ ceilings_answer ps.pieces)
-by_name name words ps wants first false true c d e f h is j k l m =
+by_name name words ps wants first false true b2 b3 b4 b5 b6 b7 h is j k l m n o =
     ap (λ n. reply (n ∷ words)) (same name (codes "admit") is) ∙ (admit_reply words ps ∙ admit_answer ps.pieces)
-by_name name words ps wants first false false true d e f h i is k l m =
+by_name name words ps wants first false false true b3 b4 b5 b6 b7 h i is k l m n o =
     ap (λ n. reply (n ∷ words)) (same name (codes "run") is) ∙ (run_reply words ps ∙ run_answer ps.pieces ps.right)
-by_name name words ps wants first false false false true e f h i j is l m =
+by_name name words ps wants first false false false true b4 b5 b6 b7 h i j is l m n o =
     ap (λ n. reply (n ∷ words)) (same name (codes "replay") is) ∙ (replay_reply words ps ∙ replay_answer ps.pieces)
-by_name name words ps wants first false false false false true f h i j k is m =
-    let n = same name (codes "gen") is in
-    let begins : begins_with_number (map text_of (map token ps.pieces)) ≡ true = subst (λ x. begins_with_number x ≡ true) ps.are (subst (λ x. Wants x words) n wants) in
-    ap (λ n. reply (n ∷ words)) n ∙ (gen_reply words ps ∙ gen_there ps.pieces ps.right begins)
-by_name name words ps wants first false false false false false true h i j k l is =
-    let n = same name (codes "load") is in
-    let begins : begins_with_number (map text_of (map token ps.pieces)) ≡ true = subst (λ x. begins_with_number x ≡ true) ps.are (subst (λ x. Wants x words) n wants) in
-    ap (λ n. reply (n ∷ words)) n ∙ (load_reply words ps ∙ load_there ps.pieces ps.right begins)
-by_name [] words ps wants first false false false false false false h i j k l m = absurd (true≢false (sym first))
-by_name (b ∷ bs) words ps wants first false false false false false false h i j k l m =
+by_name name words ps wants first false false false false true b5 b6 b7 h i j k is m n o =
+    let named_so = same name (codes "gen") is in
+    let begins : begins_with_number (map text_of (map token ps.pieces)) ≡ true = subst (λ x. begins_with_number x ≡ true) ps.are (subst (λ x. Wants x words) named_so wants) in
+    ap (λ n. reply (n ∷ words)) named_so ∙ (gen_reply words ps ∙ gen_there ps.pieces ps.right begins)
+by_name name words ps wants first false false false false false true b6 b7 h i j k l is n o =
+    let named_so = same name (codes "load") is in
+    let begins : begins_with_number (map text_of (map token ps.pieces)) ≡ true = subst (λ x. begins_with_number x ≡ true) ps.are (subst (λ x. Wants x words) named_so wants) in
+    ap (λ n. reply (n ∷ words)) named_so ∙ (load_reply words ps ∙ load_there ps.pieces ps.right begins)
+by_name name words ps wants first false false false false false false true b7 h i j k l m is o =
+    ap (λ n. reply (n ∷ words)) (same name (codes "rates") is) ∙ (rates_reply words ps ∙ rates_answer ps.pieces)
+by_name name words ps wants first false false false false false false false true h i j k l m n is =
+    ap (λ n. reply (n ∷ words)) (same name (codes "margin") is) ∙ (margin_reply words ps ∙ margin_answer ps.pieces)
+by_name [] words ps wants first false false false false false false false false h i j k l m n o = absurd (true≢false (sym first))
+by_name (b ∷ bs) words ps wants first false false false false false false false false h i j k l m n o =
     let unnamed : IsNoName (b ∷ bs) = record {
       ceilings = flipped (b ∷ bs) (codes "ceilings") h;
       admit = flipped (b ∷ bs) (codes "admit") i;
@@ -140,6 +154,8 @@ by_name (b ∷ bs) words ps wants first false false false false false false h i 
       replay = flipped (b ∷ bs) (codes "replay") k;
       gen = flipped (b ∷ bs) (codes "gen") l;
       load = flipped (b ∷ bs) (codes "load") m;
+      rates = flipped (b ∷ bs) (codes "rates") n;
+      margin = flipped (b ∷ bs) (codes "margin") o;
     } in
     ap (λ f. outcome f (said (subcommand_of rtdb ((b ∷ bs) ∷ words)))) (fault_there (b ∷ bs) words unnamed (plain_word b bs (not_true (b == 45) first)))
   where
@@ -154,8 +170,8 @@ reads (name ∷ words) asked =
     let rest = both_true (list_all is_part words) (not (wants_number name) || begins_with_number words) both.1 in
     let ps = pieces_of words rest.0 in
     by_name name words ps rest.1 both.0
-    (bytes_eq name (codes "ceilings")) (bytes_eq name (codes "admit")) (bytes_eq name (codes "run")) (bytes_eq name (codes "replay")) (bytes_eq name (codes "gen")) (bytes_eq name (codes "load"))
-    refl refl refl refl refl refl
+    (bytes_eq name (codes "ceilings")) (bytes_eq name (codes "admit")) (bytes_eq name (codes "run")) (bytes_eq name (codes "replay")) (bytes_eq name (codes "gen")) (bytes_eq name (codes "load")) (bytes_eq name (codes "rates")) (bytes_eq name (codes "margin"))
+    refl refl refl refl refl refl refl refl
     ∙ sym (ap (option_and_then (named name)) ps.parts)
 
 -- ---- what clap is not asked about

@@ -5,7 +5,7 @@ use Rattle.std.specs.Option.{option_map_or}
 use Rattle.std.specs.Str.{bytes_eq}
 use Rattle.clap.specs.Words.{Row, first_of}
 use Rattle.command_words.specs.declared.command.Command.{Command}
-use Rattle.command_words.specs.declared.command.PlainCommand.TheVariants.{Ceilings, Admit, Replay, Gen}
+use Rattle.command_words.specs.declared.command.PlainCommand.TheVariants.{Ceilings, Admit, Replay, Gen, Rates, Margin}
 use Rattle.command_words.specs.declared.command.Command.TheVariants.{Plain, Run, Load}
 use Rattle.command_words.specs.Commands.{Text, part_of, number_of}
 
@@ -60,7 +60,9 @@ said_of name rows =
     else (if bytes_eq name (codes "replay") then Some (Plain Replay)
     else (if bytes_eq name (codes "gen") then option_map generate (number_in rows)
     else (if bytes_eq name (codes "load") then option_and_then (λ n. option_map (load_by n) (workers_in rows)) (number_in rows)
-    else None)))))
+    else (if bytes_eq name (codes "rates") then Some (Plain Rates)
+    else (if bytes_eq name (codes "margin") then Some (Plain Margin)
+    else None)))))))
 
 abbrev pub said : Option (Text × List Row) → Option Command
 said subcommand = option_and_then (λ p. said_of p.0 p.1) subcommand

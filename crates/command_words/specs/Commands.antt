@@ -3,7 +3,7 @@ use Rattle.std.specs.Prelude.{ℕ, ◌≤◌, nat_le, ◌&&◌, List, [], ◌∷
 use Rattle.std.specs.Str.{bytes_eq}
 use Rattle.line_fields.specs.Numbers.{unsigned_of}
 use Rattle.command_words.specs.declared.command.PlainCommand.{PlainCommand}
-use Rattle.command_words.specs.declared.command.PlainCommand.TheVariants.{Ceilings, Admit, Replay, Gen}
+use Rattle.command_words.specs.declared.command.PlainCommand.TheVariants.{Ceilings, Admit, Replay, Gen, Rates, Margin}
 use Rattle.command_words.specs.declared.command.Command.{Command}
 use Rattle.command_words.specs.declared.command.Command.TheVariants.{Plain, Run, Load}
 
@@ -85,7 +85,9 @@ named name parts =
     else (if bytes_eq name (codes "replay") then alone Replay parts
     else (if bytes_eq name (codes "gen") then gen_of parts
     else (if bytes_eq name (codes "load") then load_of parts
-    else None)))))
+    else (if bytes_eq name (codes "rates") then alone Rates parts
+    else (if bytes_eq name (codes "margin") then alone Margin parts
+    else None)))))))
 
 -- The command of the words; None where they are none's.
 abbrev pub command_of : List Text → Option Command
@@ -101,5 +103,7 @@ IsInRange (Plain Ceilings) = Unit {0}
 IsInRange (Plain Admit) = Unit {0}
 IsInRange (Plain Replay) = Unit {0}
 IsInRange (Plain (Gen n)) = IsFromOneToMost n
+IsInRange (Plain Rates) = Unit {0}
+IsInRange (Plain Margin) = Unit {0}
 IsInRange (Run on_trial k) = IsFromOneToMost k
 IsInRange (Load n k) = IsFromOneToMost n × IsFromOneToMost k

@@ -33,8 +33,8 @@ bare = record (new_app (codes "rtdb")) {
 -- the whole line
 abbrev pub rtdb : App
 rtdb =
-    with_subcommand (with_subcommand (with_subcommand (with_subcommand (with_subcommand (with_subcommand bare (new_app (codes "ceilings")).top) (new_app (codes "admit")).top)
-    running.top) (new_app (codes "replay")).top) generating.top) loading.top
+    with_subcommand (with_subcommand (with_subcommand (with_subcommand (with_subcommand (with_subcommand (with_subcommand (with_subcommand bare (new_app (codes "ceilings")).top) (new_app (codes "admit")).top)
+    running.top) (new_app (codes "replay")).top) generating.top) loading.top) (new_app (codes "rates")).top) (new_app (codes "margin")).top
 
 -- the command is read as this, and has no global argument
 abbrev pub IsLine : App → Command → Type 0

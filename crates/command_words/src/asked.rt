@@ -155,6 +155,8 @@ fn named(name: &str, matches: &ArgMatches<'_>) -> Option<Command>
             n: number_in(matches)?,
             workers: workers_in(matches)?,
         }),
+        "rates" => Some(Command::Plain(PlainCommand::Rates)),
+        "margin" => Some(Command::Plain(PlainCommand::Margin)),
         _ => None,
     }
 }

@@ -11,6 +11,10 @@ pub enum PlainCommand {
     Replay,
     /// The text of the scenario that is generated of so many transactions.
     Gen { n: u32 },
+    /// The priorities, periods and deadlines of the updaters of the scenario that is read.
+    Rates,
+    /// How far all step counts of the set of the scenario that is read may grow.
+    Margin,
 }
 
 /// What the words ask for.

@@ -47,7 +47,9 @@ fn rtdb_line<'a>(alloc: Global) -> Result<Command<'a>, AllocError>
         .subcommand(run_line(alloc)?)?
         .subcommand(Command::new(alloc, "replay"))?
         .subcommand(gen_line(alloc)?)?
-        .subcommand(load_line(alloc)?)
+        .subcommand(load_line(alloc)?)?
+        .subcommand(Command::new(alloc, "rates"))?
+        .subcommand(Command::new(alloc, "margin"))
 }
 
 /// What clap makes of the words.

@@ -44,6 +44,8 @@ fn commands(rt: HostRuntime) -> Result<(), OutOfMemory> {
         ("load 1", load(1, 1)),
         ("load 64 --workers 3", load(64, 3)),
         ("load 2 --workers=3", load(2, 3)),
+        ("rates", plain(PlainCommand::Rates)),
+        ("margin", plain(PlainCommand::Margin)),
     ];
     for (text, command) in rows {
         assert!(rt; read(rt.alloc(), text)? == command, "at {text}");
@@ -70,7 +72,10 @@ fn no_commands(rt: HostRuntime) -> Result<(), OutOfMemory> {
         "run --help",
         "run -h",
         "Run",
-        "rates",
+        "rates --trial",
+        "margin 2",
+        "journal",
+        "journal path",
         "ceilings admit",
         "ceilings --trial",
         "admit 1",

@@ -25,7 +25,8 @@ pub(crate) fn put_word(out: &mut Vec<u8>, bytes: &[u8]) -> Result<(), OutOfMemor
     put(out, bytes)
 }
 
-pub(crate) fn put_number(out: &mut Vec<u8>, n: u64) -> Result<(), OutOfMemory>
+/// Appends a blank and a number in decimal digits. After want of memory a part may stand.
+pub fn put_number(out: &mut Vec<u8>, n: u64) -> Result<(), OutOfMemory>
     ensures { OnOk result (out.new.items ≡ out.old.items ++ number n) }
 {
     put(out, b" ")?;
@@ -44,7 +45,8 @@ pub(crate) fn put_item(out: &mut Vec<u8>, names: &Names, i: ItemId) -> Result<()
     Ok(())
 }
 
-pub(crate) fn put_txn(out: &mut Vec<u8>, names: &Names, tx: TxId) -> Result<(), OutOfMemory>
+/// Appends a blank and the name of a transaction. After want of memory a part may stand.
+pub fn put_txn(out: &mut Vec<u8>, names: &Names, tx: TxId) -> Result<(), OutOfMemory>
     ensures { OnOk result (out.new.items ≡ out.old.items ++ txn names.now tx) }
 {
     put(out, b" ")?;

@@ -9,6 +9,8 @@ use Rattle.txn_compiler.specs.declared.error.CompileError.{CompileError}
 use Rattle.txn_compiler.specs.Refusal.{compile_refusal}
 use Rattle.set_admission.specs.declared.error.AdmitError.{AdmitError}
 use Rattle.set_admission.specs.Admission.{refusal}
+use Rattle.update_rates.specs.declared.error.RateError.{RateError}
+use Rattle.update_rates.specs.Refusal.{rate_refusal}
 use Rattle.scenario.specs.Shown.{Shown, set_of}
 use Rattle.scenario_reader.specs.declared.error.ScenarioError.{ScenarioError}
 use Rattle.scenario_reader.specs.Reading.{data_of, scenario_in}
@@ -18,14 +20,15 @@ use Rattle.report_verdict.proofs.OneOnly.{one_verdict}
 use Rattle.written_run.specs.Written.{WroteFront}
 use Rattle.command_words.specs.declared.command.Command.{Command}
 use Rattle.command_words.specs.declared.command.Command.TheVariants.{Plain, Run, Load}
-use Rattle.command_words.specs.declared.command.PlainCommand.TheVariants.{Ceilings, Admit, Replay, Gen}
+use Rattle.command_words.specs.declared.command.PlainCommand.TheVariants.{Ceilings, Admit, Replay, Gen, Rates, Margin}
 use Rattle.command_replies.specs.declared.status.Status.{Status}
 use Rattle.command_replies.specs.declared.status.Status.TheVariants as statuses
 use Rattle.command_replies.specs.Verdicts.{status_of}
 use Rattle.command_replies.specs.Replies.{Reply, Compiling, Admitting, CeilingsReply, AdmitReply, VerdictReply}
+use Rattle.command_replies.specs.Analysis.{Rating, RatesReply, MarginReply}
 use Rattle.scenario_run.specs.Replies.{RunReply, RunText}
 use Rattle.rtdb_run.specs.Replies.{Reading, DataReply, InputReply, AskedReply, JudgedReply, names_in, scenario_limit, report_limit}
-use Rattle.rtdb_run.specs.Answers.{TakesAll, Judged, IsAnswer, CutShort, Answers, IsReadFrom, IsRead, IsReadAdmitted, IsGood}
+use Rattle.rtdb_run.specs.Answers.{TakesAll, Judged, IsAnswer, CutShort, Answers, IsReadFrom, IsRead, IsReadAdmitted, IsReadRated, IsGood}
 
 -- an input within the limit is judged
 within : (goes : Reply) (limit : ℕ) (input : List ℕ) (status : Status) (text : List ℕ) → length input ≤ limit → goes status text
@@ -93,6 +96,15 @@ admitted_ok goes input status text a short h =
     admitting_goes (goes a.is_read.scenario) a.is_read.scenario.names (refusal (set_of a.is_read.scenario)) status text a.admitted
     (read_ok (λ s. Admitting (goes s) s.names (refusal (set_of s))) input status text a.is_read short h)
 
+rating_goes : (goes : Reply) (names : Names) (o : Option RateError) (status : Status) (text : List ℕ) → o ≡ None → Rating goes names o status text → goes status text
+rating_goes goes names o status text e h = subst (λ (p : Option RateError). Rating goes names p status text) e h
+
+rated_ok : (goes : Shown → Reply) (input : List ℕ) (status : Status) (text : List ℕ) (r : IsReadRated input) → length input ≤ scenario_limit
+    → AskedReply (λ s. Rating (goes s) s.names (rate_refusal (set_of s))) input status text → goes r.scenario status text
+rated_ok goes input status text r short h =
+    rating_goes (goes r.scenario) r.scenario.names (rate_refusal (set_of r.scenario)) status text r.rated
+    (asked_goes (λ s. Rating (goes s) s.names (rate_refusal (set_of s))) input r.scenario status text short r.read h)
+
 legal_ok : (input : List ℕ) (status : Status) (text : List ℕ) → length input ≤ report_limit → IsVerdict input verdicts.Legal → JudgedReply input status text → status ≡ statuses.Ok
 legal_ok input status text short legal h =
     let v = input_goes (VerdictReply input) report_limit input status text short h in
@@ -117,6 +129,10 @@ good_ok (Some (Plain Ceilings)) None new status text good j = absurd good
 good_ok (Some (Plain Ceilings)) (Some told) new status text good j = (read_ok _ told status text good.1 good.0 (asked_of_all CeilingsReply told new status text good.0 j)).0
 good_ok (Some (Plain Admit)) None new status text good j = absurd good
 good_ok (Some (Plain Admit)) (Some told) new status text good j = (admitted_ok _ told status text good.1 good.0 (asked_of_all AdmitReply told new status text good.0 j)).0
+good_ok (Some (Plain Rates)) None new status text good j = absurd good
+good_ok (Some (Plain Rates)) (Some told) new status text good j = (rated_ok _ told status text good.1 good.0 (asked_of_all RatesReply told new status text good.0 j)).0
+good_ok (Some (Plain Margin)) None new status text good j = absurd good
+good_ok (Some (Plain Margin)) (Some told) new status text good j = (read_ok _ told status text good.1 good.0 (asked_of_all MarginReply told new status text good.0 j)).0
 good_ok (Some (Run trial workers)) None new status text good j = absurd good
 good_ok (Some (Run true workers)) (Some told) new status text good j = (read_ok _ told status text good.1 good.0 (asked_of_all (RunReply true) told new status text good.0 j)).0
 good_ok (Some (Run false workers)) (Some told) new status text good j = (admitted_ok _ told status text good.1 good.0 (asked_of_all (RunReply false) told new status text good.0 j)).0

@@ -4,6 +4,7 @@ use Rattle.std.specs.Option.{option_and_then}
 use Rattle.std.specs.Io.KnownBytes.{Consumes, IsAtEnd, Keeps, Appends}
 use Rattle.txn_compiler.specs.Refusal.{compile_refusal}
 use Rattle.set_admission.specs.Admission.{refusal}
+use Rattle.update_rates.specs.Refusal.{rate_refusal}
 use Rattle.scenario.specs.Shown.{Shown, set_of}
 use Rattle.scenario.specs.Scenarios.{IsScenario}
 use Rattle.scenario_reader.specs.Reading.{data_of, scenario_in}
@@ -11,7 +12,7 @@ use Rattle.report_verdict.specs.declared.verdict.Verdict.TheVariants as verdicts
 use Rattle.report_verdict.specs.Verdict.{IsVerdict}
 use Rattle.command_words.specs.declared.command.Command.{Command}
 use Rattle.command_words.specs.declared.command.Command.TheVariants.{Plain, Run, Load}
-use Rattle.command_words.specs.declared.command.PlainCommand.TheVariants.{Ceilings, Admit, Replay, Gen}
+use Rattle.command_words.specs.declared.command.PlainCommand.TheVariants.{Ceilings, Admit, Replay, Gen, Rates, Margin}
 use Rattle.command_words.specs.Commands.{command_of}
 use Rattle.command_replies.specs.declared.status.Status.{Status}
 use Rattle.command_replies.specs.declared.status.Status.TheVariants as statuses
@@ -44,6 +45,8 @@ Takes (Some (Plain Ceilings)) old new input = TakesAll scenario_limit old new in
 Takes (Some (Plain Admit)) old new input = TakesAll scenario_limit old new input
 Takes (Some (Plain Replay)) old new input = TakesAll report_limit old new input
 Takes (Some (Plain (Gen n))) old new input = TakesNone old new input
+Takes (Some (Plain Rates)) old new input = TakesAll scenario_limit old new input
+Takes (Some (Plain Margin)) old new input = TakesAll scenario_limit old new input
 Takes (Some (Run trial workers)) old new input = TakesAll scenario_limit old new input
 Takes (Some (Load n workers)) old new input = TakesNone old new input
 
@@ -117,6 +120,12 @@ pub record IsRead (input : List ℕ) : Type 0 where
   pub read : scenario_in (data_of input) ≡ Ok scenario
   pub compiles : compile_refusal (set_of scenario) ≡ None
 
+-- the scenario is read, and its declarations have rates
+pub record IsReadRated (input : List ℕ) : Type 0 where
+  pub scenario : Shown
+  pub read : scenario_in (data_of input) ≡ Ok scenario
+  pub rated : rate_refusal (set_of scenario) ≡ None
+
 -- besides, its set is admitted
 pub record IsReadAdmitted (input : List ℕ) : Type 0 where
   pub is_read : IsRead input
@@ -131,12 +140,14 @@ IsWithin limit holds None = ⊥
 IsWithin limit holds (Some input) = (length input ≤ limit) × holds input
 
 -- A source that tells an input for which the command has a text: a scenario that is read and compiles, and is admitted
--- where the command admits it; a legal report. To generate and to load nothing is read.
+-- where the command admits it, or has rates for `rates`; a legal report. To generate and to load nothing is read.
 abbrev pub IsGood : Option Command → Option (List ℕ) → Type 0
 IsGood None told = ⊥
 IsGood (Some (Plain Ceilings)) told = IsWithin scenario_limit IsRead told
 IsGood (Some (Plain Admit)) told = IsWithin scenario_limit IsReadAdmitted told
 IsGood (Some (Plain Replay)) told = IsWithin report_limit (λ input. IsVerdict input verdicts.Legal) told
 IsGood (Some (Plain (Gen n))) told = Unit {0}
+IsGood (Some (Plain Rates)) told = IsWithin scenario_limit IsReadRated told
+IsGood (Some (Plain Margin)) told = IsWithin scenario_limit IsRead told
 IsGood (Some (Run trial workers)) told = IsWithin scenario_limit (CanRun trial) told
 IsGood (Some (Load n workers)) told = Unit {0}

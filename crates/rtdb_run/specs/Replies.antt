@@ -13,10 +13,11 @@ use Rattle.scenario_writer.specs.Generated.{generated_of}
 use Rattle.refusal_lines.specs.Causes.{scenario_cause}
 use Rattle.command_words.specs.declared.command.Command.{Command}
 use Rattle.command_words.specs.declared.command.Command.TheVariants.{Plain, Run, Load}
-use Rattle.command_words.specs.declared.command.PlainCommand.TheVariants.{Ceilings, Admit, Replay, Gen}
+use Rattle.command_words.specs.declared.command.PlainCommand.TheVariants.{Ceilings, Admit, Replay, Gen, Rates, Margin}
 use Rattle.command_replies.specs.declared.status.Status.TheVariants as statuses
 use Rattle.command_replies.specs.Texts.{refused_line}
 use Rattle.command_replies.specs.Replies.{Reply, Written, Refused, CeilingsReply, AdmitReply, VerdictReply}
+use Rattle.command_replies.specs.Analysis.{RatesReply, MarginReply}
 use Rattle.scenario_run.specs.Replies.{RunReply, LoadReply}
 
 -- the most bytes of a scenario, and of a report
@@ -61,7 +62,7 @@ abbrev pub generated_text : ℕ → List ℕ
 generated_text n = compact_text (canonical (generated_of n)) ++ codes "\n"
 
 abbrev pub usage_text : List ℕ
-usage_text = codes "usage: rtdb ceilings | admit | run [--trial] [--workers N] | replay | gen N | load N [--workers K]\n"
+usage_text = codes "usage: rtdb ceilings | admit | run [--trial] [--workers N] | replay | gen N | load N [--workers K] | rates | margin\n"
 
 -- The number of workers changes no reply.
 abbrev pub Replies : Option Command → List ℕ → Reply
@@ -70,5 +71,7 @@ Replies (Some (Plain Ceilings)) input status text = AskedReply CeilingsReply inp
 Replies (Some (Plain Admit)) input status text = AskedReply AdmitReply input status text
 Replies (Some (Plain Replay)) input status text = JudgedReply input status text
 Replies (Some (Plain (Gen n))) input status text = Written (generated_text n) status text
+Replies (Some (Plain Rates)) input status text = AskedReply RatesReply input status text
+Replies (Some (Plain Margin)) input status text = AskedReply MarginReply input status text
 Replies (Some (Run trial workers)) input status text = AskedReply (RunReply trial) input status text
 Replies (Some (Load n workers)) input status text = LoadReply n status text

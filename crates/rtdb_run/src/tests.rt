@@ -1,4 +1,5 @@
 //! The statuses and what is written, over sources and sinks in memory.
+mod analyses;
 mod ends;
 mod long;
 mod prefixes;
@@ -24,7 +25,7 @@ const NONE: &str = "";
 const NO_WORDS: [&str; 0] = [];
 
 const USAGE: &str =
-    "usage: rtdb ceilings | admit | run [--trial] [--workers N] | replay | gen N | load N [--workers K]\n";
+    "usage: rtdb ceilings | admit | run [--trial] [--workers N] | replay | gen N | load N [--workers K] | rates | margin\n";
 
 fn words_of(alloc: Global, words: &[&str]) -> Result<Vec<Word>, Fail> {
     let mut list = Vec::new(alloc);

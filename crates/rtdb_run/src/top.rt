@@ -12,8 +12,8 @@ ghost use Rattle.rtdb_run.specs.Replies.{names_in, names_of_forms, generated_tex
 ghost use Rattle.rtdb_run.specs.Answers.{plain_command_of, IsAnswer, IsReadFrom, IsRefused, IsRefusedFrom, Told, CutShort, RanOut, Answers, IsGood};
 
 use command_replies::{
-    REPORT_LIMIT, Reply, Status, bounds, ceilings, no_names, refused, refused_scenario, replayed,
-    written,
+    REPORT_LIMIT, Reply, Status, bounds, ceilings, margins, no_names, rates, refused,
+    refused_scenario, replayed, written,
 };
 use command_words::{Command, PlainCommand, Word, read_command};
 use io_edge::{ReadError, Sink, Source, read_all, write_all};
@@ -32,7 +32,7 @@ use txn_threads::Gate;
 const SCENARIO_LIMIT: usize = 4_194_304;
 
 const USAGE: &[u8] =
-    b"usage: rtdb ceilings | admit | run [--trial] [--workers N] | replay | gen N | load N [--workers K]\n";
+    b"usage: rtdb ceilings | admit | run [--trial] [--workers N] | replay | gen N | load N [--workers K] | rates | margin\n";
 
 // The names that a text's forms declare, for the line of a refusal.
 fn names(alloc: Global, input: &[u8]) -> Result<Names, OutOfMemory>
@@ -153,6 +153,28 @@ fn ask_bounds<S: Source>(alloc: Global, source: &mut S) -> Result<Reply, Stop>
     }
 }
 
+fn ask_rates<S: Source>(alloc: Global, source: &mut S) -> Result<Reply, Stop>
+    ensures said { IfOk result (λ r. IsAnswer (Some (Command.Plain PlainCommand.Rates)) (S.left source.old) (S.left source.new) r.status r.text.items) }
+    ensures read { IsErrOf result Stop.Reading → Rose (S.faults source.old) (S.faults source.new) }
+    ensures writing { IsErrOf result Stop.Writing → ⊥ }
+{
+    match scenario_from(alloc, source)? {
+        Ok(scenario) => Ok(rates(alloc, scenario)?),
+        Err(reply) => Ok(reply),
+    }
+}
+
+fn ask_margin<S: Source>(alloc: Global, source: &mut S) -> Result<Reply, Stop>
+    ensures said { IfOk result (λ r. IsAnswer (Some (Command.Plain PlainCommand.Margin)) (S.left source.old) (S.left source.new) r.status r.text.items) }
+    ensures read { IsErrOf result Stop.Reading → Rose (S.faults source.old) (S.faults source.new) }
+    ensures writing { IsErrOf result Stop.Writing → ⊥ }
+{
+    match scenario_from(alloc, source)? {
+        Ok(scenario) => Ok(margins(alloc, scenario)?),
+        Err(reply) => Ok(reply),
+    }
+}
+
 // The reply of a command that runs no workers.
 fn reply_to<S: Source>(alloc: Global, command: PlainCommand, source: &mut S) -> Result<Reply, Stop>
     requires { IsInRange (Command.Plain command) }
@@ -165,6 +187,8 @@ fn reply_to<S: Source>(alloc: Global, command: PlainCommand, source: &mut S) -> 
         PlainCommand::Admit => ask_bounds(alloc, source),
         PlainCommand::Replay => replay(alloc, source),
         PlainCommand::Gen { n } => Ok(generate(alloc, n)?),
+        PlainCommand::Rates => ask_rates(alloc, source),
+        PlainCommand::Margin => ask_margin(alloc, source),
     }
 }
 

@@ -10,4 +10,6 @@ returns c =
     let run = with_sub _ _ _ _ _ c.in_ok-subcommand-3.ensures admit c.in_ok-run_line.ensures in
     let replay = with_sub _ _ _ _ _ c.in_ok-subcommand-4.ensures run (c.new-4.ensures.app, c.new-4.ensures.local) in
     let gen = with_sub _ _ _ _ _ c.in_ok-subcommand-5.ensures replay c.in_ok-gen_line.ensures in
-    IfOk-weaker c.subcommand-6.result _ _ (λ m h. with_sub _ _ m _ _ h gen c.in_ok-load_line.ensures) c.subcommand-6.ensures
+    let load = with_sub _ _ _ _ _ c.in_ok-subcommand-6.ensures gen c.in_ok-load_line.ensures in
+    let rates = with_sub _ _ _ _ _ c.in_ok-subcommand-7.ensures load (c.new-5.ensures.app, c.new-5.ensures.local) in
+    IfOk-weaker c.subcommand-8.result _ _ (λ m h. with_sub _ _ m _ _ h rates (c.new-6.ensures.app, c.new-6.ensures.local)) c.subcommand-8.ensures

@@ -1,0 +1,23 @@
+use Rattle.std.proofs.Common.{sym, ap, ◌∙◌}
+use Rattle.update_rates.specs.RatedSet.{rated_set}
+use Rattle.update_rates.specs.Refusal.{rate_refusal}
+use Rattle.command_replies.proofs.Compiles.{in_range_from, kept_from}
+use Rattle.command_replies.proofs.Analysing.{is_rate_refusal}
+use Rattle.command_replies.proofs.analysis.rated.Goals as goal
+
+pub plan_rates-requires : goal.plan_rates-requires
+plan_rates-requires c = in_range_from _ _ _ _ _ _ c.into_vec.ensures c.into_vec-2.ensures c.into_vec-3.ensures c.requires
+
+pub returns-in-Ok-clause-set : goal.returns-in-Ok-clause-set
+returns-in-Ok-clause-set c =
+    c.in-Ok.ensures.set ∙ ap rated_set (kept_from _ _ _ _ _ _ c.into_vec.ensures c.into_vec-2.ensures c.into_vec-3.ensures c.requires)
+
+pub returns-in-Ok-clause-passed : goal.returns-in-Ok-clause-passed
+returns-in-Ok-clause-passed c =
+    let same = kept_from _ _ _ _ _ _ c.into_vec.ensures c.into_vec-2.ensures c.into_vec-3.ensures c.requires in
+    sym (ap rate_refusal same) ∙ c.in-Ok.ensures.passed
+
+pub returns-else-wants_memory-clause-refused : goal.returns-else-wants_memory-clause-refused
+returns-else-wants_memory-clause-refused c =
+    let same = kept_from _ _ _ _ _ _ c.into_vec.ensures c.into_vec-2.ensures c.into_vec-3.ensures c.requires in
+    sym (ap rate_refusal same) ∙ is_rate_refusal _ c.in-Err.error (sym c.wants_memory.ensures ∙ c.if-wants_memory.false) c.in-Err.ensures.refused
