@@ -1,0 +1,130 @@
+-- Percentages of a set's steps: they rise with the percentage, and what is accepted at one is accepted at each smaller
+-- one.
+use Rattle.std.proofs.Common.{◌≡◌, ℕ, ◌*◌, ◌<◌, ◌≤◌, List, [], ◌∷◌, map, get_or, Option, None, Some, refl, ap, ap₂, subst, arith, mul-pos, mul-le-mul_left}
+use Rattle.std.proofs.lemmas.Grind.{div_ceil_times}
+use Rattle.std.proofs.lemmas.List.{get_or-map, length-map}
+use Rattle.std.proofs.lemmas.List.Elements.{All-head, All-tail, All-map}
+use Rattle.std.specs.List.{All}
+use Rattle.std.specs.Option.{option_map}
+use Rattle.item_model.specs.Work.{first_of_both}
+use Rattle.txn_set.specs.declared.decl.TxnDecl.{TxnDecl}
+use Rattle.txn_set.specs.Set.{Set, HasGoodTimes, IsCompiled}
+use Rattle.txn_compiler.specs.Refusal.{compile_refusal}
+use Rattle.txn_compiler.proofs.Verdict.{compiled-unless-refused}
+use Rattle.set_admission.specs.Admission.{refusal}
+use Rattle.set_admission.proofs.Admitted.{decided}
+use Rattle.scale_margin.specs.Scaled.{AreFewer, steps_at, quiet_at, counts_at, scaled_txn, scaled}
+use Rattle.scale_margin.specs.Barriers.{barrier_at}
+use Rattle.scale_margin.specs.Laws.{ScaledIsCompiled, SameAtHundred, AcceptedUnlessBarred, AcceptedFallsOnce}
+use Rattle.scale_margin.proofs.Fewer.{keeps_admitted}
+use Rattle.scale_margin.proofs.Compiles.{lists_counted, compiled_counted}
+
+-- the steps at a percentage
+
+pub steps_rise : (j k steps : ℕ) → j ≤ k → steps_at j steps ≤ steps_at k steps
+steps_rise j k steps le =
+    let a = div_ceil_times (steps * j) 100 (omega arith) in
+    let b = div_ceil_times (steps * k) 100 (omega arith) in
+    let c : steps * j ≤ steps * k = mul-le-mul_left steps le in
+    omega (arith, a.1, b.0, c)
+
+some_steps : (k steps : ℕ) → 1 ≤ k → 1 ≤ steps → 1 ≤ steps_at k steps
+some_steps k steps a b =
+    let c = div_ceil_times (steps * k) 100 (omega arith) in
+    let d : 0 < steps * k = mul-pos b a in
+    omega (arith, c.0, d)
+
+same_steps : (steps : ℕ) → steps_at 100 steps ≡ steps
+same_steps steps =
+    let a = div_ceil_times (steps * 100) 100 (omega arith) in
+    omega (arith, a.0, a.1)
+
+pub are_fewer : (j k : ℕ) → j ≤ k → AreFewer (counts_at j) (counts_at k)
+are_fewer j k le = record {
+  steps = λ t. steps_rise j k t.steps le;
+  after_quiet = λ t. let rise = steps_rise j k t.steps le in omega (arith, rise);
+}
+
+-- which scaled sets are compiled
+
+abbrev IsInRange : ℕ → TxnDecl → Type 0
+IsInRange k t = steps_at k t.steps ≤ 10000
+
+good_at : (k : ℕ) (t : TxnDecl) → HasGoodTimes t → 1 ≤ k → IsInRange k t → HasGoodTimes (scaled_txn k t)
+good_at k t h one le =
+    let some = some_steps k t.steps one h.steps.0 in
+    record { prio = h.prio; steps = (some, le); period = h.period; deadline = h.deadline; offset = h.offset; quiet = omega (arith, some) }
+
+good_all : (k : ℕ) (set : Set) → IsCompiled set → 1 ≤ k → All (IsInRange k) set.txns → All HasGoodTimes (map (scaled_txn k) set.txns)
+good_all k set ok one all = All-map HasGoodTimes (scaled_txn k) set.txns (λ i d below. good_at k (get_or set.txns i d) (ok.times i d below) one (all i d below))
+
+all_good : (k : ℕ) (ts : List TxnDecl) → All HasGoodTimes (map (scaled_txn k) ts) → All (IsInRange k) ts
+all_good k ts good i d below =
+    let h = good i (scaled_txn k d) (omega (arith, below, length-map ts (scaled_txn k))) in
+    subst (λ (t : TxnDecl). t.steps ≤ 10000) (get_or-map (scaled_txn k) ts i d (scaled_txn k d) below) h.steps.1
+
+pub compiled_at : (set : Set) (k : ℕ) → IsCompiled set → 1 ≤ k → All (IsInRange k) set.txns → IsCompiled (scaled set k)
+compiled_at set k ok one all = compiled_counted (counts_at k) set ok (good_all k set ok one all)
+
+pub scaled_is_compiled : ScaledIsCompiled
+scaled_is_compiled set k ok one =
+    let rule = compiled-unless-refused (scaled set k) (lists_counted (counts_at k) set ok) in
+    (λ none. all_good k set.txns (rule.0 none).times, λ all. rule.1 (compiled_at set k ok one all))
+
+-- a hundred percent
+
+same_txn : (t : TxnDecl) → HasGoodTimes t → scaled_txn 100 t ≡ t
+same_txn t h =
+    let s = same_steps t.steps in
+    let q : quiet_at 100 t.steps t.quiet ≡ t.quiet = omega (arith, s, h.quiet) in
+    ap₂ (λ (steps quiet : ℕ). record t { steps = steps; quiet = quiet }) s q
+
+same_txns : (ts : List TxnDecl) → All HasGoodTimes ts → map (scaled_txn 100) ts ≡ ts
+same_txns [] all = refl
+same_txns (t ∷ ts) all = ap₂ (λ (x : TxnDecl) (xs : List TxnDecl). x ∷ xs) (same_txn t (All-head HasGoodTimes t ts all)) (same_txns ts (All-tail HasGoodTimes t ts all))
+
+pub same_at_hundred : SameAtHundred
+same_at_hundred set ok = ap (λ (ts : List TxnDecl). record set { txns = ts }) (same_txns set.txns ok.times)
+
+-- acceptance
+
+map_none : {A B : Type 0} (f : A → B) (o : Option A) → option_map f o ≡ None → o ≡ None
+map_none f None h = refl
+map_none f (Some x) h = cc
+
+none_map : {A B : Type 0} (f : A → B) (o : Option A) → o ≡ None → option_map f o ≡ None
+none_map f o h = rw h refl
+
+both_none : {A : Type 0} (a b : Option A) → first_of_both a b ≡ None → (a ≡ None) × (b ≡ None)
+both_none None b h = (refl, h)
+both_none (Some x) b h = cc
+
+pub unbarred : (set : Set) (k : ℕ) → barrier_at set k ≡ None → (compile_refusal (scaled set k) ≡ None) × (refusal (scaled set k) ≡ None)
+unfolding barrier_at
+unbarred set k h = let both = both_none _ _ h in (map_none _ _ both.0, map_none _ _ both.1)
+
+pub barred_not : (set : Set) (k : ℕ) → compile_refusal (scaled set k) ≡ None → refusal (scaled set k) ≡ None → barrier_at set k ≡ None
+unfolding barrier_at
+barred_not set k a b = rw (none_map _ _ a) (none_map _ _ b)
+
+pub accepted_unless_barred : AcceptedUnlessBarred
+accepted_unless_barred set k ok =
+    let rule = compiled-unless-refused (scaled set k) (lists_counted (counts_at k) set ok) in (
+      λ none.
+          let both = unbarred set k none in
+          let compiled = rule.0 both.0 in
+          record { compiled = compiled; admitted = (decided (scaled set k) compiled).by_rule.0 both.1 },
+      λ h. barred_not set k (rule.1 h.compiled) ((decided (scaled set k) h.compiled).by_rule.1 h.admitted),
+    )
+
+pub accepted_falls_once : AcceptedFallsOnce
+accepted_falls_once set k j ok one le none =
+    let both = unbarred set k none in
+    let more = compiled-unless-refused (scaled set k) (lists_counted (counts_at k) set ok) in
+    let fewer = compiled-unless-refused (scaled set j) (lists_counted (counts_at j) set ok) in
+    let compiled : IsCompiled (scaled set k) = more.0 both.0 in
+    let in_range : All (IsInRange k) set.txns = all_good k set.txns compiled.times in
+    let smaller : IsCompiled (scaled set j) = compiled_at set j ok one (λ i d below. omega (arith, in_range i d below, steps_rise j k (get_or set.txns i d).steps le)) in
+    let meets = (decided (scaled set k) compiled).by_found.0 both.1 in
+    let kept = keeps_admitted (counts_at j) (counts_at k) (are_fewer j k le) set meets in
+    barred_not set j (fewer.1 smaller) ((decided (scaled set j) smaller).by_found.1 kept.admitted)
