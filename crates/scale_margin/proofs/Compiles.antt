@@ -1,15 +1,28 @@
 -- A compiled set with other step counts is compiled where these are within their ranges.
-use Rattle.std.proofs.Common.{◌≡◌, ℕ, zero, suc, ◌<◌, List, map, length, get_or, refl, sym, ◌∙◌, ap, subst, arith}
+use Rattle.std.proofs.Common.{◌≡◌, ℕ, zero, suc, ◌≢◌, ◌<◌, List, [], ◌∷◌, map, length, Option, None, Some, get_or, refl, sym, ◌∙◌, ap, subst, arith}
 use Rattle.std.proofs.lemmas.List.{get_or-map, length-map}
 use Rattle.std.proofs.lemmas.List.Elements.{All-map, All-weaker}
 use Rattle.std.specs.Prelude.{IsTrue}
-use Rattle.std.specs.List.{All}
+use Rattle.std.specs.List.{All, AllPairs}
+use Rattle.item_model.specs.Kinds.{is_dated}
+use Rattle.item_model.specs.Work.{first_of_both}
 use Rattle.rt_base.specs.declared.ids.ItemId.{ItemId}
 use Rattle.txn_set.specs.declared.decl.TxnDecl.{TxnDecl}
 use Rattle.txn_set.specs.Set.{Set, txn_of, names_item, may_read, may_write, HasGoodTimes, AreItemsOf, IsTheWriter, DependsOn, Walk, IsCompiled}
+use Rattle.txn_compiler.specs.declared.error.CompileError.TheVariants.{TooManyItems, TooManyTxns, TooManySets}
+use Rattle.txn_compiler.specs.Refusal.{first_some, bad_times, compile_refusal}
 use Rattle.txn_compiler.specs.Kept.{AreLists}
+use Rattle.txn_compiler.proofs.Judged.{few-to, prios-to, no-writer-all, two-writers-all, acyclic-to, together-to}
 use Rattle.scale_margin.specs.Scaled.{StepCounts, counted_txn, counted}
 use Rattle.scale_margin.proofs.Same.{reads_same, writes_same}
+
+last_none : {A : Type 0} (d : Option A) → first_of_both d None ≡ d
+last_none None = refl
+last_none (Some x) = refl
+
+fourth_alone : {A : Type 0} (a b c d e f g h i : Option A) → a ≡ None → b ≡ None → c ≡ None → e ≡ None → f ≡ None → g ≡ None → h ≡ None → i ≡ None
+    → first_some (a ∷ b ∷ c ∷ d ∷ e ∷ f ∷ g ∷ h ∷ i ∷ []) ≡ d
+fourth_alone a b c d e f g h i a' b' c' e' f' g' h' i' = rw (a', b', c', e', f', g', h', i') (last_none d)
 
 module _ (c : StepCounts) (set : Set) where
   items_same : (xs : List ItemId) → AreItemsOf set xs → AreItemsOf (counted c set) xs
@@ -47,6 +60,11 @@ module _ (c : StepCounts) (set : Set) where
   prio_at : (i : ℕ) (d : TxnDecl) → i < length set.txns → (get_or (map (counted_txn c) set.txns) i d).prio ≡ (get_or set.txns i d).prio
   prio_at i d inside = ap (λ (t : TxnDecl). t.prio) (get_or-map (counted_txn c) set.txns i d d inside)
 
+  prios_counted : IsCompiled set → AllPairs (λ a b. a.prio ≢ b.prio) (map (counted_txn c) set.txns)
+  prios_counted ok i j d lt below e =
+      let inside : j < length set.txns = omega (arith, below, length-map set.txns (counted_txn c)) in
+      ok.prios i j d lt inside (sym (prio_at i d (omega (arith, lt, inside))) ∙ e ∙ prio_at j d inside)
+
   lists_at : (f : TxnDecl → List ItemId) → ((t : TxnDecl) → f (counted_txn c t) ≡ f t) → All (λ t. AreItemsOf set (f t)) set.txns → All (λ t. AreItemsOf (counted c set) (f t)) (map (counted_txn c) set.txns)
   lists_at f same all =
       All-map (λ (t : TxnDecl). AreItemsOf (counted c set) (f t)) (counted_txn c) set.txns
@@ -69,9 +87,7 @@ module _ (c : StepCounts) (set : Set) where
         few_txns = omega (arith, ok.few_txns, count);
         few_together = ok.few_together;
         times = good;
-        prios = λ i j d lt below e.
-            let inside : j < length set.txns = omega (arith, below, count) in
-            ok.prios i j d lt inside (sym (prio_at i d (omega (arith, lt, inside))) ∙ e ∙ prio_at j d inside);
+        prios = prios_counted ok;
         reads = lists.reads;
         writes = lists.writes;
         written = λ item dated. let w = ok.written item dated in (w.0, writer_same item w.0 w.1);
@@ -80,3 +96,20 @@ module _ (c : StepCounts) (set : Set) where
         together_size = ok.together_size;
         together_dated = ok.together_dated;
       }
+
+  -- of the rules of compiling only the time ranges depend on the step counts
+  pub times_alone : IsCompiled set → compile_refusal (counted c set) ≡ bad_times (map (counted_txn c) set.txns)
+  unfolding compile_refusal
+  times_alone ok =
+      let count = length-map set.txns (counted_txn c) in
+      let written : (item : ℕ) → IsTrue (is_dated set.items item) → (tx : ℕ) × IsTheWriter (counted c set) item tx = λ item dated. let w = ok.written item dated in (w.0, writer_same item w.0 w.1) in
+      let acyclic : (item n : ℕ) → ¬ Walk (counted c set) item item (suc n) = λ item n walk. ok.acyclic item n (walk_same (suc n) item item walk) in
+      fourth_alone _ _ _ _ _ _ _ _ _
+      (few-to 256 (length set.items) (TooManyItems (length set.items)) ok.few_items)
+      (few-to 64 (length (map (counted_txn c) set.txns)) (TooManyTxns (length (map (counted_txn c) set.txns))) (omega (arith, ok.few_txns, count)))
+      (prios-to (map (counted_txn c) set.txns) (prios_counted ok))
+      (no-writer-all (counted c set) written)
+      (two-writers-all (counted c set) written)
+      (acyclic-to (counted c set) acyclic)
+      (few-to 64 (length set.together) (TooManySets (length set.together)) ok.few_together)
+      (together-to set.items set.together ok.together_size ok.together_dated)

@@ -1,7 +1,9 @@
 -- Percentages of a set's steps: they rise with the percentage, and what is accepted at one is accepted at each smaller
 -- one.
-use Rattle.std.proofs.Common.{◌≡◌, ℕ, ◌*◌, ◌<◌, ◌≤◌, List, [], ◌∷◌, map, get_or, Option, None, Some, refl, ap, ap₂, subst, arith, mul-pos, mul-le-mul_left}
+use Rattle.std.proofs.Common.{◌≡◌, ◌∙◌, suc, ◌^◌, Bool, true, false, not, ⊎_elim, ℕ, ◌*◌, ◌<◌, ◌≤◌, List, [], ◌∷◌, map, get_or, Option, None, Some, refl, ap, ap₂, subst, arith, mul-pos, mul-le-mul_left}
+use Rattle.std.proofs.lemmas.Bool.{cases_lt, le-leb, lt-leb, lt-ltb, le-ltb}
 use Rattle.std.proofs.lemmas.Grind.{div_ceil_times}
+use Rattle.std.specs.Prelude.{nat_lt, nat_le}
 use Rattle.std.proofs.lemmas.List.{get_or-map, length-map}
 use Rattle.std.proofs.lemmas.List.Elements.{All-head, All-tail, All-map}
 use Rattle.std.specs.List.{All}
@@ -9,15 +11,18 @@ use Rattle.std.specs.Option.{option_map}
 use Rattle.item_model.specs.Work.{first_of_both}
 use Rattle.txn_set.specs.declared.decl.TxnDecl.{TxnDecl}
 use Rattle.txn_set.specs.Set.{Set, HasGoodTimes, IsCompiled}
-use Rattle.txn_compiler.specs.Refusal.{compile_refusal}
+use Rattle.txn_compiler.specs.declared.error.Which.TheVariants.{Steps}
+use Rattle.txn_compiler.specs.declared.error.CompileError.{CompileError}
+use Rattle.txn_compiler.specs.declared.error.CompileError.TheVariants.{BadTimes}
+use Rattle.txn_compiler.specs.Refusal.{given, first_refusal, bad_times_at, compile_refusal}
 use Rattle.txn_compiler.proofs.Verdict.{compiled-unless-refused}
 use Rattle.set_admission.specs.Admission.{refusal}
 use Rattle.set_admission.proofs.Admitted.{decided}
 use Rattle.scale_margin.specs.Scaled.{AreFewer, steps_at, quiet_at, counts_at, scaled_txn, scaled}
 use Rattle.scale_margin.specs.Barriers.{barrier_at}
-use Rattle.scale_margin.specs.Laws.{ScaledIsCompiled, SameAtHundred, AcceptedUnlessBarred, AcceptedFallsOnce}
+use Rattle.scale_margin.specs.Laws.{JudgedBySteps, SameAtHundred, AcceptedUnlessBarred, AcceptedFallsOnce}
 use Rattle.scale_margin.proofs.Fewer.{keeps_admitted}
-use Rattle.scale_margin.proofs.Compiles.{lists_counted, compiled_counted}
+use Rattle.scale_margin.proofs.Compiles.{lists_counted, compiled_counted, times_alone}
 
 -- the steps at a percentage
 
@@ -66,10 +71,48 @@ all_good k ts good i d below =
 pub compiled_at : (set : Set) (k : ℕ) → IsCompiled set → 1 ≤ k → All (IsInRange k) set.txns → IsCompiled (scaled set k)
 compiled_at set k ok one all = compiled_counted (counts_at k) set ok (good_all k set ok one all)
 
-pub scaled_is_compiled : ScaledIsCompiled
-scaled_is_compiled set k ok one =
+-- a transaction whose steps alone may be out of their range
+
+some_which : (b : Bool) (tx : ℕ) → option_map (λ which. BadTimes (record { 0 = tx }) which) (first_of_both (given b Steps) None) ≡ given b (BadTimes (record { 0 = tx }) Steps)
+some_which true tx = refl
+some_which false tx = refl
+
+not_within : (n : ℕ) → not (nat_le n 10000) ≡ nat_lt 10000 n
+not_within n =
+    ⊎_elim (λ (above : 10000 < n). rw (lt-leb n 10000 above, lt-ltb 10000 n above) refl) (λ (below : n ≤ 10000). rw (le-leb n 10000 below, le-ltb 10000 n below) refl)
+    (cases_lt 10000 n)
+
+bad_steps : (k tx : ℕ) (t : TxnDecl) → 1 ≤ k → HasGoodTimes t → bad_times_at tx (scaled_txn k t) ≡ given (nat_lt 10000 (scaled_txn k t).steps) (BadTimes (record { 0 = tx }) Steps)
+bad_steps k tx t one h =
+    let some = some_steps k t.steps one h.steps.0 in
+    let quiet : (scaled_txn k t).quiet < (scaled_txn k t).steps = omega (arith, some) in
+    rw (
+      le-leb 1 t.prio h.prio.0,
+      le-leb t.prio 1000 h.prio.1,
+      le-leb 1 (steps_at k t.steps) some,
+      le-leb 1 t.period h.period.0,
+      le-leb t.period (2 ^ 30) h.period.1,
+      le-leb 1 t.deadline h.deadline.0,
+      le-leb t.deadline t.period h.deadline.1,
+      le-leb t.offset t.period h.offset,
+      lt-ltb (scaled_txn k t).quiet (scaled_txn k t).steps quiet,
+      not_within (steps_at k t.steps),
+    )
+    (some_which (nat_lt 10000 (steps_at k t.steps)) tx)
+
+bad_steps_all : (k place : ℕ) (ts : List TxnDecl) → 1 ≤ k → All HasGoodTimes ts
+    → first_refusal bad_times_at place (map (scaled_txn k) ts) ≡ first_refusal (λ tx txn. given (nat_lt 10000 txn.steps) (BadTimes (record { 0 = tx }) Steps)) place (map (scaled_txn k) ts)
+bad_steps_all k place [] one all = refl
+bad_steps_all k place (t ∷ ts) one all =
+    ap₂ (λ (a b : Option CompileError). first_of_both a b) (bad_steps k place t one (All-head HasGoodTimes t ts all)) (bad_steps_all k (suc place) ts one (All-tail HasGoodTimes t ts all))
+
+pub judged_by_steps : JudgedBySteps
+judged_by_steps set k ok one =
     let rule = compiled-unless-refused (scaled set k) (lists_counted (counts_at k) set ok) in
-    (λ none. all_good k set.txns (rule.0 none).times, λ all. rule.1 (compiled_at set k ok one all))
+    record {
+      refusal = times_alone (counts_at k) set ok ∙ bad_steps_all k 0 set.txns one ok.times;
+      compiled = (λ none. all_good k set.txns (rule.0 none).times, λ all. rule.1 (compiled_at set k ok one all));
+    }
 
 -- a hundred percent
 

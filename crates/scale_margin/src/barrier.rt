@@ -5,7 +5,7 @@ use txn_compiler::CompileError;
 /// Why a set is refused at a percentage of its steps. Want of memory is none of these.
 #[derive(Clone, Copy, PartialEq, Eq, Debug)]
 pub enum Barrier {
-    /// The set does not compile: a transaction has too many steps.
+    /// The set does not compile: the first transaction in list order that has more than 10,000 steps.
     Compile(CompileError),
     /// The set compiles and is not admitted.
     Admit(AdmitError),

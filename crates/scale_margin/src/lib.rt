@@ -2,7 +2,7 @@
 //! greatest accepted percentage is found by halving.
 #![tactic(auto)]
 
-ghost use Rattle.scale_margin.specs.Laws.{FewerStepsAdmitted, ScaledIsCompiled, SameAtHundred, AcceptedUnlessBarred, AcceptedFallsOnce};
+ghost use Rattle.scale_margin.specs.Laws.{FewerStepsAdmitted, JudgedBySteps, SameAtHundred, AcceptedUnlessBarred, AcceptedFallsOnce};
 
 mod barrier;
 mod halving;
@@ -17,9 +17,10 @@ pub fn fewer_steps_admitted()
     ensures { FewerStepsAdmitted }
 {}
 
-/// Of the rules of compiling only the range of the steps depends on the percentage.
-pub fn scaled_is_compiled()
-    ensures { ScaledIsCompiled }
+/// Of the rules of compiling a compiled set can break only the range of the steps at a percentage: it is refused with the
+/// first transaction that has more than 10,000.
+pub fn judged_by_steps()
+    ensures { JudgedBySteps }
 {}
 
 /// At a hundred percent a compiled set is as it was.
