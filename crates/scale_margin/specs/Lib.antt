@@ -1,0 +1,4 @@
+pub mod Scaled
+pub mod Barriers
+pub mod Margins
+pub mod Laws
