@@ -1,0 +1,71 @@
+-- Counts and sums over the numbers that pass a test, as a loop over the numbers takes them.
+use Rattle.std.proofs.Common.{◌≡◌, ℕ, suc, ◌+◌, ◌-◌, ◌*◌, ◌^◌, ◌<◌, ◌≤◌, Bool, true, false, List, [], ◌∷◌, length, refl, ap, ⊎_elim, arith}
+use Rattle.std.specs.List.{filter, range_with_len, sum_by}
+use Rattle.std.specs.Int.{div_ceil}
+use Rattle.std.proofs.Math.Nat.{mul-le-mul, mul-le-mul_left, mul-le-mul_right}
+use Rattle.std.proofs.lemmas.Grind.{div_ceil_times}
+use Rattle.std.proofs.lemmas.Bool.{cases_lt}
+use Rattle.std.proofs.lemmas.List.Sums.{sum_by-cons}
+
+-- the numbers from one on, below an end
+abbrev pub rest_of : ℕ → ℕ → List ℕ
+rest_of i n = range_with_len i (n - i)
+
+rest-next : (i n : ℕ) → i < n → rest_of i n ≡ i ∷ rest_of (i + 1) n
+rest-next i n less = let e : n - i ≡ suc (n - (i + 1)) = omega arith in rw e refl
+
+pub rest-start : (n : ℕ) → rest_of 0 n ≡ range_with_len 0 n
+rest-start n = let e : n - 0 ≡ n = omega arith in ap (range_with_len 0) e
+
+pub rest-end : (i n : ℕ) → n ≤ i → rest_of i n ≡ []
+rest-end i n le = let e : n - i ≡ 0 = omega arith in rw e refl
+
+pub count-passes : (p : ℕ → Bool) (i n place all : ℕ) → i < n → p i ≡ true → place + length (filter p (rest_of i n)) ≡ all → (place + 1) + length (filter p (rest_of (i + 1) n)) ≡ all
+count-passes p i n place all less passes e =
+    let next : length (filter p (rest_of i n)) ≡ suc (length (filter p (rest_of (i + 1) n))) = rw (rest-next i n less, passes) refl in
+    omega (arith, next, e)
+
+pub count-fails : (p : ℕ → Bool) (i n place all : ℕ) → i < n → p i ≡ false → place + length (filter p (rest_of i n)) ≡ all → place + length (filter p (rest_of (i + 1) n)) ≡ all
+count-fails p i n place all less fails e =
+    let next : length (filter p (rest_of i n)) ≡ length (filter p (rest_of (i + 1) n)) = rw (rest-next i n less, fails) refl in
+    omega (arith, next, e)
+
+pub sum-passes : (p : ℕ → Bool) (f : ℕ → ℕ) (i n total all term : ℕ) → i < n → p i ≡ true → term ≡ f i → total + sum_by f (filter p (rest_of i n)) ≡ all → (total + term) + sum_by f (filter p (rest_of (i + 1) n)) ≡ all
+sum-passes p f i n total all term less passes is e =
+    let next : filter p (rest_of i n) ≡ i ∷ filter p (rest_of (i + 1) n) = rw (rest-next i n less, passes) refl in
+    let one = sum_by-cons f i (filter p (rest_of (i + 1) n)) in
+    omega (arith, ap (λ (xs : List ℕ). sum_by f xs) next, one, is, e)
+
+pub sum-fails : (p : ℕ → Bool) (f : ℕ → ℕ) (i n total all : ℕ) → i < n → p i ≡ false → total + sum_by f (filter p (rest_of i n)) ≡ all → total + sum_by f (filter p (rest_of (i + 1) n)) ≡ all
+sum-fails p f i n total all less fails e =
+    let next : filter p (rest_of i n) ≡ filter p (rest_of (i + 1) n) = rw (rest-next i n less, fails) refl in
+    omega (arith, ap (λ (xs : List ℕ). sum_by f xs) next, e)
+
+pub sum-ends : (p : ℕ → Bool) (f : ℕ → ℕ) (i n total all : ℕ) → n ≤ i → total + sum_by f (filter p (rest_of i n)) ≡ all → total ≡ all
+sum-ends p f i n total all le e =
+    let none : filter p (rest_of i n) ≡ [] = rw (rest-end i n le) refl in
+    omega (arith, ap (λ (xs : List ℕ). sum_by f xs) none, e)
+
+pub count-ends : (p : ℕ → Bool) (i n place all : ℕ) → n ≤ i → place + length (filter p (rest_of i n)) ≡ all → place ≡ all
+count-ends p i n place all le e =
+    let none : length (filter p (rest_of i n)) ≡ 0 = rw (rest-end i n le) refl in
+    omega (arith, none, e)
+
+-- one term of a load is small
+beginnings-le : (t w : ℕ) → 1 ≤ t → div_ceil w t ≤ w
+beginnings-le t w some =
+    ⊎_elim
+    (λ (less : w < div_ceil w t).
+    let up : w + 1 ≤ div_ceil w t = omega arith in
+    let a : (w + 1) * t ≤ div_ceil w t * t = mul-le-mul_right t up in
+    let b : w * 1 ≤ w * t = mul-le-mul_left w some in
+    let pt : 0 < t = omega arith in
+    let from = div_ceil_times w t pt in
+    absurd (omega (arith, a, b, from.1)))
+    (λ (le : div_ceil w t ≤ w). le)
+    (cases_lt w (div_ceil w t))
+
+pub term-le : (t w steps : ℕ) → 1 ≤ t → w ≤ 2 ^ 30 → steps ≤ 10000 → div_ceil w t * steps ≤ 2 ^ 30 * 10000
+term-le t w steps some few low =
+    let a : div_ceil w t ≤ 2 ^ 30 = omega (arith, beginnings-le t w some) in
+    mul-le-mul a low

@@ -1,0 +1,37 @@
+use Rattle.std.proofs.Common.{arith}
+use Rattle.update_rates.proofs.Chosen.{no_turn, turns-seen, rated-before, rated-all, place-low, deadline-low, tight-found, none-tight}
+use Rattle.update_rates.proofs.rates.rates_of.Goals as goal
+
+pub deadline_of-requires-clause-rates : goal.deadline_of-requires-clause-rates
+deadline_of-requires-clause-rates c =
+    let t = turns-seen c.args.updaters.now c.deref-turn-items.result.now c.in_ok-turns.turns.items c.deref-turn-items.ensures.value c.in_ok-turns.ensures in
+    rw c.deref.ensures.value
+    (rated-before c.args.updaters.now c.deref-turn-items.result.now c.loop-turn.rates.items c.loop-turn.turn-index no_turn t c.loop-turn.invariant.one_each (omega arith) c.loop-turn.invariant.rated)
+
+pub overflow_sub-updaters : goal.overflow_sub-updaters
+overflow_sub-updaters c =
+    let t = turns-seen c.args.updaters.now c.deref-turn-items.result.now c.in_ok-turns.turns.items c.deref-turn-items.ensures.value c.in_ok-turns.ensures in
+    place-low c.args.updaters.now c.deref-turn-items.result.now c.loop-turn.turn-index no_turn t (omega arith)
+
+pub overflow_sub-updaters-in-Ok : goal.overflow_sub-updaters-in-Ok
+overflow_sub-updaters-in-Ok c =
+    let t = turns-seen c.args.updaters.now c.deref-turn-items.result.now c.in_ok-turns.turns.items c.deref-turn-items.ensures.value c.in_ok-turns.ensures in
+    deadline-low c.args.updaters.now _ c.in-Ok.deadline (t.each c.loop-turn.turn-index no_turn (omega arith)).in_range c.in-Ok.ensures.found
+
+pub returns-in-Err-clause-err : goal.returns-in-Err-clause-err
+returns-in-Err-clause-err c =
+    let t = turns-seen c.args.updaters.now c.deref-turn-items.result.now c.in_ok-turns.turns.items c.deref-turn-items.ensures.value c.in_ok-turns.ensures in
+    tight-found c.args.updaters.now c.loop-turn.rates.items _ c.in-Err.demand (t.each c.loop-turn.turn-index no_turn (omega arith)).in_range
+    (rated-before c.args.updaters.now c.deref-turn-items.result.now c.loop-turn.rates.items c.loop-turn.turn-index no_turn t c.loop-turn.invariant.one_each (omega arith) c.loop-turn.invariant.rated)
+    c.in-Err.ensures.none c.in-Err.ensures.demand
+
+pub returns-clause-ok : goal.returns-clause-ok
+returns-clause-ok c =
+    let t = turns-seen c.args.updaters.now c.deref-turn-items.result.now c.in_ok-turns.turns.items c.deref-turn-items.ensures.value c.in_ok-turns.ensures in
+    rated-all c.args.updaters.now c.deref-turn-items.result.now c.loop-turn.rates.items c.loop-turn.turn-index t c.loop-turn.invariant.one_each (omega arith) c.loop-turn.invariant.rated
+
+pub returns-clause-passed : goal.returns-clause-passed
+returns-clause-passed c =
+    let t = turns-seen c.args.updaters.now c.deref-turn-items.result.now c.in_ok-turns.turns.items c.deref-turn-items.ensures.value c.in_ok-turns.ensures in
+    none-tight c.args.updaters.now c.loop-turn.rates.items
+    (rated-all c.args.updaters.now c.deref-turn-items.result.now c.loop-turn.rates.items c.loop-turn.turn-index t c.loop-turn.invariant.one_each (omega arith) c.loop-turn.invariant.rated)

@@ -1,0 +1,55 @@
+//! The rates of updaters: their priorities, periods and deadlines.
+ghost use Rattle.std.specs.Prelude.{◌≡◌, ◌≤◌, length, None, IfOk, IfErr};
+ghost use Rattle.std.specs.List.{All};
+ghost use Rattle.update_rates.specs.Turns.{HasFewSteps, AreRates};
+ghost use Rattle.update_rates.specs.Refusal.{too_tight, Refuses};
+
+use crate::deadline::{LONGEST, deadline_of};
+use crate::error::RateError;
+use crate::order::turns_of;
+use crate::updaters::Updater;
+use rt_base::{Prio, Tick, TxId};
+use std::alloc::Global;
+
+/// The priority of an updater, and its period and deadline in ticks.
+#[derive(Clone, Copy, PartialEq, Eq, Debug)]
+pub struct Rate {
+    pub prio: Prio,
+    pub period: Tick,
+    pub deadline: Tick,
+}
+
+/// The rates of updaters, in list order, or the first by rising validity that has no deadline.
+pub fn rates_of(alloc: Global, updaters: &[Updater]) -> Result<Vec<Rate>, RateError>
+    requires few { length updaters.now ≤ 64 }
+    requires steps { All HasFewSteps updaters.now }
+    ensures ok { IfOk result (λ rates. AreRates updaters.now rates.items) }
+    ensures passed { IfOk result (λ rates. too_tight updaters.now ≡ None) }
+    ensures err { IfErr result (Refuses (too_tight updaters.now)) }
+{
+    let turns = turns_of(alloc, updaters)?;
+    let none = Rate {
+        prio: 0,
+        period: 0,
+        deadline: 0,
+    };
+    let mut rates = vec![in alloc; none; updaters.len()]?;
+    for turn in &turns {
+        match deadline_of(updaters, &rates, turn.tx) {
+            Ok(deadline) => {
+                rates[turn.tx] = Rate {
+                    prio: (updaters.len() - turn.place) as u32,
+                    period: (updaters[turn.tx].validity - deadline).min(LONGEST),
+                    deadline,
+                }
+            }
+            Err(demand) => {
+                return Err(RateError::TooTight {
+                    tx: TxId(turn.tx as u32),
+                    demand,
+                });
+            }
+        }
+    }
+    Ok(rates)
+}
