@@ -156,7 +156,7 @@ module _ (few : EntriesAreFew) (time : TimeIsBounded) (read : HeadIsReadBack) (l
   report_legal text r types = legal_by text r types.items types.within (all_values r.set r.entries types.values)
 
   pub run_report_legal : RunReportIsLegal
-  run_report_legal s admitted history is integers ok accepted legal run =
+  run_report_legal s is integers admitted history ok accepted legal run =
       let r : IsReport (report_of s.names (set_of s) admitted history) = record {
         names = s.names;
         set = set_of s;

@@ -8,6 +8,7 @@ use Rattle.sim_history.specs.Sim.{IsScriptRun}
 use Rattle.scenario.specs.Shown.{Shown, set_of}
 use Rattle.scenario.specs.Scenarios.{IsScenario}
 use Rattle.scenario_writer.specs.Integers.{HasIntegers}
+use Rattle.scenario_reader.specs.Reading.{data_of, scenario_in}
 use Rattle.workload_laws.specs.Runs.{workload_of}
 use Rattle.report_head.specs.IsHead.{set_of as declared_set}
 use Rattle.report_reader.specs.declared.document.Document.{Document}
@@ -25,9 +26,17 @@ ReportIsLegal = (text : List ℕ) (r : IsReport text) → HasTypes r.set r.entri
 abbrev pub DocumentHasTypes : Type 0
 DocumentHasTypes = (text : List ℕ) (d : Document) → document_of text ≡ Ok d → HasTypes (declared_set d.head) d.entries
 
--- the report of each run of a scenario whose integers are of 64 bits: its initial values, samples and constants
-abbrev pub RunReportIsLegal : Type 0
-RunReportIsLegal =
-    (s : Shown) (admitted : Bool) (history : List Entry) → IsScenario s → HasIntegers s → IsCompiled (set_of s)
+-- the report of each run of a scenario, as a trial or admitted, is said to be legal
+abbrev pub HasLegalReports : Shown → Type 0
+HasLegalReports s =
+    (admitted : Bool) (history : List Entry) → IsCompiled (set_of s)
     → (admitted ≡ true → IsAdmitted (set_of s)) → IsLegal (set_of s) history → IsScriptRun (workload_of s) history
     → IsVerdict (report_of s.names (set_of s) admitted history) Legal
+
+-- where the scenario's integers are of 64 bits: its initial values, samples and constants
+abbrev pub RunReportIsLegal : Type 0
+RunReportIsLegal = (s : Shown) → IsScenario s → HasIntegers s → HasLegalReports s
+
+-- and so where it is read of a text, since such a scenario has no others
+abbrev pub ReadReportIsLegal : Type 0
+ReadReportIsLegal = (bytes : List ℕ) (s : Shown) → scenario_in (data_of bytes) ≡ Ok s → HasLegalReports s

@@ -1,12 +1,13 @@
 //! The laws that each report is legal, and so that of each run of a scenario. They are about the definitions alone.
 #![tactic(auto)]
 
-ghost use Rattle.report_laws.specs.Laws.{ReportIsLegal, DocumentHasTypes, RunReportIsLegal};
+ghost use Rattle.report_laws.specs.Laws.{ReportIsLegal, DocumentHasTypes, RunReportIsLegal, ReadReportIsLegal};
 
 use counting_laws::counting;
 use deadline_laws::response;
 use report_lines::head_is_read_back;
 use run_report::{legal_has_lines, legal_has_rows};
+use scenario_laws::{integers_are_of_64_bits, read_is_scenario};
 use set_admission::admitted_unless_refused;
 use txn_compiler::compiled_unless_refused;
 
@@ -41,4 +42,14 @@ pub fn run_report_is_legal()
     legal_has_rows();
     compiled_unless_refused();
     admitted_unless_refused();
+}
+
+/// The report of each run of a scenario that is read of a text by the reader's definition, as a trial or admitted, is said
+/// to be legal.
+pub fn read_report_is_legal()
+    ensures { ReadReportIsLegal }
+{
+    read_is_scenario();
+    integers_are_of_64_bits();
+    run_report_is_legal();
 }

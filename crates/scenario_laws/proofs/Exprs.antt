@@ -1,5 +1,5 @@
 -- Expressions that are read as they were written.
-use Rattle.std.proofs.Common.{◌≡◌, ℕ, zero, suc, ◌+◌, ◌<◌, ◌≤◌, max, List, [], ◌∷◌, length, get_or, Bool, true, ◌&&◌, Option, Some, None, option_and_then, option_map, refl, sym, ap, ◌∙◌, arith}
+use Rattle.std.proofs.Common.{◌≡◌, ℕ, zero, suc, ◌<◌, ◌≤◌, List, [], length, get_or, true, Option, Some, option_and_then, option_map, refl, ap, ◌∙◌, arith}
 use Rattle.std.proofs.lemmas.Bool.{and_parts, ltb-true}
 use Rattle.rt_base.specs.declared.ids.ItemId.{ItemId}
 use Rattle.step_script.specs.declared.expr.BinOp.{BinOp}
@@ -7,7 +7,6 @@ use Rattle.step_script.specs.declared.expr.BinOp.TheVariants.{Add, Sub, Mul, Div
 use Rattle.step_script.specs.Values.{Tree, leaf_const, leaf_sample, leaf_serial, leaf_last, node}
 use Rattle.step_script.specs.Scripts.{depth, reads_below}
 use Rattle.serde_json.specs.Data.{Data, array, item, no_items}
-use Rattle.serde_json.specs.Find.{as_i64, of_integer}
 use Rattle.scenario_forms.specs.Fields.{Places, item_in, item_id}
 use Rattle.scenario_forms.specs.Shapes.{Form, const, bin, shape_of}
 use Rattle.scenario_forms.specs.Exprs.{Known, expr_in, expr_at, last_of, bin_of}

@@ -1,24 +1,20 @@
 -- A scenario's data is read by its forms as it was written.
-use Rattle.std.proofs.Common.{◌≡◌, ℕ, ◌≤◌, ◌<◌, FitsSigned, List, [], length, map, codes, Bool, true, false, cond, Option, Some, None, Result, Ok, refl, sym, ap, ◌∙◌, arith}
+use Rattle.std.proofs.Common.{◌≡◌, FitsSigned, List, [], length, map, codes, Bool, true, false, cond, None, Ok, refl, sym, ap, ◌∙◌}
 use Rattle.std.specs.Int.{w64}
 use Rattle.std.specs.List.{All}
 use Rattle.rt_base.specs.Names.{AreNames}
 use Rattle.rt_base.specs.declared.ids.TogetherDecl.{TogetherDecl}
 use Rattle.scenario.specs.Shown.{Shown}
 use Rattle.scenario.specs.Scenarios.{HasValidity}
-use Rattle.serde_json.specs.Data.{Data, Items, no_items}
+use Rattle.serde_json.specs.Data.{no_items}
 use Rattle.serde_json.specs.Find.{as_array}
 use Rattle.serde_json.specs.View.{items_of}
 use Rattle.scenario_forms.specs.declared.error.Place.TheVariants as places
-use Rattle.scenario_forms.specs.Reading.{◌>>=◌, needed, member_at, array_at, fold_at}
-use Rattle.scenario_forms.specs.Fields.{Places, whole, formed_unit}
-use Rattle.scenario_forms.specs.Items.{Table, item_step}
-use Rattle.scenario_forms.specs.Txns.{Txns, txn_step}
-use Rattle.scenario_forms.specs.Sets.{Together, set_step}
-use Rattle.scenario_forms.specs.Root.{Formed, is_second, head_at, items_at, txns_at, sets_at, forms_at}
-use Rattle.scenario_writer.specs.Canonical.{canonical_as, items_data, txns_in, txn_data, set_data, array_of, Written}
-use Rattle.scenario_writer.specs.Canonical as written
-use Rattle.scenario_laws.proofs.Parts.{then, found_member, found_or, absent_or, unfold_end, whole_back}
+use Rattle.scenario_forms.specs.Reading.{member_at}
+use Rattle.scenario_forms.specs.Sets.{set_step}
+use Rattle.scenario_forms.specs.Root.{is_second, head_at, items_at, txns_at, sets_at, forms_at}
+use Rattle.scenario_writer.specs.Canonical.{canonical_as, items_data, txns_in, set_data, array_of}
+use Rattle.scenario_laws.proofs.Parts.{then, found_member, found_or, absent_or, unfold_end}
 use Rattle.scenario_laws.proofs.Exprs.{ArePlaced}
 use Rattle.scenario_laws.proofs.Names.{all_fresh, all_placed}
 use Rattle.scenario_laws.specs.ReadBack.{places_of, table, read_set, all_written, read_forms}

@@ -1,5 +1,5 @@
 -- Items that are read as they were written.
-use Rattle.std.proofs.Common.{◌≡◌, ℕ, zero, suc, ◌+◌, ◌<◌, ◌≤◌, ◌^◌, pos, ℤ, FitsSigned, List, [], ◌∷◌, ◌++◌, length, get_or, codes, Bool, true, cond, Option, Some, None, is_some, option_and_then, Result, Ok, refl, sym, ap, ◌∙◌, arith}
+use Rattle.std.proofs.Common.{◌≡◌, ℕ, ◌+◌, ◌^◌, pos, ℤ, FitsSigned, List, [], ◌∷◌, ◌++◌, length, codes, Bool, true, cond, Option, Some, None, is_some, Result, Ok, refl, sym, ap, ◌∙◌, arith}
 use Rattle.std.specs.Int.{w64}
 use Rattle.std.specs.List.{All}
 use Rattle.std.proofs.lemmas.List.{append_assoc, append-nil, length-append}
@@ -7,17 +7,15 @@ use Rattle.item_model.specs.declared.decl.ItemKind.{ItemKind}
 use Rattle.item_model.specs.declared.decl.ItemKind.TheVariants.{Sensor, Derived, State}
 use Rattle.item_model.specs.declared.decl.ItemDecl.{ItemDecl}
 use Rattle.rt_base.specs.Names.{is_name, name_of}
-use Rattle.serde_json.specs.Data.{Data}
 use Rattle.serde_json.specs.Find.{get}
 use Rattle.serde_json.specs.View.{items_of}
 use Rattle.scenario.specs.Scenarios.{HasValidity}
-use Rattle.scenario_forms.specs.declared.error.Place.{Place}
 use Rattle.scenario_forms.specs.declared.error.Place.TheVariants as places
 use Rattle.scenario_forms.specs.declared.error.ItemMember.TheVariants as members
 use Rattle.scenario_forms.specs.declared.error.FormError.{FormError}
-use Rattle.scenario_forms.specs.Reading.{◌>>=◌, needed, member_at, member_or, fold_at}
+use Rattle.scenario_forms.specs.Reading.{◌>>=◌, needed, member_at, fold_at}
 use Rattle.scenario_forms.specs.Fields.{Places, whole, integer, new_name, unless_placed, no_others, formed_unit}
-use Rattle.scenario_forms.specs.Items.{is_item_member, kind_form, item_kind, item_at, Table, with_item, item_step}
+use Rattle.scenario_forms.specs.Items.{is_item_member, kind_form, item_kind, item_at, with_item, item_step}
 use Rattle.scenario_writer.specs.Canonical.{item_data, items_data, word}
 use Rattle.scenario_writer.specs.Canonical as written
 use Rattle.scenario_laws.proofs.Parts.{then, found_member, found_or, head, tail, unfold_step, unfold_end, whole_back, integer_back}

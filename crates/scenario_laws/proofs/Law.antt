@@ -1,30 +1,24 @@
 -- Reading the canonical data of a scenario gives the scenario, with each run of computes as one.
-use Rattle.std.proofs.Common.{◌≡◌, ℕ, zero, suc, ◌+◌, ◌<◌, ◌≤◌, ◌^◌, List, [], ◌∷◌, length, get_or, map, subst, Bool, true, false, not, cond, Option, Some, None, option_map, Result, Ok, refl, sym, ap, ◌∙◌, arith}
-use Rattle.std.specs.Prelude.{nat_lt}
-use Rattle.std.specs.List.{All, AllPairs, position, position_or_len, prefix_len}
-use Rattle.std.specs.Option.{option_or}
+use Rattle.std.proofs.Common.{◌≡◌, ℕ, zero, suc, ◌+◌, ◌<◌, ◌≤◌, ◌^◌, List, [], ◌∷◌, length, map, Bool, false, not, cond, Option, Some, None, option_map, Result, Ok, refl, sym, ap, ◌∙◌, arith}
+use Rattle.std.specs.List.{All, AllPairs, position, position_or_len}
 use Rattle.std.proofs.lemmas.Bool.{le-ltb}
 use Rattle.std.proofs.lemmas.Str.{is_utf8-from_IsUtf8}
 use Rattle.std.specs.Str.{IsUtf8}
 use Rattle.serde_json.specs.Read.{read}
 use Rattle.rt_base.specs.declared.ids.ItemId.{ItemId}
 use Rattle.rt_base.specs.declared.ids.TogetherDecl.{TogetherDecl}
-use Rattle.rt_base.specs.declared.name.Names.{Names}
 use Rattle.rt_base.specs.declared.release.PlanRefused.{PlanRefused}
 use Rattle.item_model.specs.declared.decl.ItemDecl.{ItemDecl}
 use Rattle.txn_set.specs.declared.decl.TxnDecl.{TxnDecl}
 use Rattle.step_script.specs.Scripts.{Operation, Program}
 use Rattle.scenario.specs.declared.releases.Releases.{Releases}
-use Rattle.scenario.specs.Shown.{Shown, set_of}
+use Rattle.scenario.specs.Shown.{Shown}
 use Rattle.scenario.specs.Releases.{total_jobs, bad_release, room_of, eager_end}
 use Rattle.scenario.specs.Scripts.{bad_script, long_script}
-use Rattle.scenario.specs.Scenarios.{IsProgramOver, IsScenario}
+use Rattle.scenario.specs.Scenarios.{IsScenario}
 use Rattle.scenario_forms.specs.declared.error.Place.{Place}
 use Rattle.scenario_forms.specs.declared.error.FormError.{FormError}
-use Rattle.scenario_forms.specs.Ops.{KnownOp}
-use Rattle.scenario_forms.specs.Txns.{Txn}
-use Rattle.scenario_forms.specs.Sets.{Together}
-use Rattle.scenario_forms.specs.Root.{Formed, forms_at}
+use Rattle.scenario_forms.specs.Root.{Formed}
 use Rattle.scenario_reader.specs.declared.error.ScenarioError.{ScenarioError}
 use Rattle.scenario_reader.specs.declared.error.ScenarioError.TheVariants.{UnknownName, TooManyJobs, RoomTooLarge, EagerTooFar}
 use Rattle.scenario_reader.specs.Refusals.{◌>>=◌, pass, above, formed}

@@ -11,3 +11,7 @@ mod MergedScenario
 mod Texts
 mod Order
 mod Law
+mod Numbers
+mod Integers
+mod Generated
+mod Scenarios

@@ -1,15 +1,14 @@
 -- Scripts with each run of computes as one.
-use Rattle.std.proofs.Common.{◌≡◌, ℕ, zero, suc, ◌+◌, ◌<◌, ◌≤◌, max, List, [], ◌∷◌, ◌++◌, length, get_or, map, Bool, true, false, not, ◌&&◌, ◌||◌, cond, Option, Some, None, refl, sym, ap, ◌∙◌, arith}
-use Rattle.std.specs.Prelude.{nat_le, nat_lt, ◌==◌}
+use Rattle.std.proofs.Common.{◌≡◌, ℕ, zero, suc, ◌+◌, ◌<◌, ◌≤◌, max, List, [], ◌∷◌, ◌++◌, length, get_or, Bool, true, false, not, ◌&&◌, ◌||◌, cond, Option, Some, None, refl, sym, ap, ◌∙◌, arith}
+use Rattle.std.specs.Prelude.{nat_le}
 use Rattle.std.specs.List.{All, list_all, list_any}
-use Rattle.std.proofs.lemmas.Bool.{and_parts, and_from, leb-true, le-leb}
 use Rattle.std.proofs.lemmas.List.{append_assoc}
 use Rattle.item_model.specs.declared.decl.ItemDecl.{ItemDecl}
 use Rattle.item_model.specs.Kinds.{is_dated}
 use Rattle.txn_set.specs.Set.{may_read, may_write}
 use Rattle.txn_set.specs.declared.decl.TxnDecl.{TxnDecl}
-use Rattle.step_script.specs.Scripts.{Operation, read, write, compute, commit, quit, width, is_good}
-use Rattle.scenario.specs.Scripts.{steps_of, closes, is_write_of, writes_all, may_ask, may_stand, bad_op_after, bad_op}
+use Rattle.step_script.specs.Scripts.{Operation, read, write, compute, commit, quit, width}
+use Rattle.scenario.specs.Scripts.{steps_of, closes, is_write_of, writes_all, may_stand, bad_op_after}
 use Rattle.scenario.specs.Scenarios.{IsTextOp}
 use Rattle.scenario_writer.specs.Canonical.{joined, merged_ops}
 use Rattle.scenario_writer.proofs.Merging.{head, tail, merge_all}

@@ -1,20 +1,20 @@
 -- A scenario is one with each run of computes as one, too.
-use Rattle.std.proofs.Common.{◌≡◌, ℕ, suc, ◌+◌, ◌<◌, ◌≤◌, List, [], ◌∷◌, length, get_or, map, subst, Bool, true, false, Option, Some, None, option_map, refl, sym, ap, ◌∙◌, arith}
-use Rattle.std.specs.List.{All, list_all, position}
+use Rattle.std.proofs.Common.{◌≡◌, ℕ, ◌+◌, ◌<◌, ◌≤◌, List, [], ◌∷◌, length, get_or, map, subst, true, Option, Some, None, option_map, refl, sym, ap, ◌∙◌, arith}
+use Rattle.std.specs.List.{All}
 use Rattle.std.specs.Option.{option_or}
-use Rattle.std.proofs.lemmas.Bool.{ltb-false, leb-true, le-leb}
+use Rattle.std.proofs.lemmas.Bool.{ltb-false, leb-true}
 use Rattle.std.proofs.lemmas.List.{length-map, get_or-map}
 use Rattle.std.proofs.lemmas.List.Sums.{AllPass-from_list_all, list_all-from_AllPass}
 use Rattle.item_model.specs.declared.decl.ItemDecl.{ItemDecl}
 use Rattle.txn_set.specs.declared.decl.TxnDecl.{TxnDecl}
 use Rattle.step_script.specs.Scripts.{Operation, read, write, compute, commit, quit, Program, is_good}
 use Rattle.scenario.specs.Shown.{Shown}
-use Rattle.scenario.specs.Scripts.{steps_of, bad_op, bad_script_from, is_long}
+use Rattle.scenario.specs.Scripts.{steps_of, bad_op, bad_script_from}
 use Rattle.scenario.specs.Scenarios.{IsProgramOver, IsScenario}
 use Rattle.scenario_writer.specs.Canonical.{merged_ops, merged_program, merged}
 use Rattle.scenario_writer.proofs.Ranges.{none_long}
 use Rattle.scenario_writer.proofs.GeneratedScripts as writing
-use Rattle.scenario_writer.proofs.Merging.{head, tail, merge_all, good_merged}
+use Rattle.scenario_writer.proofs.Merging.{head, tail, good_merged}
 use Rattle.scenario_laws.proofs.Merged.{IsSome, merge_steps, merge_text, merge_none}
 
 some_good : (items : ℕ) (op : Operation) → is_good items op ≡ true → IsSome op

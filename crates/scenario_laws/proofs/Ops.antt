@@ -1,13 +1,12 @@
 -- Operations that are read as they were written.
-use Rattle.std.proofs.Common.{◌≡◌, ℕ, ◌≤◌, List, [], length, get_or, map, Bool, true, ◌&&◌, Option, Some, option_map, option_and_then, refl, ap, ◌∙◌}
+use Rattle.std.proofs.Common.{◌≡◌, ℕ, List, [], length, get_or, true, Option, Some, option_map, option_and_then, refl, ap, ◌∙◌}
 use Rattle.std.proofs.lemmas.Bool.{and_parts, ltb-true, leb-true}
-use Rattle.std.specs.List.{All}
 use Rattle.rt_base.specs.declared.ids.ItemId.{ItemId}
 use Rattle.step_script.specs.Scripts.{Operation, read, write, compute, commit, quit, is_good}
 use Rattle.scenario.specs.Scenarios.{IsTextOp}
 use Rattle.scenario_forms.specs.Fields.{Places, item_in}
 use Rattle.scenario_forms.specs.Exprs.{Known}
-use Rattle.scenario_forms.specs.Ops.{KnownOp, computes, op_of, op_in, read_of, write_of}
+use Rattle.scenario_forms.specs.Ops.{computes, op_of, op_in, read_of, write_of}
 use Rattle.scenario_writer.specs.Canonical.{op_data}
 use Rattle.scenario_writer.specs.Integers.{OpHasConstants}
 use Rattle.scenario_laws.proofs.Parts.{whole_back}

@@ -1,20 +1,17 @@
 -- Relative sets, and the transactions of a scenario, that are read as they were written.
-use Rattle.std.proofs.Common.{◌≡◌, ℕ, ◌+◌, ◌≤◌, ◌<◌, ◌^◌, List, [], ◌∷◌, ◌++◌, length, get_or, map, codes, Bool, true, cond, Option, Some, None, Result, Ok, refl, sym, ap, ◌∙◌, arith}
+use Rattle.std.proofs.Common.{◌≡◌, ℕ, ◌+◌, ◌≤◌, ◌<◌, ◌^◌, List, [], ◌∷◌, ◌++◌, length, get_or, map, codes, Bool, true, Some, None, Ok, refl, sym, ap, ◌∙◌, arith}
 use Rattle.std.specs.List.{All}
 use Rattle.std.proofs.lemmas.List.{append_assoc, append-nil, length-append}
-use Rattle.rt_base.specs.declared.ids.ItemId.{ItemId}
 use Rattle.rt_base.specs.declared.ids.TogetherDecl.{TogetherDecl}
 use Rattle.rt_base.specs.Names.{is_name}
-use Rattle.serde_json.specs.Data.{Data}
 use Rattle.serde_json.specs.Find.{as_array}
 use Rattle.serde_json.specs.View.{items_of}
 use Rattle.scenario_forms.specs.declared.error.Place.TheVariants as places
-use Rattle.scenario_forms.specs.declared.error.FormError.{FormError}
 use Rattle.scenario_forms.specs.Arrays.{named}
-use Rattle.scenario_forms.specs.Reading.{◌>>=◌, needed, member_at, fold_at}
-use Rattle.scenario_forms.specs.Fields.{Places, whole, formed_unit}
+use Rattle.scenario_forms.specs.Reading.{fold_at}
+use Rattle.scenario_forms.specs.Fields.{Places, whole}
 use Rattle.scenario_forms.specs.Sets.{Together, set_at, set_step}
-use Rattle.scenario_forms.specs.Txns.{Txn, Txns, with_txn, txn_name, txn_at, txn_step}
+use Rattle.scenario_forms.specs.Txns.{Txn, Txns, with_txn, txn_step}
 use Rattle.scenario_writer.specs.Canonical.{Written, txn_data, set_data, item_word, item_words}
 use Rattle.scenario_writer.specs.Canonical as written
 use Rattle.scenario_laws.proofs.Parts.{then, found_member, forms_back, whole_back, head, tail, unfold_step, unfold_end}

@@ -1,7 +1,7 @@
 -- A scenario is one that a text can hold.
-use Rattle.std.proofs.Common.{◌≡◌, ℕ, zero, suc, ◌+◌, ◌<◌, ◌≤◌, ◌^◌, List, [], ◌∷◌, length, get_or, map, subst, Bool, true, false, ◌||◌, cond, Option, Some, None, option_map, Result, Ok, refl, sym, ap, ◌∙◌, arith}
+use Rattle.std.proofs.Common.{◌≡◌, ℕ, zero, suc, ◌+◌, ◌<◌, ◌≤◌, ◌^◌, List, [], ◌∷◌, length, get_or, map, subst, Bool, true, false, cond, Option, Some, None, option_map, Ok, refl, sym, ap, arith}
 use Rattle.std.specs.Prelude.{nat_lt}
-use Rattle.std.specs.List.{All, list_all, list_any}
+use Rattle.std.specs.List.{All, list_any}
 use Rattle.std.specs.Option.{option_or}
 use Rattle.std.proofs.lemmas.Bool.{or_parts, ltb-false}
 use Rattle.std.proofs.lemmas.List.{nil_from_length}
@@ -10,18 +10,17 @@ use Rattle.rt_base.specs.declared.release.PlanRefused.{PlanRefused}
 use Rattle.rt_base.specs.declared.release.PlanRefused.TheVariants.{TooSoon, TooFar}
 use Rattle.txn_set.specs.declared.decl.TxnDecl.{TxnDecl}
 use Rattle.txn_set.specs.Set.{no_txn}
-use Rattle.step_script.specs.Scripts.{Operation, read, write, compute, commit, quit, Program, is_good}
+use Rattle.step_script.specs.Scripts.{compute, Program, is_good}
 use Rattle.scenario.specs.declared.releases.Releases.{Releases}
 use Rattle.scenario.specs.declared.releases.Releases.TheVariants.{At, Jobs, Eager}
 use Rattle.scenario.specs.Shown.{Shown}
 use Rattle.scenario.specs.Releases.{jobs_of, total_jobs, ticks_of, refused_tick, refused_from}
 use Rattle.scenario.specs.Scenarios.{IsScenario}
 use Rattle.scenario_forms.specs.Root.{forms_at}
-use Rattle.scenario_writer.specs.Canonical.{Written, written, is_second, canonical, canonical_as, merged_ops}
+use Rattle.scenario_writer.specs.Canonical.{Written, written, is_second, canonical, merged_ops}
 use Rattle.scenario_writer.specs.Integers.{OpHasConstants, HasIntegers}
-use Rattle.scenario_writer.proofs.Merging.{head, tail, merge_all, good_merged}
-use Rattle.scenario_laws.proofs.Txns.{HasRanges, InTextRange, IsTextTxn}
-use Rattle.scenario_laws.proofs.Sets.{IsTextSet}
+use Rattle.scenario_writer.proofs.Merging.{merge_all, good_merged}
+use Rattle.scenario_laws.proofs.Txns.{InTextRange, IsTextTxn}
 use Rattle.scenario_laws.proofs.Forms.{IsText, forms_back}
 use Rattle.scenario_laws.specs.ReadBack.{read_forms}
 use Rattle.scenario_laws.proofs.Merged.{merge_text}

@@ -1,29 +1,26 @@
 -- Transactions that are read as they were written.
-use Rattle.std.proofs.Common.{◌≡◌, ℕ, ◌≤◌, ◌<◌, ◌^◌, ℤ, FitsSigned, List, [], ◌∷◌, length, get_or, map, codes, Bool, true, false, Option, Some, None, is_none, option_map, option_and_then, cond, Result, Ok, refl, sym, ap, ◌∙◌, arith}
+use Rattle.std.proofs.Common.{◌≡◌, ℕ, ◌≤◌, ◌<◌, ◌^◌, FitsSigned, List, length, get_or, map, codes, Bool, true, false, Some, None, cond, Ok, refl, sym, ap, ◌∙◌, arith}
 use Rattle.std.specs.Int.{w64}
 use Rattle.std.specs.List.{All}
 use Rattle.std.proofs.lemmas.List.{map-id}
 use Rattle.rt_base.specs.declared.ids.ItemId.{ItemId}
 use Rattle.rt_base.specs.Names.{is_name}
 use Rattle.txn_set.specs.declared.decl.TxnDecl.{TxnDecl}
-use Rattle.step_script.specs.Scripts.{Operation, Program, is_good}
+use Rattle.step_script.specs.Scripts.{Program, is_good}
 use Rattle.scenario.specs.Scenarios.{HasTextTimes, IsTextOp}
 use Rattle.scenario.specs.declared.releases.Releases.{Releases}
 use Rattle.scenario.specs.declared.releases.Releases.TheVariants.{At, Jobs, Eager}
-use Rattle.serde_json.specs.Data.{Data, Items}
+use Rattle.serde_json.specs.Data.{Data}
 use Rattle.serde_json.specs.Find.{get, as_array}
 use Rattle.serde_json.specs.View.{items_of}
-use Rattle.scenario_forms.specs.declared.error.Place.{Place}
 use Rattle.scenario_forms.specs.declared.error.Place.TheVariants as places
 use Rattle.scenario_forms.specs.declared.error.TxnMember.{TxnMember}
 use Rattle.scenario_forms.specs.declared.error.TxnMember.TheVariants as members
-use Rattle.scenario_forms.specs.declared.error.FormError.{FormError}
-use Rattle.scenario_forms.specs.declared.txn.Times.{Times}
 use Rattle.scenario_forms.specs.Arrays.{named}
-use Rattle.scenario_forms.specs.Reading.{◌>>=◌, needed, member_at, member_or, array_at, all_at}
-use Rattle.scenario_forms.specs.Fields.{Places, whole, integer, new_name, no_others, formed_unit, item_in}
-use Rattle.scenario_forms.specs.Ops.{KnownOp, op_in}
-use Rattle.scenario_forms.specs.Txns.{is_txn_member, times_at, absent, fixed_at, counted_at, eager_at, releases_at, names_at, samples_at, script_at, Txn, txn_at, txn_name}
+use Rattle.scenario_forms.specs.Reading.{needed, member_or}
+use Rattle.scenario_forms.specs.Fields.{Places, whole, integer, new_name, no_others, formed_unit}
+use Rattle.scenario_forms.specs.Ops.{op_in}
+use Rattle.scenario_forms.specs.Txns.{is_txn_member, times_at, absent, fixed_at, counted_at, eager_at, releases_at, names_at, samples_at, script_at, txn_at, txn_name}
 use Rattle.scenario_writer.specs.Canonical.{Written, txn_data, word, item_word, item_words, op_data, merged_ops, script_data, array_of}
 use Rattle.scenario_writer.specs.Canonical as written
 use Rattle.scenario_writer.specs.Integers.{OpHasConstants}

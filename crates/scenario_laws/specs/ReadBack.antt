@@ -1,5 +1,5 @@
 -- A scenario as its canonical data is read by forms.
-use Rattle.std.specs.Prelude.{◌≡◌, ℕ, ◌+◌, List, [], ◌∷◌, length, map, Bool, true, if◌then◌else◌, Some, None, Ok}
+use Rattle.std.specs.Prelude.{◌≡◌, ℕ, ◌+◌, List, [], ◌∷◌, map, Bool, true, if◌then◌else◌, Some, None, Ok}
 use Rattle.std.specs.Str.{bytes_eq, IsUtf8}
 use Rattle.std.specs.Map.{update}
 use Rattle.rt_base.specs.declared.ids.TogetherDecl.{TogetherDecl}
@@ -8,7 +8,6 @@ use Rattle.txn_set.specs.declared.decl.TxnDecl.{TxnDecl}
 use Rattle.step_script.specs.Scripts.{Operation}
 use Rattle.scenario.specs.Shown.{Shown}
 use Rattle.scenario.specs.Scenarios.{IsScenario}
-use Rattle.serde_json.specs.Data.{Data}
 use Rattle.serde_json.specs.Read.{read}
 use Rattle.scenario_forms.specs.declared.txn.Times.{Times}
 use Rattle.scenario_forms.specs.Fields.{Places}
@@ -16,9 +15,9 @@ use Rattle.scenario_forms.specs.Ops.{KnownOp}
 use Rattle.scenario_forms.specs.Items.{Table}
 use Rattle.scenario_forms.specs.Txns.{Txn}
 use Rattle.scenario_forms.specs.Sets.{Together}
-use Rattle.scenario_forms.specs.Root.{Formed, forms_at}
+use Rattle.scenario_forms.specs.Root.{Formed}
 use Rattle.scenario_reader.specs.Reading.{data_of, scenario_of, scenario_in}
-use Rattle.scenario_writer.specs.Canonical.{merged, Written, written, merged_ops, is_second, canonical}
+use Rattle.scenario_writer.specs.Canonical.{merged, Written, written, merged_ops, canonical}
 use Rattle.scenario_writer.specs.Integers.{HasIntegers}
 
 -- names that are noted one after another, the first at this place

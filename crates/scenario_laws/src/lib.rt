@@ -1,7 +1,9 @@
-//! The law that reading a written scenario gives it back. It is about the definitions alone.
+//! The laws of reading a scenario: what is read of a written one, and what holds of each one that is read. They are about
+//! the definitions alone.
 #![tactic(auto)]
 
 ghost use Rattle.scenario_laws.specs.ReadBack.{DataReadBack, TextsReadBack};
+ghost use Rattle.scenario_laws.specs.Texts.{ReadIsScenario, ReadHasIntegers, GeneratedHasIntegers};
 
 #[cfg(test)]
 mod tests;
@@ -15,4 +17,16 @@ pub fn data_read_back()
 /// as one. Such a text is what is written for the scenario.
 pub fn texts_read_back()
     ensures { TextsReadBack }
+{}
+
+/// What is read of a text by the reader's definition is a scenario that nothing refuses.
+pub fn read_is_scenario()
+    ensures { ReadIsScenario }
+{}
+
+/// The initial values, samples and constants of a scenario are of 64 bits, from -2^63 to 2^63 - 1, where it is read of a
+/// text by the reader's definition, and where it is a generated one of at most 64 transactions.
+pub fn integers_are_of_64_bits()
+    ensures read { ReadHasIntegers }
+    ensures generated { GeneratedHasIntegers }
 {}
