@@ -10,12 +10,7 @@ use std::alloc::Global;
 use txn_compiler::TxnDecl;
 use update_rates::RateError;
 
-fn add_rate(
-    into: &mut Vec<u8>,
-    names: &Names,
-    tx: TxId,
-    decl: &TxnDecl,
-) -> Result<(), OutOfMemory>
+fn add_rate(into: &mut Vec<u8>, names: &Names, tx: TxId, decl: &TxnDecl) -> Result<(), OutOfMemory>
     ensures { OnOk result (into.new.items ≡ into.old.items ++ rate_line names.now tx.0 decl.now) }
 {
     into.extend_from_slice(b"rate")?;
@@ -42,12 +37,7 @@ pub fn rates_text(alloc: Global, names: &Names, set: &AdmittedSet) -> Result<Vec
     Ok(text)
 }
 
-fn put_too_tight(
-    out: &mut Vec<u8>,
-    names: &Names,
-    tx: TxId,
-    demand: u64,
-) -> Result<(), OutOfMemory>
+fn put_too_tight(out: &mut Vec<u8>, names: &Names, tx: TxId, demand: u64) -> Result<(), OutOfMemory>
     ensures { OnOk result (out.new.items ≡ out.old.items ++ (codes "TooTight" ++ txn names.now tx ++ number demand)) }
 {
     out.extend_from_slice(b"TooTight")?;
@@ -64,11 +54,7 @@ fn put_no_updater(out: &mut Vec<u8>, names: &Names, tx: TxId) -> Result<(), OutO
 
 /// Appends why declarations get no rates. The names are those of the items and transactions. After want of memory a part
 /// of the text may stand.
-pub fn put_rate_cause(
-    out: &mut Vec<u8>,
-    names: &Names,
-    error: RateError,
-) -> Result<(), OutOfMemory>
+pub fn put_rate_cause(out: &mut Vec<u8>, names: &Names, error: RateError) -> Result<(), OutOfMemory>
     ensures { OnOk result (out.new.items ≡ out.old.items ++ rate_cause names.now error) }
 {
     match error {

@@ -9,7 +9,8 @@ mod verdict;
 
 pub use analysis::{margins, rates};
 pub use reply::{
-    Reply, no_names, refused, refused_admission, refused_rates, refused_scenario, refused_set, written,
+    Reply, no_names, refused, refused_admission, refused_rates, refused_scenario, refused_set,
+    written,
 };
 pub use sets::{admitted, bounds, ceilings, compiled};
 pub use status::Status;

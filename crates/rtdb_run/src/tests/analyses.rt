@@ -31,7 +31,12 @@ fn analyses(rt: HostRuntime) -> Result<(), Fail> {
             "rate a 3 9 1\nrate b 2 9 3\nrate c 1 14 6\nadmitted\n",
         ),
         ("rates", TIGHT, Status::Refused, "refused TooTight b 3\n"),
-        ("rates", BASE, Status::Refused, "refused NotAnUpdater control\n"),
+        (
+            "rates",
+            BASE,
+            Status::Refused,
+            "refused NotAnUpdater control\n",
+        ),
         ("rates", EMPTY, Status::Ok, "admitted\n"),
         ("rates", NONE, Status::Refused, "refused NotJson\n"),
         (
@@ -46,7 +51,12 @@ fn analyses(rt: HostRuntime) -> Result<(), Fail> {
             Status::Ok,
             "margin 100\nbarrier NotSchedulable solo 5\n",
         ),
-        ("margin", BIG, Status::Ok, "margin 500\nbarrier BadTimes big steps\n"),
+        (
+            "margin",
+            BIG,
+            Status::Ok,
+            "margin 500\nbarrier BadTimes big steps\n",
+        ),
         ("margin", TINY, Status::Ok, "margin 1000\nbarrier -\n"),
         ("margin", EMPTY, Status::Ok, "margin 1000\nbarrier -\n"),
         ("margin", NONE, Status::Refused, "refused NotJson\n"),
