@@ -28,10 +28,11 @@ pub fn rates_text(alloc: Global, names: &Names, set: &AdmittedSet) -> Result<Vec
     ensures { IfOk result (λ text. text.items ≡ rates_of names.now set.now) }
 {
     set.is_admitted();
+    let rated = set.set();
     let mut text = Vec::new(alloc);
-    for i in 0..set.set().txns().len() {
+    for i in 0..rated.txns().len() {
         let tx = TxId(i as u32);
-        add_rate(&mut text, names, tx, set.set().txn(tx))?;
+        add_rate(&mut text, names, tx, rated.txn(tx))?;
     }
     text.extend_from_slice(b"admitted\n")?;
     Ok(text)
@@ -45,10 +46,11 @@ fn put_too_tight(out: &mut Vec<u8>, names: &Names, tx: TxId, demand: u64) -> Res
     put_number(out, demand)
 }
 
-fn put_no_updater(out: &mut Vec<u8>, names: &Names, tx: TxId) -> Result<(), OutOfMemory>
-    ensures { OnOk result (out.new.items ≡ out.old.items ++ (codes "NotAnUpdater" ++ txn names.now tx)) }
+// A word and a transaction.
+fn put_of_txn(out: &mut Vec<u8>, names: &Names, cause: &[u8], tx: TxId) -> Result<(), OutOfMemory>
+    ensures { OnOk result (out.new.items ≡ out.old.items ++ (cause.now ++ txn names.now tx)) }
 {
-    out.extend_from_slice(b"NotAnUpdater")?;
+    out.extend_from_slice(cause)?;
     put_txn(out, names, tx)
 }
 
@@ -59,7 +61,7 @@ pub fn put_rate_cause(out: &mut Vec<u8>, names: &Names, error: RateError) -> Res
 {
     match error {
         RateError::Compile(error) => put_compile_cause(out, names, error),
-        RateError::NotAnUpdater { tx } => put_no_updater(out, names, tx),
+        RateError::NotAnUpdater { tx } => put_of_txn(out, names, b"NotAnUpdater", tx),
         RateError::TooTight { tx, demand } => put_too_tight(out, names, tx, demand),
         RateError::OutOfMemory => Ok(()),
     }

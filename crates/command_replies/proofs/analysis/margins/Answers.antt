@@ -7,8 +7,8 @@ use Rattle.command_replies.proofs.Replying.{taken}
 use Rattle.command_replies.proofs.Analysing.{margin_is, margin_reply}
 use Rattle.command_replies.proofs.analysis.margins.Goals as goal
 
-pub returns-in-Ok : goal.returns-in-Ok
-returns-in-Ok c =
+pub returns : goal.returns
+returns c =
     let s : Shown = shown c.args.scenario in
     let set_is : c.in-Ok.set ≡ set_of s = taken c.in_ok-set.field-0 c.in-Ok.set (λ set. set ≡ set_of s) c.in-Ok.is c.in_ok-set.ensures.set in
     let none : compile_refusal (set_of s) ≡ None = taken c.in_ok-set.field-0 c.in-Ok.set (λ set. compile_refusal (set_of s) ≡ None) c.in-Ok.is c.in_ok-set.ensures.passed in

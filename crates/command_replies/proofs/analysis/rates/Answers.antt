@@ -10,7 +10,7 @@ use Rattle.command_replies.proofs.analysis.rates.Goals as goal
 pub returns-in-Ok : goal.returns-in-Ok
 returns-in-Ok c =
     let s : Shown = shown c.args.scenario in
-    let set_is : c.in-Ok.set ≡ rated_set (set_of s) = taken c.in_ok-rated.field-0 c.in-Ok.set (λ set. set ≡ rated_set (set_of s)) c.in-Ok.is c.in_ok-rated.ensures.set in
-    let none : rate_refusal (set_of s) ≡ None = taken c.in_ok-rated.field-0 c.in-Ok.set (λ set. rate_refusal (set_of s) ≡ None) c.in-Ok.is c.in_ok-rated.ensures.passed in
+    let set_is : c.in-Ok.set ≡ rated_set (set_of s) = taken c.in_ok-set.field-0 c.in-Ok.set (λ set. set ≡ rated_set (set_of s)) c.in-Ok.is c.in_ok-set.ensures.set in
+    let none : rate_refusal (set_of s) ≡ None = taken c.in_ok-set.field-0 c.in-Ok.set (λ set. rate_refusal (set_of s) ≡ None) c.in-Ok.is c.in_ok-set.ensures.passed in
     rates_reply s c.written.result.status c.written.result.text.items none c.written.ensures.0
-    (c.written.ensures.1 ∙ (c.in_ok-rates_text.ensures ∙ ap (rates_of s.names) set_is))
+    (c.written.ensures.1 ∙ (c.in_ok-rates_text-in-Ok.ensures ∙ ap (rates_of s.names) set_is))
