@@ -4,14 +4,11 @@ use Rattle.ceiling_table.specs.Held.{no_ceilings}
 use Rattle.txn_set.specs.declared.decl.TxnDecl.{TxnDecl}
 use Rattle.inherit_prio.specs.Waits.{IsOrder}
 use Rattle.pending_jobs.specs.Tables.{opening_job}
-use Rattle.pending_jobs.proofs.Opens.{distinct, rising, opening_table, opening_are_rows}
+use Rattle.pending_jobs.proofs.Opens.{distinct, opening_table, opening_are_rows}
 use Rattle.pending_jobs.proofs.pending.Pending.new.Goals as goal
 
 pub new-requires-clause-distinct : goal.new-requires-clause-distinct
 new-requires-clause-distinct c = distinct c.args.set.now c.in_ok-prios_of.field-0.items c.is_compiled.ensures (c.in_ok-prios_of.ensures ∙ ap (map (λ (t : TxnDecl). t.prio)) c.txns.ensures)
-
-pub new-requires-clause-rising : goal.new-requires-clause-rising
-new-requires-clause-rising c = rising c.args.set.now c.in_ok-ceilings.ceilings.items c.in_ok-ceilings.ensures.size c.in_ok-ceilings.ensures.ceilings
 
 pub invariant_of-result : goal.invariant_of-result
 invariant_of-result c =
