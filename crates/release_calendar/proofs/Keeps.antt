@@ -1,10 +1,10 @@
 -- What is kept of the queues over a release more and a release less.
-use Rattle.std.proofs.Common.{not, ◌≡◌, ◌≢◌, refl, ℕ, zero, suc, ◌+◌, ◌-◌, ◌<◌, ◌≤◌, ◌==◌, Bool, true, false, cond, List, [], ◌∷◌, ◌++◌, length, get_or, set, map, replicate, take, drop, ap, sym, ◌∙◌, subst, inl, inr, Option, Some, arith, Global}
+use Rattle.std.proofs.Common.{not, ◌≡◌, ◌≢◌, refl, ℕ, zero, suc, ◌+◌, ◌-◌, ◌<◌, ◌≤◌, ◌==◌, Bool, true, false, cond, List, [], ◌∷◌, ◌++◌, length, get_or, set, map, replicate, slice_get, take, drop, ap, sym, ◌∙◌, subst, inl, inr, Option, Some, arith, Global}
 use Rattle.std.proofs.lemmas.Bool.{cases_eq, cases_lt, eq-eqb, ne_eqb}
 use Rattle.std.proofs.lemmas.List.{get_or-set_same, get_or-set_other, length-set, length-map, map-set}
 use Rattle.std.proofs.lemmas.List.Edits.{get_or-remove_below, get_or-remove_above, length-remove}
-use Rattle.std.proofs.lemmas.List.Elements.{All-nil, All-append, All-take, All-drop, All-push, All-set}
-use Rattle.std.proofs.lemmas.List.Sorted.{IsPermutation-refl, IsPermutation-sym, IsPermutation-trans, IsPermutation-cons, IsPermutation-middle, IsNonDecreasingBy-push, sum_by-IsPermutation, length_permutation, Contains-permutation}
+use Rattle.std.proofs.lemmas.List.Elements.{All-nil, All-cons, All-tail, All-append, All-take, All-drop, All-push, All-set, All-weaker}
+use Rattle.std.proofs.lemmas.List.Sorted.{IsPermutation-refl, IsPermutation-sym, IsPermutation-trans, IsPermutation-cons, IsPermutation-middle, IsNonDecreasingBy-push, sum_by-IsPermutation, length_permutation, All-permutation, Contains-permutation}
 use Rattle.std.proofs.lemmas.List.Sums.{sum_by-cons}
 use Rattle.std.specs.List.{All, Contains, filter, remove}
 use Rattle.std.specs.List.Sorted.{IsPermutation, IsNonDecreasingBy}
@@ -74,19 +74,22 @@ put_heads queues heap heap' tx p (r ∷ rest) lt e old new =
     let same : heads (set queues tx (r ∷ (rest ++ p ∷ []))) ≡ heads queues = heads_same queues tx (r ∷ (rest ++ p ∷ [])) (ap head (sym e)) in
     subst (λ (xs : List (Reverse Planned)). IsPermutation xs heap') (sym same) (IsPermutation-trans (heads queues) heap heap' old new)
 
-pub put_keeps : (queues : List (List Planned)) (heap heap' : List (Reverse Planned)) (waiting capacity capacity' : ℕ) (p : Planned) → AreQueues queues heap waiting capacity → p.tx < length queues → All (λ r. r.tick ≤ p.tick) (queue_of queues p.tx) → IsPermutation (head_alone (queue_of queues p.tx) p ++ heap) heap' → IsHeap planned_cmp heap' → capacity ≤ capacity'
-    → AreQueues (set queues p.tx (queue_of queues p.tx ++ p ∷ [])) heap' (waiting + 1) capacity'
-put_keeps queues heap heap' waiting capacity capacity' p are lt below moved order more = record {
+pub put_keeps : (queues : List (List Planned)) (heap heap' : List (Reverse Planned)) (least least' waiting capacity capacity' : ℕ) (p : Planned) → AreQueues queues heap least waiting capacity → least' ≤ least → least' ≤ p.tick → p.tx < length queues → All (λ r. r.tick ≤ p.tick) (queue_of queues p.tx) → IsPermutation (head_alone (queue_of queues p.tx) p ++ heap) heap' → IsHeap planned_cmp heap' → capacity ≤ capacity'
+    → AreQueues (set queues p.tx (queue_of queues p.tx ++ p ∷ [])) heap' least' (waiting + 1) capacity'
+put_keeps queues heap heap' least least' waiting capacity capacity' p are no_later here lt below moved order more = record {
   each = each_set queues p.tx (queue_of queues p.tx ++ p ∷ []) lt are.each (queue_more p.tx (queue_of queues p.tx) p (are.each p.tx) refl below);
   order = order;
   heads = put_heads queues heap heap' p.tx p (queue_of queues p.tx) lt refl are.heads moved;
+  begins =
+      All-permutation (λ (r : Planned). least' ≤ r.tick) (p ∷ queued queues) (queued (set queues p.tx (queue_of queues p.tx ++ p ∷ []))) (queued_put queues p.tx p lt)
+      (All-cons (λ (r : Planned). least' ≤ r.tick) p (queued queues) here (All-weaker (λ (r : Planned). least ≤ r.tick) (λ (r : Planned). least' ≤ r.tick) (λ r h. omega (arith, h, no_later)) (queued queues) are.begins));
   count = omega (arith, are.count, length_permutation (p ∷ queued queues) (queued (set queues p.tx (queue_of queues p.tx ++ p ∷ []))) (queued_put queues p.tx p lt));
   places = omega (arith, are.places, more, length-set queues p.tx (queue_of queues p.tx ++ p ∷ []));
 }
 
 -- there is a place for one more head
-pub place_left : (queues : List (List Planned)) (heap : List (Reverse Planned)) (waiting capacity tx : ℕ) → AreQueues queues heap waiting capacity → tx < length queues → queue_of queues tx ≡ [] → length heap < capacity
-place_left queues heap waiting capacity tx are lt e = omega (arith, heads_below queues tx lt e, length_permutation (heads queues) heap are.heads, are.places)
+pub place_left : (queues : List (List Planned)) (heap : List (Reverse Planned)) (least waiting capacity tx : ℕ) → AreQueues queues heap least waiting capacity → tx < length queues → queue_of queues tx ≡ [] → length heap < capacity
+place_left queues heap least waiting capacity tx are lt e = omega (arith, heads_below queues tx lt e, length_permutation (heads queues) heap are.heads, are.places)
 
 -- ---- a release less
 
@@ -145,23 +148,26 @@ take_heads : (queues : List (List Planned)) (tx : ℕ) (q : List Planned) → tx
 take_heads queues tx [] lt = IsPermutation-refl (heads (set queues tx []))
 take_heads queues tx (p ∷ rest) lt = heads_with queues tx p rest lt
 
-take_keeps : (queues : List (List Planned)) (heap heap' : List (Reverse Planned)) (waiting capacity capacity' tx index : ℕ) (p : Planned) → AreQueues queues heap waiting capacity → tx < length queues → index < length (queue_of queues tx) → p ≡ get_or (queue_of queues tx) index p
-    → IsPermutation (heads (set queues tx (remove (queue_of queues tx) index))) heap' → IsHeap planned_cmp heap' → capacity ≤ capacity' → AreQueues (set queues tx (remove (queue_of queues tx) index)) heap' (waiting - 1) capacity'
-take_keeps queues heap heap' waiting capacity capacity' tx index p are lt in' e moved order more = record {
+take_keeps : (queues : List (List Planned)) (heap heap' : List (Reverse Planned)) (least waiting capacity capacity' tx index : ℕ) (p : Planned) → AreQueues queues heap least waiting capacity → tx < length queues → index < length (queue_of queues tx) → p ≡ get_or (queue_of queues tx) index p
+    → IsPermutation (heads (set queues tx (remove (queue_of queues tx) index))) heap' → IsHeap planned_cmp heap' → capacity ≤ capacity' → AreQueues (set queues tx (remove (queue_of queues tx) index)) heap' least (waiting - 1) capacity'
+take_keeps queues heap heap' least waiting capacity capacity' tx index p are lt in' e moved order more = record {
   each = each_set queues tx (remove (queue_of queues tx) index) lt are.each (queue_less tx (queue_of queues tx) index in' (are.each tx));
   order = order;
   heads = moved;
+  begins =
+      All-tail (λ (r : Planned). least ≤ r.tick) p (queued (set queues tx (remove (queue_of queues tx) index)))
+      (All-permutation (λ (r : Planned). least ≤ r.tick) (queued queues) (p ∷ queued (set queues tx (remove (queue_of queues tx) index))) (queued_take queues tx index p lt in' e) are.begins);
   count = omega (arith, are.count, length_permutation (queued queues) (p ∷ queued (set queues tx (remove (queue_of queues tx) index))) (queued_take queues tx index p lt in' e));
   places = omega (arith, are.places, more, length-set queues tx (remove (queue_of queues tx) index));
 }
 
 -- where the head of a queue leaves
-pub head_keeps : (queues : List (List Planned)) (heap heap' : List (Reverse Planned)) (waiting capacity capacity' tx : ℕ) (p : Planned) → AreQueues queues heap waiting capacity → tx < length queues → 0 < length (queue_of queues tx) → p ≡ get_or (queue_of queues tx) 0 p
-    → ((rest : List (Reverse Planned)) → IsPermutation (record { 0 = p } ∷ rest) heap → IsPermutation (head (remove (queue_of queues tx) 0) ++ rest) heap') → IsHeap planned_cmp heap' → capacity ≤ capacity' → AreQueues (set queues tx (remove (queue_of queues tx) 0)) heap' (waiting - 1) capacity'
-head_keeps queues heap heap' waiting capacity capacity' tx p are lt some e moved order more =
+pub head_keeps : (queues : List (List Planned)) (heap heap' : List (Reverse Planned)) (least waiting capacity capacity' tx : ℕ) (p : Planned) → AreQueues queues heap least waiting capacity → tx < length queues → 0 < length (queue_of queues tx) → p ≡ get_or (queue_of queues tx) 0 p
+    → ((rest : List (Reverse Planned)) → IsPermutation (record { 0 = p } ∷ rest) heap → IsPermutation (head (remove (queue_of queues tx) 0) ++ rest) heap') → IsHeap planned_cmp heap' → capacity ≤ capacity' → AreQueues (set queues tx (remove (queue_of queues tx) 0)) heap' least (waiting - 1) capacity'
+head_keeps queues heap heap' least waiting capacity capacity' tx p are lt some e moved order more =
     let apart : IsPermutation (heads queues) (record { 0 = p } ∷ others queues tx) = heads_apart queues tx p lt some e in
     let old : IsPermutation (record { 0 = p } ∷ others queues tx) heap = IsPermutation-trans (record { 0 = p } ∷ others queues tx) (heads queues) heap (IsPermutation-sym (heads queues) (record { 0 = p } ∷ others queues tx) apart) are.heads in
-    take_keeps queues heap heap' waiting capacity capacity' tx 0 p are lt some e
+    take_keeps queues heap heap' least waiting capacity capacity' tx 0 p are lt some e
     (IsPermutation-trans (heads (set queues tx (remove (queue_of queues tx) 0))) (head (remove (queue_of queues tx) 0) ++ others queues tx) heap' (take_heads queues tx (remove (queue_of queues tx) 0) lt) (moved (others queues tx) old))
     order more
 
@@ -171,10 +177,10 @@ later_head (p ∷ rest) zero some lt = absurd (omega arith)
 later_head (p ∷ rest) (suc index) some lt = refl
 
 -- where a release behind the head leaves
-pub later_keeps : (queues : List (List Planned)) (heap : List (Reverse Planned)) (waiting capacity tx index : ℕ) (p : Planned) → AreQueues queues heap waiting capacity → tx < length queues → 0 < index → index < length (queue_of queues tx) → p ≡ get_or (queue_of queues tx) index p
-    → AreQueues (set queues tx (remove (queue_of queues tx) index)) heap (waiting - 1) capacity
-later_keeps queues heap waiting capacity tx index p are lt some in' e =
-    take_keeps queues heap heap waiting capacity capacity tx index p are lt in' e
+pub later_keeps : (queues : List (List Planned)) (heap : List (Reverse Planned)) (least waiting capacity tx index : ℕ) (p : Planned) → AreQueues queues heap least waiting capacity → tx < length queues → 0 < index → index < length (queue_of queues tx) → p ≡ get_or (queue_of queues tx) index p
+    → AreQueues (set queues tx (remove (queue_of queues tx) index)) heap least (waiting - 1) capacity
+later_keeps queues heap least waiting capacity tx index p are lt some in' e =
+    take_keeps queues heap heap least waiting capacity capacity tx index p are lt in' e
     (subst (λ (xs : List (Reverse Planned)). IsPermutation xs heap) (sym (heads_same queues tx (remove (queue_of queues tx) index) (later_head (queue_of queues tx) index some in'))) are.heads)
     are.order (omega arith)
 
@@ -231,11 +237,12 @@ empty_at zero tx = refl
 empty_at (suc n) zero = refl
 empty_at (suc n) (suc tx) = empty_at n tx
 
-pub new_keeps : (queues : List (List Planned)) (heap : List (Reverse Planned)) (n capacity : ℕ) → queues ≡ replicate n [] → heap ≡ [] → IsHeap planned_cmp heap → capacity ≡ n → AreQueues queues heap 0 capacity
-new_keeps queues heap n capacity e none order c = record {
+pub new_keeps : (queues : List (List Planned)) (heap : List (Reverse Planned)) (least n capacity : ℕ) → queues ≡ replicate n [] → heap ≡ [] → IsHeap planned_cmp heap → capacity ≡ n → AreQueues queues heap least 0 capacity
+new_keeps queues heap least n capacity e none order c = record {
   each = λ tx. subst (λ (q : List Planned). IsQueue tx q) (sym (ap (λ (qs : List (List Planned)). get_or qs tx []) e ∙ empty_at n tx)) (record { own = All-nil (λ (p : Planned). p.tx ≡ tx); rising = λ i j d le lt. absurd (omega arith) });
   order = order;
   heads = rw ((none_queued_at queues n e).1, none) (IsPermutation-refl []);
+  begins = subst (λ (ps : List Planned). All (λ p. least ≤ p.tick) ps) (sym (none_queued_at queues n e).0) (All-nil (λ (p : Planned). least ≤ p.tick));
   count = sym (ap length (none_queued_at queues n e).0);
   places = omega (arith, (none_queued_at queues n e).2, c);
 }
@@ -291,9 +298,20 @@ no_head_is : (q : List Planned) → length q ≡ 0 → head q ≡ []
 no_head_is [] e = refl
 no_head_is (p ∷ rest) e = absurd (omega (arith, e))
 
-pub next_comes : (q : List Planned) (p : Planned) (left : Reverse Planned) (heap after heap' rest : List (Reverse Planned)) → 0 < length q → p ≡ get_or q 0 p → IsPermutation heap (left ∷ after) → IsPermutation (record { 0 = p } ∷ after) heap' → IsPermutation (left ∷ rest) heap → IsPermutation (head q ++ rest) heap'
-next_comes q p left heap after heap' rest some e out in' is =
-    rw (head_is q p some e) (IsPermutation-trans (record { 0 = p } ∷ rest) (record { 0 = p } ∷ after) heap' (IsPermutation-cons (record { 0 = p }) rest after (rest_beside left heap rest after is out)) in')
+-- one head in the place of another, where the first head leaves
+pub first_replaced : (heap heap' rest : List (Reverse Planned)) (left next : Reverse Planned) → slice_get heap 0 ≡ Some left → IsPermutation (next ∷ drop 1 heap) heap' → IsPermutation (left ∷ rest) heap → IsPermutation (next ∷ rest) heap'
+first_replaced [] heap' rest left next e in' is = absurd cc
+first_replaced (x ∷ xs) heap' rest left next e in' is =
+    let same : x ≡ left = cc in
+    IsPermutation-trans (next ∷ rest) (next ∷ xs) heap' (IsPermutation-cons next rest xs (beside rest xs left (subst (λ (r : Reverse Planned). IsPermutation (left ∷ rest) (r ∷ xs)) same is))) in'
+
+-- and where another leaves
+pub head_replaced : (heap after heap' rest : List (Reverse Planned)) (left next : Reverse Planned) → IsPermutation heap (left ∷ after) → IsPermutation (next ∷ after) heap' → IsPermutation (left ∷ rest) heap → IsPermutation (next ∷ rest) heap'
+head_replaced heap after heap' rest left next out in' is =
+    IsPermutation-trans (next ∷ rest) (next ∷ after) heap' (IsPermutation-cons next rest after (rest_beside left heap rest after is out)) in'
+
+pub next_comes : (q : List Planned) (p : Planned) (heap' rest : List (Reverse Planned)) → 0 < length q → p ≡ get_or q 0 p → IsPermutation (record { 0 = p } ∷ rest) heap' → IsPermutation (head q ++ rest) heap'
+next_comes q p heap' rest some e is = rw (head_is q p some e) is
 
 pub none_comes : (q : List Planned) (left : Reverse Planned) (heap after rest : List (Reverse Planned)) → length q ≡ 0 → IsPermutation heap (left ∷ after) → IsPermutation (left ∷ rest) heap → IsPermutation (head q ++ rest) after
 none_comes q left heap after rest none out is = rw (no_head_is q none) (rest_beside left heap rest after is out)

@@ -51,11 +51,12 @@ pub record IsQueue (tx : ℕ) (queue : List Planned) : Type 0 where
   pub own : All (λ p. p.tx ≡ tx) queue
   pub rising : IsNonDecreasingBy (λ p. p.tick) queue
 
--- what is kept of the queues: the heap has the head of each, and there are places for all
-pub record AreQueues (queues : List (List Planned)) (heap : List (Reverse Planned)) (waiting capacity : ℕ) : Type 0 where
+-- what is kept of the queues: the heap has the head of each, no release comes before the tick, and there are places for all
+pub record AreQueues (queues : List (List Planned)) (heap : List (Reverse Planned)) (least waiting capacity : ℕ) : Type 0 where
   pub each : (tx : ℕ) → IsQueue tx (queue_of queues tx)
   pub order : IsHeap planned_cmp heap
   pub heads : IsPermutation (heads queues) heap
+  pub begins : All (λ p. least ≤ p.tick) (queued queues)
   pub count : waiting ≡ length (queued queues)
   pub places : length queues ≤ capacity
 

@@ -123,8 +123,8 @@ impl Calendar {
     }
 
     /// Takes out one release that is planned for a tick, the one with the least transaction number; None exactly where there
-    /// is none. Where nothing is planned before that tick, it costs logarithmic time in the number of transactions, and one
-    /// look where none is due. Else it goes over the planned releases.
+    /// is none. It costs one comparison where nothing is planned up to that tick, and logarithmic time in the number of
+    /// transactions where nothing is planned before it. Else it goes over the planned releases.
     pub fn due(&mut self, tick: Tick) -> Option<JobId>
         ensures due { (planned : List Release) → Holds self.old planned → MatchOption result (NothingDue tick planned) (IsDue tick planned) }
         ensures left { (planned : List Release) → Holds self.old planned → Holds self.new (left tick result planned) }

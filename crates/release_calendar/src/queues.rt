@@ -1,5 +1,5 @@
 //! The planned releases: a queue for each transaction, and a heap of the queues' heads.
-ghost use Rattle.std.specs.Prelude.{◌≡◌, ℕ, ◌<◌, ◌≤◌, [], ◌∷◌, ◌++◌, List, length, replicate, slice_get, slice_set, slice_index_or, Some, MatchOption, IfOk, IsTrue};
+ghost use Rattle.std.specs.Prelude.{◌≡◌, ℕ, ◌<◌, ◌≤◌, [], ◌∷◌, ◌++◌, List, drop, length, replicate, slice_get, slice_set, slice_index_or, Some, MatchOption, IfOk, IsTrue};
 ghost use Rattle.std.specs.BinaryHeap.{IsHeap, heap_items, heap_len, heap_capacity};
 ghost use Rattle.std.specs.List.{All, Contains, remove};
 ghost use Rattle.std.specs.List.Sorted.{IsPermutation};
@@ -24,13 +24,14 @@ pub struct Place {
     pub index: usize,
 }
 
-/// The planned releases of each transaction by rising tick, the heads of these queues in a heap, and how many releases there
-/// are in all. Each queue has places for `room` releases and the heap one for each queue, so that no call after `new` takes
-/// memory.
+/// The planned releases of each transaction by rising tick, the heads of these queues in a heap, a tick that none of the
+/// releases precedes, and how many releases there are in all. Each queue has places for `room` releases and the heap one for
+/// each queue, so that no call after `new` takes memory.
 #[derive(Drop)]
 pub struct Queues {
     queues: Vec<VecDeque<Planned>>,
     heads: Heads,
+    least: Tick,
     waiting: usize,
     room: usize,
 }
@@ -46,7 +47,7 @@ impl Model for Queues {
 
     ghost view = { λ c. record { queues = map deque_items c.queues.items; room = c.room } };
 
-    ghost invariant = { λ c. AreQueues (map deque_items c.queues.items) (heap_items c.heads) c.waiting (heap_capacity c.heads) × All (λ q. c.room ≤ deque_capacity q) c.queues.items };
+    ghost invariant = { λ c. AreQueues (map deque_items c.queues.items) (heap_items c.heads) c.least c.waiting (heap_capacity c.heads) × All (λ q. c.room ≤ deque_capacity q) c.queues.items };
 }
 
 impl Queues {
@@ -63,6 +64,7 @@ impl Queues {
         Ok(Queues {
             queues,
             heads,
+            least: Tick::MAX,
             waiting: 0,
             room,
         })
@@ -103,18 +105,20 @@ impl Queues {
         let queue = &mut self.queues[next.tx as usize];
         come(&mut self.heads, queue, next);
         queue.push_back_reserved(next);
+        self.least = self.least.min(next.tick);
         self.waiting += 1;
     }
 
-    /// Where the release for a tick of the least transaction stands. One look at the head of the heap finds it where nothing
-    /// is planned before that tick; else it goes over the queues.
+    /// Where the release for a tick of the least transaction stands. One comparison tells that there is none where nothing is
+    /// planned up to that tick, and one look at the head of the heap finds it where nothing is planned before; else it goes
+    /// over the queues.
     pub fn place_at(&self, tick: Tick) -> Option<Place>
         ensures { MatchOption result (NoneAt tick (queued self.now.queues)) (λ place. IsPlace tick self.now.queues place.tx place.index) }
     {
-        let next = self.first()?;
-        if tick < next.tick {
+        if tick < self.least {
             return None;
         }
+        let next = self.first()?;
         if next.tick == tick {
             return Some(Place {
                 tx: next.tx as usize,
@@ -138,6 +142,30 @@ impl Queues {
     /// Takes out the release at a place. Where it is the first of all, it costs logarithmic time in the number of
     /// transactions; else it goes over the heads or over the queue.
     pub fn take(&mut self, place: Place) -> Planned
+        requires tx { place.tx < length self.old.queues }
+        requires index { place.index < length (queue_of self.old.queues place.tx) }
+        ensures value { (d : Planned) → result ≡ slice_index_or (queue_of self.old.queues place.tx) place.index d }
+        ensures own { result.tx ≡ place.tx }
+        ensures queues { self.new.queues ≡ slice_set self.old.queues place.tx (remove (queue_of self.old.queues place.tx) place.index) }
+        ensures room { self.new.room ≡ self.old.room }
+    {
+        let taken = self.take_out(place);
+        self.least = self.next_tick();
+        taken
+    }
+
+    // The tick of the release that takes place first, or the last tick where there is none.
+    fn next_tick(&self) -> Tick
+        ensures { All (λ p. result ≤ p.tick) (queued self.now.queues) }
+    {
+        match self.first() {
+            Some(next) => next.tick,
+            None => Tick::MAX,
+        }
+    }
+
+    // Takes out the release at a place. What it knows of the first tick stays.
+    fn take_out(&mut self, place: Place) -> Planned
         requires tx { place.tx < length self.old.queues }
         requires index { place.index < length (queue_of self.old.queues place.tx) }
         ensures value { (d : Planned) → result ≡ slice_index_or (queue_of self.old.queues place.tx) place.index d }
@@ -184,10 +212,40 @@ fn leave(heads: &mut Heads, queue: &VecDeque<Planned>, left: Planned)
     ensures order { IsHeap planned_cmp (heap_items heads.new) }
     ensures capacity { heap_capacity heads.old ≤ heap_capacity heads.new }
 {
-    take_out(heads, left);
-    if let Some(next) = queue.front() {
-        put_in(heads, *next);
+    match queue.front() {
+        Some(next) => replace(heads, left, *next),
+        None => drop_head(heads, left),
     }
+}
+
+/// Puts a release in the place of a head that is there, the only one of its transaction. Where that is the first, it costs
+/// one way down the heap; else it goes over the heads.
+fn replace(heads: &mut Heads, left: Planned, next: Planned)
+    requires order { IsHeap planned_cmp (heap_items heads.old) }
+    requires here { Contains (heap_items heads.old) (record { 0 = left }) }
+    requires once { heads_of left.tx (heap_items heads.old) ≤ 1 }
+    ensures heads { (others : List (Reverse Planned)) → IsPermutation (record { 0 = left } ∷ others) (heap_items heads.old) → IsPermutation (record { 0 = next } ∷ others) (heap_items heads.new) }
+    ensures order { IsHeap planned_cmp (heap_items heads.new) }
+    ensures capacity { heap_capacity heads.old ≤ heap_capacity heads.new }
+{
+    if is_first(heads, left) {
+        put_first(heads, next);
+    } else {
+        drop_head(heads, left);
+        put_in(heads, next);
+    }
+}
+
+/// Puts a release in the place of the first head.
+fn put_first(heads: &mut Heads, next: Planned)
+    requires some { 0 < heap_len heads.old }
+    requires order { IsHeap planned_cmp (heap_items heads.old) }
+    ensures heads { IsPermutation (record { 0 = next } ∷ drop 1 (heap_items heads.old)) (heap_items heads.new) }
+    ensures order { IsHeap planned_cmp (heap_items heads.new) }
+    ensures capacity { heap_capacity heads.old ≤ heap_capacity heads.new }
+{
+    let mut first = heads.peek_mut().unwrap();
+    *first = Reverse(next);
 }
 
 /// Puts in a head. It takes no memory.
@@ -203,7 +261,7 @@ fn put_in(heads: &mut Heads, next: Planned)
 
 /// Takes out a head that is there, the only one of its transaction. It costs logarithmic time where it is the first, and else
 /// goes over the heads.
-fn take_out(heads: &mut Heads, head: Planned)
+fn drop_head(heads: &mut Heads, head: Planned)
     requires order { IsHeap planned_cmp (heap_items heads.old) }
     requires here { Contains (heap_items heads.old) (record { 0 = head }) }
     requires once { heads_of head.tx (heap_items heads.old) ≤ 1 }

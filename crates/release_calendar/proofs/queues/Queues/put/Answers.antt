@@ -16,7 +16,7 @@ come-requires-clause-room c empty =
     let long = length-map c.self.inside.queues.items deque_items in
     let known : c.args.next.tx < length (contents c.self.inside.queues.items) = subst (λ (l : QueueFacts). c.args.next.tx < length l.queues) (sym c.self.view_is) c.requires.tx in
     let here : queue_of (contents c.self.inside.queues.items) c.args.next.tx ≡ c.index_mut-queue.result.now.items = queue_at c.self.inside.queues.items c.args.next.tx c.index_mut-queue.result.now c.index_mut-queue.result.now (omega (arith, known, long)) c.index_mut-queue.ensures.value in
-    omega (arith, place_left (contents c.self.inside.queues.items) (heap_items c.self.inside.heads) c.self.inside.waiting (heap_capacity c.self.inside.heads) c.args.next.tx c.self.invariant.0 known (here ∙ empty), c.self.inside.heads.data.ok)
+    omega (arith, place_left (contents c.self.inside.queues.items) (heap_items c.self.inside.heads) c.self.inside.least c.self.inside.waiting (heap_capacity c.self.inside.heads) c.args.next.tx c.self.invariant.0 known (here ∙ empty), c.self.inside.heads.data.ok)
 
 pub push_back_reserved-requires : goal.push_back_reserved-requires
 push_back_reserved-requires c =
@@ -34,8 +34,8 @@ invariant_of-self c =
     let here : queue_of (contents c.self.inside.queues.items) c.args.next.tx ≡ c.index_mut-queue.result.now.items = queue_at c.self.inside.queues.items c.args.next.tx c.index_mut-queue.result.now c.index_mut-queue.result.now (omega (arith, known, long)) c.index_mut-queue.ensures.value in
     let now : contents (set c.self.inside.queues.items c.args.next.tx c.push_back_reserved.new.self) ≡ set (contents c.self.inside.queues.items) c.args.next.tx (queue_of (contents c.self.inside.queues.items) c.args.next.tx ++ c.args.next ∷ []) = contents_set c.self.inside.queues.items c.args.next.tx c.index_mut-queue.result.now c.push_back_reserved.new.self (λ q. q ++ c.args.next ∷ []) (omega (arith, known, long)) c.index_mut-queue.ensures.value c.push_back_reserved.ensures.items in
     let room : c.self.inside.room ≤ deque_capacity c.index_mut-queue.result.now = subst (λ q. c.self.inside.room ≤ deque_capacity q) (sym c.index_mut-queue.ensures.value) (c.self.invariant.1 c.args.next.tx c.index_mut-queue.result.now (omega (arith, known, long))) in (
-      subst (λ (qs : List (List Planned)). AreQueues qs (heap_items c.come.new.heads) (c.self.inside.waiting + 1) (heap_capacity c.come.new.heads)) (sym now)
-          (put_keeps (contents c.self.inside.queues.items) (heap_items c.self.inside.heads) (heap_items c.come.new.heads) c.self.inside.waiting (heap_capacity c.self.inside.heads) (heap_capacity c.come.new.heads) c.args.next c.self.invariant.0 known
+      subst (λ (qs : List (List Planned)). AreQueues qs (heap_items c.come.new.heads) c.min-self-inside.result (c.self.inside.waiting + 1) (heap_capacity c.come.new.heads)) (sym now)
+          (put_keeps (contents c.self.inside.queues.items) (heap_items c.self.inside.heads) (heap_items c.come.new.heads) c.self.inside.least c.min-self-inside.result c.self.inside.waiting (heap_capacity c.self.inside.heads) (heap_capacity c.come.new.heads) c.args.next c.self.invariant.0 (omega (arith, c.min-self-inside.ensures)) (omega (arith, c.min-self-inside.ensures)) known
           (subst (λ (l : QueueFacts). All (λ p. p.tick ≤ c.args.next.tick) (queue_of l.queues c.args.next.tx)) (sym c.self.view_is) c.requires.rising)
           (subst (λ (q : List Planned). IsPermutation (head_alone q c.args.next ++ heap_items c.self.inside.heads) (heap_items c.come.new.heads)) (sym here) c.come.ensures.heads)
           c.come.ensures.order c.come.ensures.capacity),

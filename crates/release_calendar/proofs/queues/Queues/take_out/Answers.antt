@@ -9,8 +9,8 @@ use Rattle.release_calendar.specs.declared.queues.Queues.TheInside.{Inside}
 use Rattle.release_calendar.specs.Queues.{QueueFacts, AreQueues, queue_of, head, heads_of}
 use Rattle.release_calendar.proofs.Keeps.{Took, took, contents, head_here, one_head, head_keeps, later_keeps}
 use Rattle.release_calendar.proofs.Splits.{in_all}
-use Rattle.release_calendar.proofs.queues.Queues.take.Goals.{then-place-eq0, else-place-eq0}
-use Rattle.release_calendar.proofs.queues.Queues.take.Goals as goal
+use Rattle.release_calendar.proofs.queues.Queues.take_out.Goals.{then-place-eq0, else-place-eq0}
+use Rattle.release_calendar.proofs.queues.Queues.take_out.Goals as goal
 
 pub leave-requires-clause-here : goal.leave-requires-clause-here
 leave-requires-clause-here c =
@@ -46,18 +46,18 @@ invariant_of-self c =
     c.index_mut-queue.ensures.value c.remove.ensures.succeeds c.unwrap-taken.ensures c.remove.ensures.items c.remove.ensures.capacity c.self.invariant.1 in
     elim c.if-place-eq0.branch [
       | then-place-eq0 w ↦
-          subst (λ (i : Inside). AreQueues (contents i.queues.items) (heap_items i.heads) (i.waiting - 1) (heap_capacity i.heads) × All (λ q. i.room ≤ deque_capacity q) i.queues.items) (sym w.self-inside-is) (
-            subst (λ (qs : List (List Planned)). AreQueues qs (heap_items w.leave.new.heads) (c.self.inside.waiting - 1) (heap_capacity w.leave.new.heads)) (sym (t.now ∙ ap (λ (k : ℕ). set (contents c.self.inside.queues.items) c.args.place.tx (remove (queue_of (contents c.self.inside.queues.items) c.args.place.tx) k)) w.if-place-eq0.true))
-                (head_keeps (contents c.self.inside.queues.items) (heap_items c.self.inside.heads) (heap_items w.leave.new.heads) c.self.inside.waiting (heap_capacity c.self.inside.heads) (heap_capacity w.leave.new.heads) c.args.place.tx c.unwrap-taken.result c.self.invariant.0 t.known (omega (arith, t.within))
+          subst (λ (i : Inside). AreQueues (contents i.queues.items) (heap_items i.heads) i.least (i.waiting - 1) (heap_capacity i.heads) × All (λ q. i.room ≤ deque_capacity q) i.queues.items) (sym w.self-inside-is) (
+            subst (λ (qs : List (List Planned)). AreQueues qs (heap_items w.leave.new.heads) c.self.inside.least (c.self.inside.waiting - 1) (heap_capacity w.leave.new.heads)) (sym (t.now ∙ ap (λ (k : ℕ). set (contents c.self.inside.queues.items) c.args.place.tx (remove (queue_of (contents c.self.inside.queues.items) c.args.place.tx) k)) w.if-place-eq0.true))
+                (head_keeps (contents c.self.inside.queues.items) (heap_items c.self.inside.heads) (heap_items w.leave.new.heads) c.self.inside.least c.self.inside.waiting (heap_capacity c.self.inside.heads) (heap_capacity w.leave.new.heads) c.args.place.tx c.unwrap-taken.result c.self.invariant.0 t.known (omega (arith, t.within))
                 (subst (λ (k : ℕ). c.unwrap-taken.result ≡ get_or (queue_of (contents c.self.inside.queues.items) c.args.place.tx) k c.unwrap-taken.result) w.if-place-eq0.true t.at)
                 (subst (λ (q : List Planned). (rest : List (Reverse Planned)) → IsPermutation (record { 0 = c.unwrap-taken.result } ∷ rest) (heap_items c.self.inside.heads) → IsPermutation (head q ++ rest) (heap_items w.leave.new.heads)) (t.left ∙ ap (λ (k : ℕ). remove (queue_of (contents c.self.inside.queues.items) c.args.place.tx) k) w.if-place-eq0.true) w.leave.ensures.heads)
                 w.leave.ensures.order w.leave.ensures.capacity),
             t.rooms,
           )
       | else-place-eq0 w ↦
-          subst (λ (i : Inside). AreQueues (contents i.queues.items) (heap_items i.heads) (i.waiting - 1) (heap_capacity i.heads) × All (λ q. i.room ≤ deque_capacity q) i.queues.items) (sym w.self-inside-is) (
-            subst (λ (qs : List (List Planned)). AreQueues qs (heap_items c.self.inside.heads) (c.self.inside.waiting - 1) (heap_capacity c.self.inside.heads)) (sym t.now)
-                (later_keeps (contents c.self.inside.queues.items) (heap_items c.self.inside.heads) c.self.inside.waiting (heap_capacity c.self.inside.heads) c.args.place.tx c.args.place.index c.unwrap-taken.result c.self.invariant.0 t.known (omega (arith, w.if-place-eq0.false)) t.within t.at),
+          subst (λ (i : Inside). AreQueues (contents i.queues.items) (heap_items i.heads) i.least (i.waiting - 1) (heap_capacity i.heads) × All (λ q. i.room ≤ deque_capacity q) i.queues.items) (sym w.self-inside-is) (
+            subst (λ (qs : List (List Planned)). AreQueues qs (heap_items c.self.inside.heads) c.self.inside.least (c.self.inside.waiting - 1) (heap_capacity c.self.inside.heads)) (sym t.now)
+                (later_keeps (contents c.self.inside.queues.items) (heap_items c.self.inside.heads) c.self.inside.least c.self.inside.waiting (heap_capacity c.self.inside.heads) c.args.place.tx c.args.place.index c.unwrap-taken.result c.self.invariant.0 t.known (omega (arith, w.if-place-eq0.false)) t.within t.at),
             t.rooms,
           )
     ]

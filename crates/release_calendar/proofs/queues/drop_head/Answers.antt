@@ -7,7 +7,7 @@ use Rattle.std.specs.List.Sorted.{IsPermutation}
 use Rattle.std.specs.declared.cmp.Reverse.{Reverse}
 use Rattle.release_calendar.specs.declared.planned.Planned.{Planned}
 use Rattle.release_calendar.proofs.Keeps.{head_leaves}
-use Rattle.release_calendar.proofs.queues.take_out.Goals as goal
+use Rattle.release_calendar.proofs.queues.drop_head.Goals as goal
 
 pub returns-else-is_first-clause-heads : goal.returns-else-is_first-clause-heads
 returns-else-is_first-clause-heads c =
