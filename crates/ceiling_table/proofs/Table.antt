@@ -12,7 +12,7 @@ use Rattle.ceiling_table.specs.declared.CeilRow.{CeilRow}
 use Rattle.ceiling_table.specs.declared.Above.{Above}
 use Rattle.ceiling_table.specs.declared.LockKind.{LockKind}
 use Rattle.ceiling_table.specs.declared.LockKind.TheVariants.{Free, Read, Write}
-use Rattle.ceiling_table.specs.Held.{Locks, AreRising, prio_of, no_ceilings, kind_ceiling, is_lock, greatest_below, any_below, ceiling_of, is_holder, numbers_below, other_holders, above_of, refusal, with_lock, locked_at, released_at}
+use Rattle.ceiling_table.specs.Held.{Locks, prio_of, no_ceilings, kind_ceiling, is_lock, greatest_below, any_below, ceiling_of, is_holder, numbers_below, other_holders, above_of, refusal, with_lock, locked_at, released_at}
 use Rattle.ceiling_table.specs.Seated.{row_above, seat_of, ceiling_or_none, seat_ceiling, unseated, seated, AllBelow, InOrder, HoldersBelow, first_other, freed_from, IsSeated, IsTable, Changes}
 use Rattle.ceiling_table.proofs.RowOrder.{order_unseated, unique_unseated, holders_unseated, seat_unseated, seat_unseated_other, differ, order_seated, unique_seated, holders_seated, seat_seated, fewer_rows}
 use Rattle.ceiling_table.proofs.Tops.{In, in_filter, filter_in, in_numbers, numbers_in, topmost_in, topmost_is}
@@ -341,23 +341,23 @@ raised (suc n) item f g lt h le =
           omega (arith, rest, h n (omega arith) ne))
     ]
 
-kind_rises : (row : CeilRow) (writes : Bool) (k : LockKind) → row.write ≤ row.absolute → kind_ceiling row k ≤ kind_ceiling row (with_lock writes k)
-kind_rises row true Free le = omega arith
-kind_rises row true Read le = le
-kind_rises row true Write le = omega arith
-kind_rises row false Free le = omega arith
-kind_rises row false Read le = omega arith
-kind_rises row false Write le = omega arith
+kind_rises : (row : CeilRow) (writes : Bool) (k : LockKind) → kind_ceiling row k ≤ kind_ceiling row (with_lock writes k)
+kind_rises row true Free = omega arith
+kind_rises row true Read = omega arith
+kind_rises row true Write = omega arith
+kind_rises row false Free = omega arith
+kind_rises row false Read = omega arith
+kind_rises row false Write = omega arith
 
 -- with a lock more, the greatest ceiling is that of the row and of the lock
-ceiling_raised : (cs : List CeilRow) (ps : List ℕ) (ls ls' : List LockKind) (rows : List Above) (tx item : ℕ) (writes : Bool) (k : LockKind) → AreRising cs → IsSeated (table cs ps ls) rows → tx < length ps → item < length cs → IsSet cs ls ls' tx item k → k ≡ with_lock writes (get_or ls (tx * length cs + item) Free)
+ceiling_raised : (cs : List CeilRow) (ps : List ℕ) (ls ls' : List LockKind) (rows : List Above) (tx item : ℕ) (writes : Bool) (k : LockKind) → IsSeated (table cs ps ls) rows → tx < length ps → item < length cs → IsSet cs ls ls' tx item k → k ≡ with_lock writes (get_or ls (tx * length cs + item) Free)
     → max (kind_ceiling (get_or cs item no_ceilings) k) (seat_ceiling tx rows) ≡ ceiling_of (table cs ps ls') tx
 unfolding ceiling_of
-ceiling_raised cs ps ls ls' rows tx item writes k rising s lt li is e =
+ceiling_raised cs ps ls ls' rows tx item writes k s lt li is e =
     let row : ℕ → CeilRow = (λ i. get_or cs i no_ceilings) in
     let there : get_or ls' (tx * length cs + item) Free ≡ with_lock writes (get_or ls (tx * length cs + item) Free) = is.here ∙ e in
     let up : kind_ceiling (get_or cs item no_ceilings) (get_or ls (tx * length cs + item) Free) ≤ kind_ceiling (get_or cs item no_ceilings) (get_or ls' (tx * length cs + item) Free) =
-    omega (arith, kind_rises (get_or cs item no_ceilings) writes (get_or ls (tx * length cs + item) Free) (rising item li), ap (kind_ceiling (get_or cs item no_ceilings)) there) in
+    omega (arith, kind_rises (get_or cs item no_ceilings) writes (get_or ls (tx * length cs + item) Free), ap (kind_ceiling (get_or cs item no_ceilings)) there) in
     let others : (i : ℕ) → i < length cs → (i ≡ item → ⊥) → kind_ceiling (get_or cs i no_ceilings) (get_or ls' (tx * length cs + i) Free) ≡ kind_ceiling (get_or cs i no_ceilings) (get_or ls (tx * length cs + i) Free) = (λ i l ne. ap (kind_ceiling (get_or cs i no_ceilings)) (is.others tx i l (λ q. ne q.1))) in
     ap (λ (n : ℕ). max (kind_ceiling (get_or cs item no_ceilings) k) n) (seat_ceiling_is (table cs ps ls) rows tx s lt)
     ∙ ap (λ (q : LockKind). max (kind_ceiling (get_or cs item no_ceilings) q) (ceiling_of (table cs ps ls) tx)) (sym is.here)
@@ -374,14 +374,13 @@ lock_keeps cs ps ls ls' rows rows' m tx item ceiling row writes was k t s re c e
     let lock : is_lock (get_or ls' (tx * length cs + item) Free) ≡ true = ap is_lock (is.0.here ∙ s.joined) ∙ lock_is_lock writes was in
     let held : is_holder (table cs ps ls') tx ≡ true = any_one (length cs) (λ i. is_lock (get_or ls' (tx * length cs + i) Free)) item s.in_items lock in
     let of_item : row ≡ get_or cs item no_ceilings = get_or_read cs item row s.in_items re no_ceilings in
-    let level : ceiling ≡ ceiling_of (table cs ps ls') tx = c ∙ ap (λ (q : CeilRow). max (kind_ceiling q k) (seat_ceiling tx rows.items)) of_item ∙ ceiling_raised cs ps ls ls' rows.items tx item writes k t.rising t.seated s.in_txns s.in_items is.0 is.1 in
+    let level : ceiling ≡ ceiling_of (table cs ps ls') tx = c ∙ ap (λ (q : CeilRow). max (kind_ceiling q k) (seat_ceiling tx rows.items)) of_item ∙ ceiling_raised cs ps ls ls' rows.items tx item writes k t.seated s.in_txns s.in_items is.0 is.1 in
     record {
       few = t.few;
       distinct = t.distinct;
       size = size ∙ t.size;
       small = omega (arith, size, t.small);
       room = omega (arith, t.room, r);
-      rising = t.rising;
       seated = subst (IsSeated (table cs ps ls')) (sym e) (seated_after_lock cs ps ls ls' rows.items (record { holder = record { 0 = tx }; ceiling = ceiling }) t.distinct t.seated stays s.in_txns held level);
     }
 
@@ -438,7 +437,6 @@ release_keeps cs ps ls ls' rows rows' m tx t lt e h u r =
       size = size ∙ t.size;
       small = omega (arith, size, t.small);
       room = omega (arith, t.room, r);
-      rising = t.rising;
       seated = subst (IsSeated (table cs ps ls')) (sym u) (seated_after_release cs ps ls ls' rows.items tx t.seated stays gone);
     }
 
@@ -452,9 +450,9 @@ all_free_at (suc n) (suc k) = all_free_at n k
 pub free_at : (n k : ℕ) (ls : List LockKind) → ls ≡ replicate n Free → get_or ls k Free ≡ Free
 free_at n k ls e = ap (λ (q : List LockKind). get_or q k Free) e ∙ all_free_at n k
 
-pub new_keeps : (cs : List CeilRow) (ps : List ℕ) (ls : List LockKind) (rows : Shelf Above) (count : ℕ) → length ps ≤ 64 → ((i j : ℕ) → i < length ps → j < length ps → get_or ps i 0 ≡ get_or ps j 0 → i ≡ j) → ls ≡ replicate count Free → count ≡ length ps * length cs → count < 2 ^ 64 → rows.items ≡ [] → rows.room ≡ length ps → AreRising cs → IsTable (table cs ps ls) rows
+pub new_keeps : (cs : List CeilRow) (ps : List ℕ) (ls : List LockKind) (rows : Shelf Above) (count : ℕ) → length ps ≤ 64 → ((i j : ℕ) → i < length ps → j < length ps → get_or ps i 0 ≡ get_or ps j 0 → i ≡ j) → ls ≡ replicate count Free → count ≡ length ps * length cs → count < 2 ^ 64 → rows.items ≡ [] → rows.room ≡ length ps → IsTable (table cs ps ls) rows
 unfolding is_holder
-new_keeps cs ps ls rows count few distinct e n small none room rising =
+new_keeps cs ps ls rows count few distinct e n small none room =
     let size : length ls ≡ count = ap length e ∙ length-replicate count Free in
     let nobody : (t : ℕ) → is_holder (table cs ps ls) t ≡ false = (λ t. any_none (length cs) (λ i. is_lock (get_or ls (t * length cs + i) Free)) (λ i l. ap is_lock (free_at count (t * length cs + i) ls e))) in
     record {
@@ -463,7 +461,6 @@ new_keeps cs ps ls rows count few distinct e n small none room rising =
       size = size ∙ n;
       small = omega (arith, size, small);
       room = omega (arith, room);
-      rising = rising;
       seated = subst (IsSeated (table cs ps ls)) (sym none) (record {
         order = tt;
         unique = tt;

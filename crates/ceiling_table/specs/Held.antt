@@ -1,5 +1,5 @@
 -- The locks that were added, with the ceilings of the items and the priorities of the transactions.
-use Rattle.std.specs.Prelude.{ℕ, zero, suc, ◌+◌, ◌*◌, ◌==◌, max, Bool, true, false, not, ◌&&◌, ◌||◌, List, [], ◌∷◌, length, slice_index_or, Option, ◌<◌, ◌≤◌, if◌then◌else◌}
+use Rattle.std.specs.Prelude.{ℕ, zero, suc, ◌+◌, ◌*◌, ◌==◌, max, Bool, true, false, not, ◌&&◌, ◌||◌, List, [], ◌∷◌, length, slice_index_or, Option, ◌<◌, if◌then◌else◌}
 use Rattle.std.specs.List.{filter}
 use Rattle.std.specs.Option.{option_map}
 use Rattle.rt_base.specs.LockRule.{blocker}
@@ -26,15 +26,11 @@ prio_of h tx = slice_index_or h.prios tx 0
 abbrev pub no_ceilings : CeilRow
 no_ceilings = record { write = 0; absolute = 0 }
 
--- the ceiling of a held lock, and 0 where there is none
+-- the ceiling of a held lock, and 0 where there is none; a write lock stands for a read lock too, so that it has the greater
 abbrev pub kind_ceiling : CeilRow → LockKind → ℕ
 kind_ceiling row Free = 0
 kind_ceiling row Read = row.write
-kind_ceiling row Write = row.absolute
-
--- the write ceiling of each item is at most its absolute ceiling
-abbrev pub AreRising : List CeilRow → Type 0
-AreRising rows = (item : ℕ) → item < length rows → (slice_index_or rows item no_ceilings).write ≤ (slice_index_or rows item no_ceilings).absolute
+kind_ceiling row Write = max row.write row.absolute
 
 abbrev pub is_lock : LockKind → Bool
 is_lock Free = false

@@ -2,7 +2,7 @@
 ghost use Rattle.std.specs.Prelude.{◌≡◌, ℕ, ◌+◌, ◌<◌, ◌≤◌, ◌==◌, ◌&&◌, if◌then◌else◌, true, false, [], ◌∷◌, length, slice_index_or, Some, None, IfOk, MatchResult};
 ghost use Rattle.std.specs.List.{AllPairs};
 ghost use Rattle.ceiling_table.specs.declared.LockKind.TheVariants.{Free};
-ghost use Rattle.ceiling_table.specs.Held.{lock_at, ceiling_of, refusal, needs_lock, AreRising, HasItem, locked_at, released_at};
+ghost use Rattle.ceiling_table.specs.Held.{lock_at, ceiling_of, refusal, needs_lock, HasItem, locked_at, released_at};
 ghost use Rattle.ceiling_table.specs.Seated.{Changes};
 
 use crate::seats::{
@@ -36,12 +36,10 @@ impl Model for Held {
 }
 
 impl Held {
-    /// No locks, on items with these ceilings and of transactions with these priorities: at most 64, all distinct. An item's
-    /// write ceiling is at most its absolute ceiling.
+    /// No locks, on items with these ceilings and of transactions with these priorities: at most 64, all distinct.
     pub fn new(alloc: Global, items: Vec<CeilRow>, prios: Vec<Prio>) -> Result<Held, OutOfMemory>
         requires few { length prios.items ≤ 64 }
         requires distinct { (i j : ℕ) → i < length prios.items → j < length prios.items → slice_index_or prios.items i 0 ≡ slice_index_or prios.items j 0 → i ≡ j }
-        requires rising { AreRising items.items }
         ensures ceilings { IfOk result (λ h. h.ceilings ≡ items.items) }
         ensures prios { IfOk result (λ h. h.prios ≡ prios.items) }
         ensures free { IfOk result (λ h. (tx item : ℕ) → lock_at h tx item ≡ Free) }

@@ -15,6 +15,7 @@ use Rattle.history_laws.proofs.SerialAll.{legal_serial}
 use Rattle.counting_laws.specs.Counting.{IsCounted, IsTimed, refusal_count}
 use Rattle.counting_laws.proofs.Counts.{legal_counted, within_jobs, below_all, greatest_bound}
 use Rattle.counting_laws.proofs.JobCounts.{legal_jobs, at_most_once}
+use Rattle.counting_laws.proofs.Idles.{idle_releases}
 
 -- of some jobs whose serials rise and lie from b below k there are at most k - b
 ended_at : (n b k : ℕ) (e : EndedJob) (es : List EndedJob) (t : Bool) → (e.job.tx.0 == n) ≡ t → (e.job.tx.0 ≡ n → (b ≤ e.job.serial) × (e.job.serial < k))
@@ -38,6 +39,7 @@ entries_few set entries ok legal =
     record {
       steps = j.steps;
       refusals = λ job. at_most_once (refused_all (λ _. false) entries job) (refusal_count entries job) (j.refusals job);
+      idles = idle_releases set entries ok legal;
       room = omega (arith, c.rooms.room);
       jobs = λ jobs h. omega (arith, c.rooms.room, within_jobs set entries (state_of set entries).plans jobs c.plannings h);
       all = below_all set (refused_all (λ _. false) entries) entries (state_of set entries) ok c;

@@ -52,7 +52,7 @@ next_at rs r t (Some u) e rest = elim (cases_lt u r.tick) [
   | inr ge ↦ (r, inl refl, omega (arith, e))
 ]
 
-next_in : (rs : List Release) (t : ℕ) → next_tick rs ≡ Some t → (q : Release) × In q rs × (q.tick ≡ t)
+pub next_in : (rs : List Release) (t : ℕ) → next_tick rs ≡ Some t → (q : Release) × In q rs × (q.tick ≡ t)
 next_in [] t e = absurd cc
 next_in (r ∷ rs) t e = let w : earlier r.tick (next_tick rs) ≡ t = cc in next_at rs r t (next_tick rs) w (λ u is. next_in rs u is)
 

@@ -3,4 +3,5 @@ pub mod Totals
 pub mod Rooms
 pub mod Counts
 pub mod JobCounts
+pub mod Idles
 pub mod CountingAll

@@ -1,13 +1,15 @@
 -- How many entries a legal history has, and how far its time goes.
-use Rattle.std.specs.Prelude.{◌≡◌, ℕ, suc, ◌+◌, ◌*◌, ◌^◌, ◌<◌, ◌≤◌, ◌==◌, if◌then◌else◌, List, [], ◌∷◌, map, length}
+use Rattle.std.specs.Prelude.{◌≡◌, ℕ, suc, ◌+◌, ◌*◌, ◌^◌, ◌<◌, ◌≤◌, ◌==◌, if◌then◌else◌, List, [], ◌∷◌, ◌++◌, map, length, Some, slice_get}
 use Rattle.std.specs.List.{filter}
 use Rattle.rt_base.specs.declared.ids.JobId.{JobId}
+use Rattle.rt_base.specs.declared.release.Release.{Release}
 use Rattle.txn_set.specs.declared.decl.TxnDecl.{TxnDecl}
 use Rattle.step_journal.specs.declared.entry.Entry.{Entry}
 use Rattle.step_journal.specs.declared.entry.Entry.TheVariants.{Planned, Step, Blocked, Idle}
 use Rattle.txn_set.specs.Set.{Set, txn_of, IsCompiled}
 use Rattle.txn_set.specs.Ceilings.{greatest}
-use Rattle.step_journal.specs.State.{same_job}
+use Rattle.step_journal.specs.State.{same_job, pending, new_row}
+use Rattle.step_journal.specs.Running.{job_row}
 use Rattle.step_journal.specs.Step.{plans_of}
 use Rattle.step_journal.specs.History.{IsLegal, state_of}
 use Rattle.step_journal.specs.Serial.{ops_of}
@@ -63,11 +65,23 @@ greatest_planned entries = greatest (map tick_in entries)
 abbrev pub greatest_period : Set → ℕ
 greatest_period set = greatest (map (λ t. t.period) set.txns)
 
+-- Nothing was pending before an idling, and a job is after it, by a release that was planned for the tick at which it ends.
+pub record ReleasesAJob (set : Set) (before : List Entry) (from to : ℕ) : Type 0 where
+  pub nothing : pending (state_of set before).rows ≡ []
+  pub place : ℕ
+  pub release : Release
+  pub planned : slice_get (state_of set before).planned place ≡ Some release
+  pub due : release.tick ≡ to
+  pub is_pending : job_row (state_of set (before ++ Idle from to ∷ [])).rows release.job ≡ Some (new_row release.job to)
+
 -- The entries are few: each job has one plan, at most its steps and one refusal, and each idling releases a job.
 -- No more jobs of a transaction end than were planned.
 pub record IsCounted (set : Set) (entries : List Entry) : Type 0 where
   pub steps : (job : JobId) → length (ops_of entries job) ≤ (txn_of set job.tx.0).steps
   pub refusals : (job : JobId) → refusal_count entries job ≤ 1
+  pub idles :
+      (before after : List Entry) (from to : ℕ) → entries ≡ before ++ Idle from to ∷ after
+      → ReleasesAJob set before from to
   pub room : length entries ≤ planned_room set entries
   pub jobs :
       (jobs : ℕ → ℕ) → ((n : ℕ) → n < length set.txns → plan_count entries n ≤ jobs n)

@@ -32,5 +32,6 @@ pub trait EntryOut {
         ensures kept { OnErr result ((story : Many Noted) → got self.old story → got self.new story) }
         ensures lost { OnErr result (lost self.new entries.now) }
         ensures cause { HasCause (stops self.old) (stops self.new) result }
-        ensures same { (story : Many Noted) → good self.old story → good self.new story };
+        ensures same { (story : Many Noted) → good self.old story → good self.new story }
+        ensures no_more { (story : Many Noted) → good self.new story → good self.old story };
 }

@@ -112,7 +112,7 @@ fn put_entry(into: &mut Vec<u8>, names: &Names, entry: Entry)
     requires room { vec_len into.old + 255 ≤ vec_capacity into.old }
     ensures items { into.new.items ≡ into.old.items ++ entry_line names.now entry }
     ensures line { HasLine names.now entry }
-    ensures len { vec_len into.new ≤ vec_len into.old + 255 }
+    ensures len { vec_len into.new ≤ vec_len into.old + 254 }
     ensures room { vec_capacity into.old ≤ vec_capacity into.new }
 {
     match entry {
@@ -165,7 +165,7 @@ pub fn write_entry(names: &Names, entry: &Entry, into: &mut Vec<u8>)
     requires room { vec_len into.old + 256 ≤ vec_capacity into.old }
     ensures items { into.new.items ≡ into.old.items ++ entry_line names.now entry.now ++ codes "\n" }
     ensures line { HasLine names.now entry.now }
-    ensures len { vec_len into.new ≤ vec_len into.old + 256 }
+    ensures len { vec_len into.new ≤ vec_len into.old + 255 }
     ensures room { vec_capacity into.old ≤ vec_capacity into.new }
 {
     put_entry(into, names, *entry);

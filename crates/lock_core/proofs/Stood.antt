@@ -19,6 +19,7 @@ use Rattle.core_tables.proofs.Places.{Places, places}
 use Rattle.lock_core.specs.Seen.{CoreSeen, core_of}
 use Rattle.lock_core.specs.Stands.{Stands, IsCore}
 use Rattle.lock_core.specs.Promises.{IsLawful}
+use Rattle.lock_core.proofs.Refused.{each_refusal}
 
 pub legal_state : (core : CoreSeen) (story : List Entry) → Stands core story → IsLegalState core.set (state_of core.set story)
 legal_state core story h = record { story = story; compiled = h.is_story.compiled; legal = h.is_story.legal; is = refl }
@@ -48,6 +49,7 @@ lawful core story h =
       no_conflict = λ a b x y i. no_conflict set story a b x y i ok legal;
       ended_hold_nothing = λ n e. ended_hold_nothing set story n e ok legal;
       never_stuck = never_stuck set story ok legal;
+      refused_once = each_refusal set story ok legal;
       serial = serial set story ok legal;
       pending_alone = λ job row. pending_alone set story job row ok legal;
       one_delay = λ job. one_delay set story job ok legal;

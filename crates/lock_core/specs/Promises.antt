@@ -1,7 +1,9 @@
 -- The laws of the histories that a core stands for.
-use Rattle.std.specs.Prelude.{◌≡◌, ◌≢◌, ℕ, true, false, ◌||◌, List, Some, slice_get}
+use Rattle.std.specs.Prelude.{◌≡◌, ◌≢◌, ℕ, true, false, ◌||◌, List, ◌∷◌, ◌++◌, Some, slice_get}
 use Rattle.rt_base.specs.declared.ids.JobId.{JobId}
+use Rattle.rt_base.specs.declared.operation.Op.{Op}
 use Rattle.step_journal.specs.declared.entry.Entry.{Entry}
+use Rattle.step_journal.specs.declared.entry.Entry.TheVariants.{Blocked}
 use Rattle.step_journal.specs.declared.entry.EndedJob.{EndedJob}
 use Rattle.txn_set.specs.Set.{Set}
 use Rattle.item_model.specs.Work.{has_read, has_written}
@@ -9,7 +11,7 @@ use Rattle.step_journal.specs.State.{State, Row}
 use Rattle.step_journal.specs.Running.{job_row}
 use Rattle.step_journal.specs.History.{state_of}
 use Rattle.step_journal.specs.Serial.{IsSerial}
-use Rattle.history_laws.specs.Protocol.{NeverStuck, HoldsNothing, IsAloneSoFar, DelayedByOne}
+use Rattle.history_laws.specs.Protocol.{NeverStuck, IsFirstRefusal, HoldsNothing, IsAloneSoFar, DelayedByOne}
 
 -- of two pending jobs none holds a lock on an item on which the other holds a write lock
 abbrev pub HasNoConflict : State → Type 0
@@ -27,6 +29,9 @@ pub record IsLawful (set : Set) (story : List Entry) : Type 0 where
   pub no_conflict : HasNoConflict (state_of set story)
   pub ended_hold_nothing : EndedJobsHoldNothing (state_of set story)
   pub never_stuck : NeverStuck set (state_of set story)
+  pub refused_once :
+      (before after : List Entry) (job on : JobId) (op : Op) (ceiling tick : ℕ)
+      → story ≡ before ++ Blocked job op on ceiling tick ∷ after → IsFirstRefusal set before job
   pub serial : IsSerial set story
   pub pending_alone :
       (job : JobId) (row : Row) → job_row (state_of set story).rows job ≡ Some row → IsAloneSoFar set story row

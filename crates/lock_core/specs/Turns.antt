@@ -36,6 +36,17 @@ IsRefusal (reply.Full room) = Unit {0}
 IsRefusal (reply.Blocked by ceiling) = ⊥
 IsRefusal (reply.Done outcome over) = ⊥
 
+-- what holds where the answer is Blocked
+abbrev pub IfBlocked : StepReply → Type 0 → Type 0
+IfBlocked (reply.NoJob ended last) P = Unit {0}
+IfBlocked (reply.NotYet running) P = Unit {0}
+IfBlocked (reply.Undeclared item) P = Unit {0}
+IfBlocked (reply.TooEarly left) P = Unit {0}
+IfBlocked (reply.Unwritten item) P = Unit {0}
+IfBlocked (reply.Full room) P = Unit {0}
+IfBlocked (reply.Blocked by ceiling) P = P
+IfBlocked (reply.Done outcome over) P = Unit {0}
+
 abbrev pub IsIdleRefusal : IdleReply → Type 0
 IsIdleRefusal (idle.NotIdle running) = Unit {0}
 IsIdleRefusal idle.Nothing = Unit {0}

@@ -4,11 +4,11 @@ ghost use Rattle.step_journal.specs.declared.entry.Entry.{Entry as Noted};
 ghost use Rattle.step_journal.specs.Step.{plan as planned, ask, idle as idled};
 ghost use Rattle.step_journal.specs.History.{state_of};
 ghost use Rattle.step_journal.specs.Serial.{IsSerial};
-ghost use Rattle.history_laws.specs.Protocol.{NeverStuck};
+ghost use Rattle.history_laws.specs.Protocol.{NeverStuck, IsFirstRefusal};
 ghost use Rattle.board.specs.Answers.{next_tick_for};
 ghost use Rattle.board.specs.Stories.{plan_entry, plan_next_entry, step_entry, idle_entry, plan_answer, plan_next_answer, step_answer, idle_answer, now_of};
 ghost use Rattle.lock_core.specs.Stands.{Stands};
-ghost use Rattle.lock_core.specs.Turns.{IsTurn, IsRefusal, IsIdleRefusal};
+ghost use Rattle.lock_core.specs.Turns.{IsTurn, IsRefusal, IfBlocked, IsIdleRefusal};
 ghost use Rattle.lock_core.specs.Promises.{HasNoConflict, EndedJobsHoldNothing};
 
 use crate::core_board::Core;
@@ -48,7 +48,7 @@ impl Core {
     }
 
     /// A job asks for an operation. The refusals come in the order of `StepReply`; after one other than Blocked all is as
-    /// before, after Blocked the job waits. A granted operation takes one tick. Whatever comes, no two pending jobs hold
+    /// before, after Blocked the job waits. Blocked comes only where the job holds no lock and was not blocked before. A granted operation takes one tick. Whatever comes, no two pending jobs hold
     /// locks in conflict, ended jobs hold nothing, no jobs wait in a cycle, and the replies are those of the ended jobs
     /// run alone. It costs a bounded number of look-ups, and no scan of the transactions: a new lock goes over the holders
     /// of locks, a read or write over what the job has read and written, an end over the items, and the arrival over the
@@ -59,6 +59,7 @@ impl Core {
         ensures answer { (story : List Noted) → Stands self.old story → result ≡ step_answer self.old.set story (length self.old.journal.kept) self.old.journal.room job op }
         ensures turn { (story : List Noted) → Stands self.old story → IsTurn self.old self.new story (ask job op) (step_entry (now_of self.old.set story) job op result) }
         ensures refused { IsRefusal result → self.new ≡ self.old }
+        ensures blocked_once { (story : List Noted) → Stands self.old story → IfBlocked result (IsFirstRefusal self.old.set story job) }
         ensures no_conflict { (story : List Noted) → Stands self.new story → HasNoConflict (state_of self.new.set story) }
         ensures ended_hold_nothing { (story : List Noted) → Stands self.new story → EndedJobsHoldNothing (state_of self.new.set story) }
         ensures no_cycle { (story : List Noted) → Stands self.new story → NeverStuck self.new.set (state_of self.new.set story) }

@@ -77,8 +77,8 @@ impl Core {
     }
 
     /// That the laws hold of each history that the core stands for: no two pending jobs hold locks in conflict, ended jobs
-    /// hold nothing, no jobs wait in a cycle, replies and items are those of the ended jobs run alone, and one lower job
-    /// at most delays a job. A caller learns it by this call, which does nothing.
+    /// hold nothing, no jobs wait in a cycle, a job is refused at most once and then holds no lock, replies and items are
+    /// those of the ended jobs run alone, and one lower job at most delays a job. A caller learns it by this call, which does nothing.
     pub fn is_lawful(&self)
         ensures { (story : List Noted) → Stands self.now story → IsLawful self.now.set story }
     {

@@ -7,15 +7,13 @@ use Rattle.std.specs.Prelude.{is_some}
 use Rattle.rt_base.specs.declared.ids.TxId.{TxId}
 use Rattle.rt_base.specs.declared.rank_set.RankSet.{RankSet}
 use Rattle.rt_base.specs.Ranks.{has_rank}
-use Rattle.ceiling_table.specs.declared.CeilRow.{CeilRow}
 use Rattle.ceiling_table.specs.declared.LockKind.TheVariants as kind
-use Rattle.ceiling_table.specs.Held.{Locks, lock_at, no_ceilings, AreRising}
+use Rattle.ceiling_table.specs.Held.{Locks, lock_at, no_ceilings}
 use Rattle.inherit_prio.specs.Waits.{Waiting, IsOrder, on_of, tx_of}
 use Rattle.strict_commit.specs.Jobs.{Job}
 use Rattle.txn_set.specs.declared.decl.TxnDecl.{TxnDecl}
 use Rattle.txn_set.specs.Set.{Set, IsCompiled, no_txn, txn_of}
 use Rattle.step_journal.specs.State.{Row, row_of}
-use Rattle.history_laws.proofs.Holding.{write_le_absolute}
 use Rattle.history_laws.proofs.Calendar.{times_at}
 use Rattle.pending_jobs.specs.declared.head.Head.{Head}
 use Rattle.pending_jobs.specs.Rows.{Accesses, AreRows, ceil_row, accesses_of}
@@ -33,11 +31,6 @@ distinct set ps ok is i j li lj e =
       | inr (inl lt) ↦ absurd (ok.prios i j no_txn lt (omega (arith, size)) same)
       | inr (inr gt) ↦ absurd (ok.prios j i no_txn gt (omega (arith, size)) (sym same))
     ]
-
-pub rising : (set : Set) (rows : List CeilRow) → length rows ≡ length set.items → ((item : ℕ) → item < length set.items → get_or rows item no_ceilings ≡ ceil_row set item) → AreRising rows
-rising set rows size are item lt =
-    let is : get_or rows item no_ceilings ≡ ceil_row set item = are item (omega (arith, size)) in
-    omega (arith, ap (λ (r : CeilRow). r.write) is, ap (λ (r : CeilRow). r.absolute) is, write_le_absolute set item)
 
 module _ (set : Set) (heads : List (Option Head)) (works : List Job) (on : List (Option TxId)) (empty : heads ≡ map (λ t. None) set.txns) where
   no_head : (tx : ℕ) → head_at heads tx ≡ None

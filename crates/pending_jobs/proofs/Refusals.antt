@@ -1,5 +1,5 @@
 -- The refusal by the table of locks is that of the rows.
-use Rattle.std.proofs.Common.{◌≡◌, ◌≢◌, ℕ, zero, suc, ◌<◌, ◌≤◌, ◌==◌, Bool, true, false, not, ◌&&◌, ◌||◌, cond, List, [], ◌∷◌, length, map, Option, None, Some, get_or, refl, ap, sym, ◌∙◌, subst, inl, inr, arith}
+use Rattle.std.proofs.Common.{◌≡◌, ◌≢◌, ℕ, zero, suc, ◌<◌, ◌≤◌, ◌==◌, Bool, true, false, not, ◌&&◌, ◌||◌, cond, max, List, [], ◌∷◌, length, map, Option, None, Some, get_or, refl, ap, sym, ◌∙◌, subst, inl, inr, arith}
 use Rattle.std.proofs.Math.Nat.{le-max_left, le-max_right}
 use Rattle.std.proofs.lemmas.Bool.{cases_eq, cases_lt, cases_order, eq-eqb, ne_eqb, or_cases, or_left, or_right, and_parts, and_from, not-true, not_from_false}
 use Rattle.std.specs.Option.{option_map}
@@ -21,7 +21,7 @@ use Rattle.step_journal.specs.State.{Row, row_of, pending, prio}
 use Rattle.step_journal.specs.LockRule.{locks, lock_ceiling, ceiling_of, needs_lock, others, refusal}
 use Rattle.history_laws.proofs.Members.{In, in_filter, filter_in, in_pending, pending_in}
 use Rattle.history_laws.proofs.Invariant.{in_range}
-use Rattle.history_laws.proofs.Holding.{locks_tell, write_le, read_le}
+use Rattle.history_laws.proofs.Holding.{locks_tell, write_le, read_le, write_le_absolute}
 use Rattle.pending_jobs.specs.Rows.{Facts, Accesses, AreFactsOf, ceil_row}
 use Rattle.pending_jobs.specs.Tables.{work_lock, row_lock, Agree}
 use Rattle.pending_jobs.proofs.Blockers.{SameBlockers, Answers, Neither, Both, answers}
@@ -83,10 +83,10 @@ write_of_work true r = refl
 write_of_work false true = refl
 write_of_work false false = refl
 
-ceiling_of_work : (row : CeilRow) (w r : Bool) (c : ℕ) → (w ≡ true → row.absolute ≤ c) → (r ≡ true → row.write ≤ c) → kind_ceiling row (cond w kind.Write (cond r kind.Read kind.Free)) ≤ c
-ceiling_of_work row true r c a b = a refl
-ceiling_of_work row false true c a b = b refl
-ceiling_of_work row false false c a b = omega arith
+ceiling_of_work : (row : CeilRow) (w r : Bool) (c : ℕ) → row.write ≤ row.absolute → (w ≡ true → row.absolute ≤ c) → (r ≡ true → row.write ≤ c) → kind_ceiling row (cond w kind.Write (cond r kind.Read kind.Free)) ≤ c
+ceiling_of_work row true r c le a b = let top : row.absolute ≤ c = a refl in omega (arith, le)
+ceiling_of_work row false true c le a b = b refl
+ceiling_of_work row false false c le a b = omega arith
 
 ceiling_is_lock : (row : CeilRow) (k : LockKind) → 0 < kind_ceiling row k → is_lock k ≡ true
 ceiling_is_lock row kind.Free h = absurd (omega arith)
@@ -113,7 +113,7 @@ module _ (rows : List (Option Row)) (held : Locks) (waiting : Waiting) (deadline
   same_ceiling tx x h =
       let up : greatest_below (length held.ceilings) (at_item tx) ≤ greatest (map (lock_ceiling set) (locks x.work)) =
       below_least (length held.ceilings) (at_item tx) _ (λ i lt.
-      let le : kind_ceiling (ceil_row set i) (work_lock x.work i) ≤ ceiling_of set x = ceiling_of_work (ceil_row set i) (has_written x.work i) (has_read x.work i) (ceiling_of set x) (write_le set x i) (read_le set x i) in
+      let le : kind_ceiling (ceil_row set i) (work_lock x.work i) ≤ ceiling_of set x = ceiling_of_work (ceil_row set i) (has_written x.work i) (has_read x.work i) (ceiling_of set x) (write_le_absolute set i) (write_le set x i) (read_le set x i) in
       omega (arith, le, at_item_is tx i x h lt)) in
       let down : greatest (map (lock_ceiling set) (locks x.work)) ≤ greatest_below (length held.ceilings) (at_item tx) =
       greatest_least (lock_ceiling set) (locks x.work) _ (λ l i.
@@ -121,8 +121,8 @@ module _ (rows : List (Option Row)) (held : Locks) (waiting : Waiting) (deadline
         | inl w ↦ (
             let lt : l.item < length held.ceilings = a.touched tx l.item x h (or_right (has_read x.work l.item) (has_written x.work l.item) w.1) in
             let e : lock_ceiling set l ≡ absolute_ceiling set l.item = ap (lock_ceiling set) w.0 in
-            let k : kind_ceiling (ceil_row set l.item) (work_lock x.work l.item) ≡ absolute_ceiling set l.item = ap (λ (b : Bool). kind_ceiling (ceil_row set l.item) (cond b kind.Write (cond (has_read x.work l.item) kind.Read kind.Free))) w.1 in
-            omega (arith, e, k, at_item_is tx l.item x h lt, below_le (length held.ceilings) (at_item tx) l.item lt))
+            let k : kind_ceiling (ceil_row set l.item) (work_lock x.work l.item) ≡ max (write_ceiling set l.item) (absolute_ceiling set l.item) = ap (λ (b : Bool). kind_ceiling (ceil_row set l.item) (cond b kind.Write (cond (has_read x.work l.item) kind.Read kind.Free))) w.1 in
+            omega (arith, e, k, write_le_absolute set l.item, at_item_is tx l.item x h lt, below_le (length held.ceilings) (at_item tx) l.item lt))
         | inr r ↦ (
             let lt : l.item < length held.ceilings = a.touched tx l.item x h (or_left (has_read x.work l.item) (has_written x.work l.item) r.1) in
             let e : lock_ceiling set l ≡ write_ceiling set l.item = ap (lock_ceiling set) r.0 in

@@ -5,9 +5,13 @@
 ghost use Rattle.std.specs.Prelude.{◌≡◌, ◌<◌, ◌≤◌, ◌^◌, length, IfOk, IfErr, MatchResult, Some, None};
 ghost use Rattle.std.specs.List.{All};
 ghost use Rattle.response_test.specs.Response.{HasGoodRanges, demand, response, AreResponses, Tells};
+ghost use Rattle.response_test.specs.Loads.{IsFair, StandsFor};
+
+mod windows;
 
 use rt_base::Tick;
 use std::alloc::Global;
+pub use windows::{Load, add_load, least_window};
 
 /// A transaction as the response test sees it: its steps and its blocking in steps, which last a tick each, and its
 /// period and deadline in ticks.
@@ -32,8 +36,7 @@ pub enum ResponseError {
 /// deadline, that is at least the demand of the row, its blocking and the rows before it (Joseph and Pandya 1986, with
 /// the blocking term that later textbooks add). `Unschedulable` comes exactly where a row has none.
 ///
-/// Cost: one growth. A row starts from its steps and its blocking, below which no window fits, and goes on from a
-/// window to its demand, which is longer, up to its deadline; each window costs a division for each row before.
+/// It takes memory twice, a place for each row. Its time is that of `least_window` for each row, over the rows before it.
 pub fn responses(alloc: Global, rows: &[RespRow]) -> Result<Vec<Tick>, ResponseError>
     requires few { length rows.now ≤ 64 }
     requires ranges { All HasGoodRanges rows.now }
@@ -43,34 +46,37 @@ pub fn responses(alloc: Global, rows: &[RespRow]) -> Result<Vec<Tick>, ResponseE
     let Ok(mut answers) = Vec::with_capacity(alloc, rows.len()) else {
         return Err(ResponseError::OutOfMemory);
     };
+    let Ok(mut loads) = Vec::with_capacity(alloc, rows.len()) else {
+        return Err(ResponseError::OutOfMemory);
+    };
     for (i, row) in rows.iter().enumerate() {
-        match response_of(&rows[..i], *row) {
+        match response_of(&rows[..i], &loads, *row) {
             Ok(ticks) => answers.push(ticks).unwrap(),
             Err(demand) => return Err(ResponseError::Unschedulable { row: i, demand }),
         }
+        let Ok(()) = add_load(&mut loads, row.steps, row.period) else {
+            return Err(ResponseError::OutOfMemory);
+        };
     }
     Ok(answers)
 }
 
-// The response of a row below these, or else its demand within its deadline.
-#[tactic(auto, unfolding(crate::specs::Response::response))]
-fn response_of(higher: &[RespRow], row: RespRow) -> Result<Tick, u64>
+// The response of a row below these, whose loads are given too, or else its demand within its deadline.
+fn response_of(higher: &[RespRow], loads: &[Load], row: RespRow) -> Result<Tick, u64>
     requires few { length higher.now < 64 }
     requires ranges { All HasGoodRanges higher.now }
+    requires one_each { length loads.now ≡ length higher.now }
+    requires fair { All IsFair loads.now }
+    requires stands { StandsFor loads.now higher.now }
     requires row { HasGoodRanges row }
     ensures ok { IfOk result (λ w. response higher.now row ≡ Some w) }
     ensures none { IfErr result (λ d. response higher.now row ≡ None) }
     ensures err { IfErr result (λ d. d ≡ demand higher.now row row.deadline) }
 {
-    let mut ticks = row.steps + row.blocking;
-    while ticks <= row.deadline {
-        let needed = demand_of(higher, row, ticks);
-        if needed <= ticks {
-            return Ok(ticks);
-        }
-        ticks = needed;
+    match least_window(loads, row.steps + row.blocking, row.deadline) {
+        Some(ticks) => Ok(ticks),
+        None => Err(demand_of(higher, row, row.deadline)),
     }
-    Err(demand_of(higher, row, row.deadline))
 }
 
 // What the row, its blocking and these higher rows may take of a window of so many ticks.

@@ -120,14 +120,21 @@ impl Script {
     }
 }
 
+/// No call changes what the script was made of.
 impl Body for Script {
+    ghost use Rattle.std.specs.Prelude.{◌≡◌, ℕ, List, [], ◌∷◌, ◌++◌};
+    ghost use Rattle.rt_base.specs.declared.operation.Outcome.{Outcome as Said};
     ghost use Rattle.step_script.specs.Scripts.{program_of, next_of, IsTold};
 
     ghost gives = { λ s. next_of (program_of s) };
 
     ghost stands = { IsTold };
 
-    fn begin(&mut self, serial: u32) {
+    fn begin(&mut self, serial: u32)
+        ensures begun { IsTold self.new serial [] }
+        ensures same { next_of (program_of self.new) ≡ next_of (program_of self.old) }
+        ensures made { program_of self.new ≡ program_of self.old }
+    {
         clear(&mut self.lasts);
         self.serial = serial;
         self.place = 0;
@@ -150,7 +157,12 @@ impl Body for Script {
         }
     }
 
-    fn told(&mut self, outcome: Outcome) {
+    fn told(&mut self, outcome: Outcome)
+        ensures more { (serial : ℕ) (outcomes : List Said) → IsTold self.old serial outcomes →
+            IsTold self.new serial (outcomes ++ outcome ∷ []) }
+        ensures same { next_of (program_of self.new) ≡ next_of (program_of self.old) }
+        ensures made { program_of self.new ≡ program_of self.old }
+    {
         let Some(op) = op_in(&self.ops, self.place) else {
             return;
         };

@@ -1,5 +1,6 @@
 -- Computed: each entry is what the step gives.
-use Rattle.std.proofs.Common.{◌≡◌, None, Some, refl, [], ◌∷◌, pos}
+use Rattle.std.proofs.Common.{◌≡◌, None, Some, refl, [], ◌∷◌, pos, ℕ, zero, suc}
+use Rattle.std.specs.Prelude.{IsTrue}
 use Rattle.rt_base.specs.declared.operation.Op.TheVariants.{Compute}
 use Rattle.rt_base.specs.declared.operation.Outcome.TheVariants.{Computed}
 use Rattle.rt_base.specs.declared.operation.End.TheVariants.{Late}
@@ -15,6 +16,9 @@ use Rattle.step_journal.specs.Running.{running}
 use Rattle.step_journal.specs.Instant.{with_end, with_cancellations, with_releases, arrived}
 use Rattle.step_journal.specs.Step.{may_plan, with_plan, after_effect, with_step, with_wait, step}
 use Rattle.step_journal.specs.History.{event_of, entry_given}
+use Rattle.item_model.specs.Kinds.{is_dated, is_derived}
+use Rattle.txn_set.specs.Set.{IsTheWriter, IsCompiled}
+use Rattle.worked_histories.proofs.Compiled.{compiled}
 use Rattle.worked_histories.specs.Late.{late, late_entries, never_late, never_late_before, release_before_late, release_before_late_before, LateHolds}
 
 legal : IsLegal late late_entries
@@ -33,8 +37,23 @@ release_before_late_gives : entry_given (step late (state_of late release_before
 unfolding late late_entries never_late_before release_before_late_before write_ceiling absolute_ceiling verdict stamp_for opening blocker ceiling_of highest refusal running with_end with_cancellations with_releases arrived may_plan with_plan after_effect with_step with_wait step
 release_before_late_gives = refl
 
+written : (item : ℕ) → IsTrue (is_dated late.items item) → (tx : ℕ) × IsTheWriter late item tx
+unfolding late
+written zero h = absurd cc
+written (suc item) h = absurd cc
+
+not_derived : (item : ℕ) → IsTrue (is_derived late.items item) → ⊥
+unfolding late
+not_derived zero h = cc
+not_derived (suc item) h = cc
+
+is_compiled : IsCompiled late
+unfolding late
+is_compiled = compiled late refl written (λ item n walk. not_derived item walk.1.derived)
+
 pub holds : LateHolds
 holds = record {
+  compiled = is_compiled;
   legal = legal;
   items = items;
   never_late = λ h. absurd (cc (h, never_late_gives));

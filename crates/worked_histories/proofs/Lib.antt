@@ -1,3 +1,4 @@
+mod Compiled
 mod Base
 mod SharedReaders
 mod Bystander

@@ -1,5 +1,6 @@
 -- Computed: each entry is what the step gives.
-use Rattle.std.proofs.Common.{◌≡◌, Some, refl, [], ◌∷◌, pos}
+use Rattle.std.proofs.Common.{◌≡◌, Some, refl, [], ◌∷◌, pos, ℕ, zero, suc, arith}
+use Rattle.std.specs.Prelude.{IsTrue}
 use Rattle.rt_base.specs.declared.operation.Op.TheVariants.{Commit}
 use Rattle.rt_base.specs.declared.operation.Outcome.TheVariants.{Closed}
 use Rattle.rt_base.specs.declared.operation.End.TheVariants.{Stale}
@@ -15,6 +16,9 @@ use Rattle.step_journal.specs.Running.{running}
 use Rattle.step_journal.specs.Instant.{with_end, with_cancellations, with_releases, arrived}
 use Rattle.step_journal.specs.Step.{may_plan, with_plan, after_effect, with_step, with_wait, step}
 use Rattle.step_journal.specs.History.{event_of, entry_given}
+use Rattle.item_model.specs.Kinds.{is_dated, is_derived}
+use Rattle.txn_set.specs.Set.{IsTheWriter, IsCompiled, may_write, txn_of}
+use Rattle.worked_histories.proofs.Compiled.{compiled}
 use Rattle.worked_histories.specs.Stale.{stale, stale_entries, expired_committed, expired_committed_before, StaleHolds}
 
 legal : IsLegal stale stale_entries
@@ -29,8 +33,32 @@ expired_committed_gives : entry_given (step stale (state_of stale expired_commit
 unfolding stale stale_entries expired_committed_before write_ceiling absolute_ceiling verdict stamp_for opening blocker ceiling_of highest refusal running with_end with_cancellations with_releases arrived may_plan with_plan after_effect with_step with_wait step
 expired_committed_gives = refl
 
+alone : (other : ℕ) → IsTrue (may_write (txn_of stale other) 0) → other ≡ 0
+unfolding stale
+alone zero h = refl
+alone (suc zero) h = absurd cc
+alone (suc (suc zero)) h = absurd cc
+alone (suc (suc (suc n))) h = absurd cc
+
+written : (item : ℕ) → IsTrue (is_dated stale.items item) → (tx : ℕ) × IsTheWriter stale item tx
+unfolding stale
+written zero h = (0, record { in_range = omega arith; writes = refl; alone = alone })
+written (suc zero) h = absurd cc
+written (suc (suc item)) h = absurd cc
+
+not_derived : (item : ℕ) → IsTrue (is_derived stale.items item) → ⊥
+unfolding stale
+not_derived zero h = cc
+not_derived (suc zero) h = cc
+not_derived (suc (suc item)) h = cc
+
+is_compiled : IsCompiled stale
+unfolding stale
+is_compiled = compiled stale refl written (λ item n walk. not_derived item walk.1.derived)
+
 pub holds : StaleHolds
 holds = record {
+  compiled = is_compiled;
   legal = legal;
   items = items;
   expired_committed = λ h. absurd (cc (h, expired_committed_gives));

@@ -5,7 +5,7 @@ use Rattle.rt_base.specs.declared.operation.Outcome.TheVariants.{Computed, Close
 use Rattle.rt_base.specs.declared.operation.End.TheVariants.{Committed, Late}
 use Rattle.step_journal.specs.declared.entry.Entry.{Entry}
 use Rattle.step_journal.specs.declared.entry.Entry.TheVariants.{Planned, Step}
-use Rattle.txn_set.specs.Set.{Set}
+use Rattle.txn_set.specs.Set.{Set, IsCompiled}
 use Rattle.step_journal.specs.History.{IsLegal, IsLegalEntry, state_of}
 use Rattle.worked_histories.specs.Ids.{tx, job}
 
@@ -45,8 +45,10 @@ late_before_effect_before =
 abbrev pub late_before_effect : Entry
 late_before_effect = Step (job 0 0) Commit Closed (Some Late) 3
 
--- the entries are a legal history with these last items, and what a wrong database would do instead is not legal
+-- the set compiles, the entries are a legal history of it with these last items, and what a wrong database would do instead
+-- is not legal
 pub record BackToBackHolds : Type 0 where
+  pub compiled : IsCompiled back_to_back
   pub legal : IsLegal back_to_back back_to_back_entries
   pub items : (state_of back_to_back back_to_back_entries).items ≡ []
   pub late_before_effect : ¬ IsLegalEntry back_to_back (state_of back_to_back late_before_effect_before) late_before_effect

@@ -6,7 +6,7 @@ use Rattle.rt_base.specs.declared.operation.Outcome.TheVariants.{Got, Put, Compu
 use Rattle.rt_base.specs.declared.operation.End.TheVariants.{Committed}
 use Rattle.step_journal.specs.declared.entry.Entry.{Entry}
 use Rattle.step_journal.specs.declared.entry.Entry.TheVariants.{Planned, Step, Blocked, Idle}
-use Rattle.txn_set.specs.Set.{Set}
+use Rattle.txn_set.specs.Set.{Set, IsCompiled}
 use Rattle.step_journal.specs.History.{IsLegal, IsLegalEntry, state_of}
 use Rattle.worked_histories.specs.Ids.{tx, item, job}
 
@@ -108,8 +108,10 @@ blocker_passed_before =
 abbrev pub blocker_passed : Entry
 blocker_passed = Step (job 0 1) (Write (item 0) (pos 7)) Put None 10
 
--- the entries are a legal history with these last items, and what a wrong database would do instead is not legal
+-- the set compiles, the entries are a legal history of it with these last items, and what a wrong database would do instead
+-- is not legal
 pub record BaseHolds : Type 0 where
+  pub compiled : IsCompiled base
   pub legal : IsLegal base base_entries
   pub items : (state_of base base_entries).items ≡ record { value = pos 11; stamp = 30 } ∷ record { value = pos 109; stamp = 20 } ∷ []
   pub equal_ceiling_granted : ¬ IsLegalEntry base (state_of base equal_ceiling_granted_before) equal_ceiling_granted

@@ -6,7 +6,7 @@ use Rattle.rt_base.specs.declared.operation.Outcome.TheVariants.{Got, Put, Compu
 use Rattle.rt_base.specs.declared.operation.End.TheVariants.{Committed}
 use Rattle.step_journal.specs.declared.entry.Entry.{Entry}
 use Rattle.step_journal.specs.declared.entry.Entry.TheVariants.{Planned, Step, Blocked}
-use Rattle.txn_set.specs.Set.{Set}
+use Rattle.txn_set.specs.Set.{Set, IsCompiled}
 use Rattle.step_journal.specs.History.{IsLegal, IsLegalEntry, state_of}
 use Rattle.worked_histories.specs.Ids.{tx, item, job}
 
@@ -51,8 +51,10 @@ no_inheritance_before =
 abbrev pub no_inheritance : Entry
 no_inheritance = Step (job 1 0) Compute Computed None 2
 
--- the entries are a legal history with these last items, and what a wrong database would do instead is not legal
+-- the set compiles, the entries are a legal history of it with these last items, and what a wrong database would do instead
+-- is not legal
 pub record BystanderHolds : Type 0 where
+  pub compiled : IsCompiled bystander
   pub legal : IsLegal bystander bystander_entries
   pub items : (state_of bystander bystander_entries).items ≡ record { value = pos 9; stamp = 0 } ∷ []
   pub no_inheritance : ¬ IsLegalEntry bystander (state_of bystander no_inheritance_before) no_inheritance

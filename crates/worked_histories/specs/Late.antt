@@ -6,7 +6,7 @@ use Rattle.rt_base.specs.declared.operation.Outcome.TheVariants.{Put, Computed}
 use Rattle.rt_base.specs.declared.operation.End.TheVariants.{Late}
 use Rattle.step_journal.specs.declared.entry.Entry.{Entry}
 use Rattle.step_journal.specs.declared.entry.Entry.TheVariants.{Planned, Step}
-use Rattle.txn_set.specs.Set.{Set}
+use Rattle.txn_set.specs.Set.{Set, IsCompiled}
 use Rattle.step_journal.specs.History.{IsLegal, IsLegalEntry, state_of}
 use Rattle.worked_histories.specs.Ids.{tx, item, job}
 
@@ -60,8 +60,10 @@ release_before_late_before =
 abbrev pub release_before_late : Entry
 release_before_late = Step (job 0 0) Compute Computed None 4
 
--- the entries are a legal history with these last items, and what a wrong database would do instead is not legal
+-- the set compiles, the entries are a legal history of it with these last items, and what a wrong database would do instead
+-- is not legal
 pub record LateHolds : Type 0 where
+  pub compiled : IsCompiled late
   pub legal : IsLegal late late_entries
   pub items : (state_of late late_entries).items ≡ record { value = pos 0; stamp = 0 } ∷ []
   pub never_late : ¬ IsLegalEntry late (state_of late never_late_before) never_late

@@ -5,7 +5,7 @@ use Rattle.rt_base.specs.declared.operation.Outcome.TheVariants.{Computed}
 use Rattle.rt_base.specs.declared.operation.End.TheVariants.{Overrun}
 use Rattle.step_journal.specs.declared.entry.Entry.{Entry}
 use Rattle.step_journal.specs.declared.entry.Entry.TheVariants.{Planned, Step}
-use Rattle.txn_set.specs.Set.{Set}
+use Rattle.txn_set.specs.Set.{Set, IsCompiled}
 use Rattle.step_journal.specs.History.{IsLegal, IsLegalEntry, state_of}
 use Rattle.worked_histories.specs.Ids.{tx, job}
 
@@ -37,8 +37,10 @@ never_overrun_before =
 abbrev pub never_overrun : Entry
 never_overrun = Step (job 0 0) Compute Computed None 2
 
--- the entries are a legal history with these last items, and what a wrong database would do instead is not legal
+-- the set compiles, the entries are a legal history of it with these last items, and what a wrong database would do instead
+-- is not legal
 pub record OverrunHolds : Type 0 where
+  pub compiled : IsCompiled overrun
   pub legal : IsLegal overrun overrun_entries
   pub items : (state_of overrun overrun_entries).items ≡ []
   pub never_overrun : ¬ IsLegalEntry overrun (state_of overrun never_overrun_before) never_overrun

@@ -5,7 +5,7 @@ use Rattle.rt_base.specs.declared.operation.Op.TheVariants.{Read, Compute}
 use Rattle.rt_base.specs.declared.operation.Outcome.TheVariants.{Got, Computed}
 use Rattle.step_journal.specs.declared.entry.Entry.{Entry}
 use Rattle.step_journal.specs.declared.entry.Entry.TheVariants.{Planned, Step}
-use Rattle.txn_set.specs.Set.{Set}
+use Rattle.txn_set.specs.Set.{Set, IsCompiled}
 use Rattle.step_journal.specs.History.{IsLegal, IsLegalEntry, state_of}
 use Rattle.worked_histories.specs.Ids.{tx, item, job}
 
@@ -39,8 +39,10 @@ too_early_before =
 abbrev pub too_early : Entry
 too_early = Step (job 1 0) (Read (item 0)) (Got (pos 0) (Some 0)) None 2
 
--- the entries are a legal history with these last items, and what a wrong database would do instead is not legal
+-- the set compiles, the entries are a legal history of it with these last items, and what a wrong database would do instead
+-- is not legal
 pub record QuietHolds : Type 0 where
+  pub compiled : IsCompiled quiet
   pub legal : IsLegal quiet quiet_entries
   pub items : (state_of quiet quiet_entries).items ≡ record { value = pos 0; stamp = 0 } ∷ []
   pub too_early : ¬ IsLegalEntry quiet (state_of quiet too_early_before) too_early

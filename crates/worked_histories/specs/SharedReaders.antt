@@ -6,7 +6,7 @@ use Rattle.rt_base.specs.declared.operation.Outcome.TheVariants.{Got, Computed, 
 use Rattle.rt_base.specs.declared.operation.End.TheVariants.{Committed}
 use Rattle.step_journal.specs.declared.entry.Entry.{Entry}
 use Rattle.step_journal.specs.declared.entry.Entry.TheVariants.{Planned, Step, Blocked}
-use Rattle.txn_set.specs.Set.{Set}
+use Rattle.txn_set.specs.Set.{Set, IsCompiled}
 use Rattle.step_journal.specs.History.{IsLegal, IsLegalEntry, state_of}
 use Rattle.worked_histories.specs.Ids.{tx, item, job}
 
@@ -44,8 +44,10 @@ shared_reader_refused_before =
 abbrev pub shared_reader_refused : Entry
 shared_reader_refused = Blocked (job 0 0) (Read (item 0)) (job 1 0) 3 1
 
--- the entries are a legal history with these last items, and what a wrong database would do instead is not legal
+-- the set compiles, the entries are a legal history of it with these last items, and what a wrong database would do instead
+-- is not legal
 pub record SharedReadersHolds : Type 0 where
+  pub compiled : IsCompiled shared_readers
   pub legal : IsLegal shared_readers shared_readers_entries
   pub items : (state_of shared_readers shared_readers_entries).items ≡ record { value = pos 0; stamp = 0 } ∷ []
   pub shared_reader_refused : ¬ IsLegalEntry shared_readers (state_of shared_readers shared_reader_refused_before) shared_reader_refused

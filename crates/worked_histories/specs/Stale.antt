@@ -6,7 +6,7 @@ use Rattle.rt_base.specs.declared.operation.Outcome.TheVariants.{Got, Put, Compu
 use Rattle.rt_base.specs.declared.operation.End.TheVariants.{Committed, Stale}
 use Rattle.step_journal.specs.declared.entry.Entry.{Entry}
 use Rattle.step_journal.specs.declared.entry.Entry.TheVariants.{Planned, Step, Idle}
-use Rattle.txn_set.specs.Set.{Set}
+use Rattle.txn_set.specs.Set.{Set, IsCompiled}
 use Rattle.step_journal.specs.History.{IsLegal, IsLegalEntry, state_of}
 use Rattle.worked_histories.specs.Ids.{tx, item, job}
 
@@ -55,8 +55,10 @@ expired_committed_before =
 abbrev pub expired_committed : Entry
 expired_committed = Step (job 1 0) Commit Closed (Some Committed) 23
 
--- the entries are a legal history with these last items, and what a wrong database would do instead is not legal
+-- the set compiles, the entries are a legal history of it with these last items, and what a wrong database would do instead
+-- is not legal
 pub record StaleHolds : Type 0 where
+  pub compiled : IsCompiled stale
   pub legal : IsLegal stale stale_entries
   pub items : (state_of stale stale_entries).items ≡ record { value = pos 7; stamp = 30 } ∷ record { value = pos 0; stamp = 0 } ∷ []
   pub expired_committed : ¬ IsLegalEntry stale (state_of stale expired_committed_before) expired_committed

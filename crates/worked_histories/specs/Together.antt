@@ -6,7 +6,7 @@ use Rattle.rt_base.specs.declared.operation.Outcome.TheVariants.{Got, Put, Close
 use Rattle.rt_base.specs.declared.operation.End.TheVariants.{Committed, Apart}
 use Rattle.step_journal.specs.declared.entry.Entry.{Entry}
 use Rattle.step_journal.specs.declared.entry.Entry.TheVariants.{Planned, Step, Idle}
-use Rattle.txn_set.specs.Set.{Set}
+use Rattle.txn_set.specs.Set.{Set, IsCompiled}
 use Rattle.step_journal.specs.History.{IsLegal, IsLegalEntry, state_of}
 use Rattle.worked_histories.specs.Ids.{tx, item, job}
 
@@ -76,8 +76,10 @@ apart_committed_before =
 abbrev pub apart_committed : Entry
 apart_committed = Step (job 2 0) Commit Closed (Some Committed) 34
 
--- the entries are a legal history with these last items, and what a wrong database would do instead is not legal
+-- the set compiles, the entries are a legal history of it with these last items, and what a wrong database would do instead
+-- is not legal
 pub record TogetherHolds : Type 0 where
+  pub compiled : IsCompiled together
   pub legal : IsLegal together together_entries
   pub items : (state_of together together_entries).items ≡ record { value = pos 1; stamp = 30 } ∷ record { value = pos 1; stamp = 0 } ∷ []
   pub apart_committed : ¬ IsLegalEntry together (state_of together apart_committed_before) apart_committed

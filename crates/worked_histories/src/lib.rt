@@ -1,4 +1,5 @@
-//! Worked histories: the definitions of legal histories computed on examples, and near variants that are not legal.
+//! Worked histories: sets that compile, the definitions of legal histories computed on them, and near variants that are not
+//! legal.
 #![tactic(auto)]
 
 ghost use Rattle.worked_histories.specs.Base.{BaseHolds};
@@ -57,7 +58,8 @@ pub fn together_holds()
     ensures { TogetherHolds }
 {}
 
-/// A derived item is stamped with the oldest value that it is derived from, and a job reads its own write.
+/// A derived item is stamped as the oldest value that it is derived from, a state item with the release, and a job reads its
+/// own write.
 pub fn derived_stamp_holds()
     ensures { DerivedStampHolds }
 {}

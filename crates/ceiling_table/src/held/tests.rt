@@ -1,6 +1,5 @@
 //! What no clause says: that the table has no further field, and each counted call at a concrete ledger.
 ghost use Rattle.std.specs.Prelude.{◌≡◌, ℕ, ◌+◌, ◌<◌, ◌≤◌, length, slice_index_or, IfOk};
-ghost use Rattle.ceiling_table.specs.Held.{AreRising};
 
 use super::*;
 
@@ -289,7 +288,6 @@ fn beside_a_plain_scan(rt: HostRuntime) -> Result<(), OutOfMemory> {
 
 fn only_read(alloc: Global) -> Result<Vec<CeilRow>, OutOfMemory>
     ensures size { IfOk result (λ items. length items.items ≡ 1) }
-    ensures rising { IfOk result (λ items. AreRising items.items) }
 {
     let mut items = Vec::new(alloc);
     items.push(CeilRow {

@@ -1,0 +1,33 @@
+-- A job that is refused was not refused before, and holds no lock.
+use Rattle.std.proofs.Common.{◌≡◌, ℕ, List, [], ◌∷◌, ◌++◌, subst}
+use Rattle.rt_base.specs.declared.ids.JobId.{JobId}
+use Rattle.rt_base.specs.declared.operation.Op.{Op}
+use Rattle.step_journal.specs.declared.entry.Entry.{Entry}
+use Rattle.step_journal.specs.declared.entry.Entry.TheVariants.{Blocked}
+use Rattle.txn_set.specs.Set.{Set, IsCompiled}
+use Rattle.step_journal.specs.State.{State, opening}
+use Rattle.step_journal.specs.History.{state_after, IsLegalFrom, IsLegal}
+use Rattle.history_laws.specs.Protocol.{IsFirstRefusal}
+use Rattle.history_laws.proofs.Never.{refused_once}
+use Rattle.board.specs.declared.replies.StepReply.{StepReply}
+use Rattle.board.specs.declared.replies.StepReply.TheVariants as reply
+use Rattle.board.specs.Stories.{noted, step_entry}
+use Rattle.lock_core.specs.Turns.{IfBlocked}
+
+legal_until : (set : Set) (s : State) (es : List Entry) (e : Entry) (rest : List Entry) → IsLegalFrom set s (es ++ e ∷ rest) → IsLegalFrom set s (es ++ e ∷ [])
+legal_until set s [] e rest h = (h.0, tt)
+legal_until set s (x ∷ es) e rest h = (h.0, legal_until set (state_after set s x) es e rest h.1)
+
+pub each_refusal : (set : Set) (story : List Entry) → IsCompiled set → IsLegal set story → (before after : List Entry) (job on : JobId) (op : Op) (ceiling tick : ℕ) → story ≡ before ++ Blocked job op on ceiling tick ∷ after → IsFirstRefusal set before job
+each_refusal set story ok legal before after job on op ceiling tick e =
+    refused_once set before job on op ceiling tick ok (legal_until set (opening set) before (Blocked job op on ceiling tick) after (subst (IsLegal set) e legal))
+
+pub first_refusal : (set : Set) (story : List Entry) (job : JobId) (op : Op) (now : ℕ) (r : StepReply) → IsCompiled set → IsLegal set (noted story (step_entry now job op r)) → IfBlocked r (IsFirstRefusal set story job)
+first_refusal set story job op now (reply.NoJob ended last) ok legal = tt
+first_refusal set story job op now (reply.NotYet running) ok legal = tt
+first_refusal set story job op now (reply.Undeclared item) ok legal = tt
+first_refusal set story job op now (reply.TooEarly left) ok legal = tt
+first_refusal set story job op now (reply.Unwritten item) ok legal = tt
+first_refusal set story job op now (reply.Full room) ok legal = tt
+first_refusal set story job op now (reply.Blocked by ceiling) ok legal = refused_once set story job by op ceiling now ok legal
+first_refusal set story job op now (reply.Done outcome over) ok legal = tt
