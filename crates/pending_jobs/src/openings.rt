@@ -1,6 +1,8 @@
 //! The tables of nothing pending.
 ghost use Rattle.std.specs.Prelude.{◌≡◌, ◌≤◌, ◌<◌, ℕ, map, length, None, Some, IfOk, slice_index_or, replicate};
 ghost use Rattle.ceiling_table.specs.Held.{no_ceilings};
+ghost use Rattle.std.specs.List.{All};
+ghost use Rattle.strict_commit.specs.Jobs.{AreInItemOrder};
 ghost use Rattle.txn_set.specs.Set.{IsCompiled};
 ghost use Rattle.pending_jobs.specs.Rows.{ceil_row};
 ghost use Rattle.pending_jobs.specs.Tables.{opening_job};
@@ -59,6 +61,8 @@ fn copied(alloc: Global, items: &[ItemId]) -> Result<Vec<ItemId>, OutOfMemory>
 
 /// Nothing read and nothing written by a job of a transaction.
 fn work_of(alloc: Global, txn: &TxnDecl) -> Result<Work, OutOfMemory>
+    requires reads { AreInItemOrder txn.now.reads }
+    requires writes { AreInItemOrder txn.now.writes }
     ensures { IfOk result (λ w. w ≡ opening_job txn.now) }
 {
     let reads = copied(alloc, txn.reads.as_slice())?;
@@ -66,8 +70,10 @@ fn work_of(alloc: Global, txn: &TxnDecl) -> Result<Work, OutOfMemory>
     Work::new(alloc, reads, writes)
 }
 
-/// The places for the work of each transaction's jobs.
+/// The places for the work of each transaction's jobs. What each declares stands in item order.
 pub fn works_of(alloc: Global, txns: &[TxnDecl]) -> Result<Vec<Work>, OutOfMemory>
+    requires reads { All (λ t. AreInItemOrder t.reads) txns.now }
+    requires writes { All (λ t. AreInItemOrder t.writes) txns.now }
     ensures { IfOk result (λ v. v.items ≡ map opening_job txns.now) }
 {
     let mut works = Vec::new(alloc);

@@ -11,6 +11,7 @@ use Rattle.rt_base.specs.declared.ids.ItemId.{ItemId}
 use Rattle.item_model.specs.declared.stored.OutsideRead.{OutsideRead}
 use Rattle.item_model.specs.declared.stored.OwnWrite.{OwnWrite}
 use Rattle.item_model.specs.Work.{with_read, with_write}
+use Rattle.strict_commit.specs.Jobs.{AreInItemOrder}
 use Rattle.strict_commit.specs.Places.{AreDeclared, HasPlaces, items_of, read_items, write_items}
 
 or_false : (a b : Bool) → (a || b) ≡ false → (a ≡ false) × (b ≡ false)
@@ -119,8 +120,8 @@ none_declared : (declared : List ItemId) → AreDeclared declared []
 unfolding IsDistinct
 none_declared declared = record { among = λ i h. absurd cc; once = tt }
 
-pub places_new : (may_read may_write : List ItemId) (a b : ℕ) → length may_read ≤ a → length may_write ≤ b → HasPlaces may_read [] a may_write [] b
-places_new may_read may_write a b ha hb = record { reads_declared = none_declared may_read; writes_declared = none_declared may_write; reads_fit = ha; writes_fit = hb }
+pub places_new : (may_read may_write : List ItemId) (a b : ℕ) → length may_read ≤ a → length may_write ≤ b → AreInItemOrder may_read → AreInItemOrder may_write → HasPlaces may_read [] a may_write [] b
+places_new may_read may_write a b ha hb hr hw = record { reads_declared = none_declared may_read; writes_declared = none_declared may_write; reads_fit = ha; writes_fit = hb; reads_rise = hr; writes_rise = hw }
 
 module _ {may_read may_write : List ItemId} (reads : List OutsideRead) (writes : List OwnWrite) (a b : ℕ) (item : ItemId) where
   pub places_read : (stamp : ℕ) → HasPlaces may_read reads a may_write writes b → IsTrue (list_any (λ i. i.0 == item.0) may_read) → is_some (find (λ r. r.item.0 == item.0) reads) ≡ false → HasPlaces may_read (reads ++ record { item = item; stamp = stamp } ∷ []) a may_write writes b
@@ -129,6 +130,8 @@ module _ {may_read may_write : List ItemId} (reads : List OutsideRead) (writes :
     writes_declared = p.writes_declared;
     reads_fit = p.reads_fit;
     writes_fit = p.writes_fit;
+    reads_rise = p.reads_rise;
+    writes_rise = p.writes_rise;
   }
 
   pub read_place : HasPlaces may_read reads a may_write writes b → IsTrue (list_any (λ i. i.0 == item.0) may_read) → is_some (find (λ r. r.item.0 == item.0) reads) ≡ false → length reads < a
@@ -143,6 +146,8 @@ module _ {may_read may_write : List ItemId} (reads : List OutsideRead) (writes :
     writes_declared = subst (AreDeclared may_write) (sym (map-append (λ (w : OwnWrite). w.item.0) writes (record { item = item; value = value } ∷ []))) (declared_more may_write (write_items writes) item.0 p.writes_declared (declared_is may_write item.0 one) (none_listed (λ (w : OwnWrite). w.item.0) item.0 writes h));
     reads_fit = p.reads_fit;
     writes_fit = p.writes_fit;
+    reads_rise = p.reads_rise;
+    writes_rise = p.writes_rise;
   }
 
   pub write_place : HasPlaces may_read reads a may_write writes b → IsTrue (list_any (λ i. i.0 == item.0) may_write) → is_some (find (λ w. w.item.0 == item.0) writes) ≡ false → length writes < b
@@ -157,6 +162,8 @@ module _ {may_read may_write : List ItemId} (reads : List OutsideRead) (writes :
     writes_declared = subst (AreDeclared may_write) (sym (write_old writes item value h)) p.writes_declared;
     reads_fit = p.reads_fit;
     writes_fit = p.writes_fit;
+    reads_rise = p.reads_rise;
+    writes_rise = p.writes_rise;
   }
 
 -- a write at the place of the one that it replaces

@@ -1,1 +1,2 @@
 mod Fews
+pub mod Firsts

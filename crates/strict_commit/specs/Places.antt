@@ -1,9 +1,11 @@
--- What a job's lists keep to, so that no note takes memory: declared items, each once, with places for as many.
+-- What a job's lists keep to: what it declares in item order, and so that no note takes memory, declared items, each once,
+-- with places for as many.
 use Rattle.std.specs.Prelude.{◌≡◌, ℕ, ◌≤◌, true, List, map, length, eqb}
 use Rattle.std.specs.List.{IsDistinct, list_any}
 use Rattle.rt_base.specs.declared.ids.ItemId.{ItemId}
 use Rattle.item_model.specs.declared.stored.OutsideRead.{OutsideRead}
 use Rattle.item_model.specs.declared.stored.OwnWrite.{OwnWrite}
+use Rattle.strict_commit.specs.Jobs.{AreInItemOrder}
 
 abbrev pub items_of : List ItemId → List ℕ
 items_of items = map (λ i. i.0) items
@@ -24,3 +26,5 @@ pub record HasPlaces (may_read : List ItemId) (reads : List OutsideRead) (read_p
   pub writes_declared : AreDeclared may_write (write_items writes)
   pub reads_fit : length may_read ≤ read_places
   pub writes_fit : length may_write ≤ write_places
+  pub reads_rise : AreInItemOrder may_read
+  pub writes_rise : AreInItemOrder may_write

@@ -1,5 +1,6 @@
 //! What no clause says: worked commits, and many beside a plain scan.
 ghost use Rattle.std.specs.Prelude.{◌≡◌, ◌<◌, [], ◌∷◌, IfOk};
+ghost use Rattle.strict_commit.specs.Jobs.{AreInItemOrder};
 
 use super::*;
 use item_model::{ItemDecl, ItemKind, Items, Stored};
@@ -15,7 +16,9 @@ const MEAN: ItemId = ItemId(2);
 const VALVE: ItemId = ItemId(3);
 
 fn pair(alloc: Global, first: ItemId, second: ItemId) -> Result<Vec<ItemId>, OutOfMemory>
-    ensures { IfOk result (λ items. items.items ≡ first ∷ second ∷ []) }
+    requires { first.0 < second.0 }
+    ensures items { IfOk result (λ items. items.items ≡ first ∷ second ∷ []) }
+    ensures order { IfOk result (λ items. AreInItemOrder items.items) }
 {
     let mut items = Vec::new(alloc);
     items.push(first)?;
@@ -219,7 +222,8 @@ impl Plain {
 }
 
 fn three(alloc: Global) -> Result<Vec<ItemId>, OutOfMemory>
-    ensures { IfOk result (λ items. items.items ≡ TEMP ∷ FLOW ∷ MEAN ∷ []) }
+    ensures items { IfOk result (λ items. items.items ≡ TEMP ∷ FLOW ∷ MEAN ∷ []) }
+    ensures order { IfOk result (λ items. AreInItemOrder items.items) }
 {
     let mut items = Vec::new(alloc);
     items.push(TEMP)?;

@@ -1,9 +1,9 @@
 //! The verdict of a commit, by the staleness rule and the relative rule after Ramamritham (1993).
-ghost use Rattle.std.specs.Prelude.{◌≡◌, ◌-◌, length};
+ghost use Rattle.std.specs.Prelude.{◌≡◌, ◌-◌, length, IfErr};
 ghost use Rattle.std.specs.List.{find};
 ghost use Rattle.item_model.specs.Kinds.{validity_of, validity_of_kind};
 ghost use Rattle.item_model.specs.Work.{reads_of, is_above, is_expired, older, oldest, newer, newest, parted, apart_in, first_apart, verdict};
-ghost use Rattle.strict_commit.specs.Ends.{end_of};
+ghost use Rattle.strict_commit.specs.Ends.{end_of, NamesFirst};
 
 use crate::work::Work;
 use item_model::{ItemDecl, ItemKind, OutsideRead};
@@ -174,8 +174,10 @@ pub fn judge(
     work: &Work,
     tick: Tick,
 ) -> Result<(), CommitRefused>
-    ensures { end_of result ≡ verdict decls.now together.now work.now.may_read work.now.work tick }
+    ensures rule { end_of result ≡ verdict decls.now together.now work.now.may_read work.now.work tick }
+    ensures first { IfErr result (NamesFirst decls.now work.now.may_read work.now.work tick) }
 {
+    work.keeps_order();
     if let Some(read) = first_expired(decls, tick, work) {
         return Err(CommitRefused::Stale(StaleRead {
             item: read.item,

@@ -1,10 +1,10 @@
 //! The work of one job.
-ghost use Rattle.std.specs.Prelude.{◌≡◌, ◌==◌, IfOk, IsTrue, OnErr, is_some, true, vec_capacity};
+ghost use Rattle.std.specs.Prelude.{◌≡◌, ◌==◌, IfOk, IfErr, IfSome, IsTrue, OnErr, is_some, true, vec_capacity};
 ghost use Rattle.std.specs.List.{find, list_any};
 ghost use Rattle.std.specs.Option.{option_map};
 ghost use Rattle.item_model.specs.Work.{no_work, with_read, with_write, read_of, write_of, verdict, items_after};
-ghost use Rattle.strict_commit.specs.Jobs.{unwritten_of};
-ghost use Rattle.strict_commit.specs.Ends.{end_of};
+ghost use Rattle.strict_commit.specs.Jobs.{unwritten_of, is_unwritten, IsLeastOf, AreInItemOrder};
+ghost use Rattle.strict_commit.specs.Ends.{end_of, NamesFirst};
 
 use crate::install::{install_all, is_dated};
 use crate::verdict::{CommitRefused, judge};
@@ -36,8 +36,10 @@ impl Model for Work {
 }
 
 impl Work {
-    /// Nothing read and nothing written, of a job that may read and write these items. It reserves a place for each of them.
+    /// Nothing read and nothing written, of a job that may read and write these items, which stand in item order. It reserves a place for each of them.
     pub fn new(alloc: Global, reads: Vec<ItemId>, writes: Vec<ItemId>) -> Result<Work, OutOfMemory>
+        requires reads { AreInItemOrder reads.items }
+        requires writes { AreInItemOrder writes.items }
         ensures reads { IfOk result (λ w. w.may_read ≡ reads.items) }
         ensures writes { IfOk result (λ w. w.may_write ≡ writes.items) }
         ensures nothing { IfOk result (λ w. w.work ≡ no_work) }
@@ -86,9 +88,18 @@ impl Work {
         find_write(self.writes.as_slice(), item).map(|w| w.value)
     }
 
-    /// The first sensor or derived item among the declared writes that was not written, for which a commit is refused (the
+    /// The first sensor or derived item, in item order, among the declared writes that was not written, for which a commit is refused (the
     /// complete-writes rule); None exactly where there is none. A scan of the writes for each declared write.
     pub fn unwritten(&self, decls: &[ItemDecl]) -> Option<ItemId>
+        ensures which { result ≡ unwritten_of decls.now self.now.may_write self.now.work }
+        ensures first { IfSome result (λ item. IsLeastOf (is_unwritten decls.now self.now.work) self.now.may_write item.0) }
+    {
+        self.keeps_order();
+        self.first_unwritten(decls)
+    }
+
+    // The first of these in the order of the declared writes.
+    fn first_unwritten(&self, decls: &[ItemDecl]) -> Option<ItemId>
         ensures { result ≡ unwritten_of decls.now self.now.may_write self.now.work }
     {
         for item in &self.may_write {
@@ -100,7 +111,7 @@ impl Work {
     }
 
     /// Commits at a tick the work of a job that was released at another. Stale exactly where an outside read of a declared
-    /// item fails the staleness rule, by the first such item in the order of the declared reads; Apart exactly where none
+    /// item fails the staleness rule, by the first such item in item order; Apart exactly where none
     /// does and the relative rule fails, by the first relative set in list order that is apart. Both change nothing. Else
     /// the writes are installed with their stamps. A scan of the reads for each declared read and each item of a relative
     /// set, and for each write of a derived item.
@@ -114,6 +125,7 @@ impl Work {
     ) -> Result<(), CommitRefused>
         ensures rule { end_of result ≡ verdict decls.now together.now self.now.may_read self.now.work at }
         ensures items { items.new ≡ items_after decls.now self.now.work release (end_of result) items.old }
+        ensures first { IfErr result (NamesFirst decls.now self.now.may_read self.now.work at) }
         ensures unchanged { OnErr result (items.new ≡ items.old) }
     {
         judge(decls, together, self, at)?;
@@ -131,6 +143,14 @@ impl Work {
         } else {
             self.writes.push_reserved(write);
         }
+    }
+
+    /// That the declared reads and writes stand in item order: a caller learns it by this call, which does nothing.
+    pub(crate) fn keeps_order(&self)
+        ensures reads { AreInItemOrder self.now.may_read }
+        ensures writes { AreInItemOrder self.now.may_write }
+    {
+        let _items = &self.may_read;
     }
 
     /// The declared reads.

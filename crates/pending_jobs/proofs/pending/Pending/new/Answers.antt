@@ -1,4 +1,6 @@
 use Rattle.std.proofs.Common.{◌≡◌, ◌∙◌, sym, ap, map, None, List, length, get_or, ℕ, subst}
+use Rattle.std.specs.List.{All}
+use Rattle.strict_commit.specs.Jobs.{AreInItemOrder}
 use Rattle.ceiling_table.specs.declared.CeilRow.{CeilRow}
 use Rattle.ceiling_table.specs.Held.{no_ceilings}
 use Rattle.txn_set.specs.declared.decl.TxnDecl.{TxnDecl}
@@ -9,6 +11,12 @@ use Rattle.pending_jobs.proofs.pending.Pending.new.Goals as goal
 
 pub new-requires-clause-distinct : goal.new-requires-clause-distinct
 new-requires-clause-distinct c = distinct c.args.set.now c.in_ok-prios_of.field-0.items c.is_compiled.ensures (c.in_ok-prios_of.ensures ∙ ap (map (λ (t : TxnDecl). t.prio)) c.txns.ensures)
+
+pub works_of-requires-clause-reads : goal.works_of-requires-clause-reads
+works_of-requires-clause-reads c = subst (λ (ts : List TxnDecl). All (λ t. AreInItemOrder t.reads) ts) (sym c.txns-4.ensures) (λ k d lt. (c.is_compiled.ensures.reads k d lt).rising)
+
+pub works_of-requires-clause-writes : goal.works_of-requires-clause-writes
+works_of-requires-clause-writes c = subst (λ (ts : List TxnDecl). All (λ t. AreInItemOrder t.writes) ts) (sym c.txns-4.ensures) (λ k d lt. (c.is_compiled.ensures.writes k d lt).rising)
 
 pub invariant_of-result : goal.invariant_of-result
 invariant_of-result c =
