@@ -2,8 +2,10 @@
 ghost use Rattle.std.specs.Prelude.{◌≡◌, ◌≤◌, ◌+◌, ◌<◌, ◌^◌, List, [], length, Some, IfOk, IfErr};
 ghost use Rattle.step_journal.specs.declared.entry.Entry.{Entry as Noted};
 ghost use Rattle.board.specs.Stories.{noted, plan_entry, plan_next_entry, step_entry, idle_entry, plan_answer, plan_next_answer, step_answer, idle_answer, now_of};
+ghost use Rattle.history_laws.specs.Protocol.{IsFirstRefusal};
 ghost use Rattle.set_admission.specs.Laws.{KeepsBounds};
 ghost use Rattle.lock_core.specs.Stands.{Stands};
+ghost use Rattle.lock_core.specs.Turns.{IfBlocked};
 
 use board::{Board, IdleReply, StepReply};
 use item_model::Items;
@@ -95,7 +97,8 @@ impl<B: Board> AdmittedBoard<B> {
         reply
     }
 
-    /// A job asks for an operation, as of the board. In every history that it then stands for each job ended by its
+    /// A job asks for an operation, as of the board. Blocked comes only where the job holds no lock and was not blocked
+    /// before. In every history that it then stands for each job ended by its
     /// release plus its transaction's response, none was late, and where the history is steady no job ended stale or
     /// apart, and what was read is within the age bounds.
     pub fn step(&mut self, job: JobId, op: Op) -> StepReply
@@ -104,6 +107,7 @@ impl<B: Board> AdmittedBoard<B> {
         ensures admitted { self.new.admitted ≡ self.old.admitted }
         ensures answer { (story : List Noted) → B.stands self.old.board story → result ≡ step_answer (B.set self.old.board) story (length (B.kept self.old.board)) (B.room self.old.board) job op }
         ensures after { (story : List Noted) → B.stands self.old.board story → B.stands self.new.board (noted story (step_entry (now_of (B.set self.old.board) story) job op result)) }
+        ensures blocked_once { (story : List Noted) → B.stands self.old.board story → IfBlocked result (IsFirstRefusal (B.set self.old.board) story job) }
         ensures bounds { (story : List Noted) → B.stands self.new.board story → KeepsBounds self.new.admitted story }
     {
         let reply = self.board.step(job, op);
