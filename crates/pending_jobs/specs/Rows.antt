@@ -63,9 +63,6 @@ no_access = record { reads = []; writes = [] }
 abbrev pub accesses_at : Facts → ℕ → Accesses
 accesses_at facts tx = slice_index_or facts.accesses tx no_access
 
-abbrev pub deadline_at : Facts → ℕ → ℕ
-deadline_at facts tx = slice_index_or facts.deadlines tx 0
-
 -- an operation's item is one that the transaction may so access
 abbrev pub IsDeclared : Accesses → Op → Type 0
 IsDeclared a (Read item) = names_item a.reads item.0 ≡ true
