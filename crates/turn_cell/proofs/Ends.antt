@@ -8,7 +8,7 @@ use Rattle.atomic_table.specs.Table.{Final, Seen}
 use Rattle.turn_cell.specs.declared.view.View.{View}
 use Rattle.turn_cell.specs.Turn.{Begins, Heard, Stand, mark_number, total, times, weight, times_in, joined, Holds}
 use Rattle.turn_cell.specs.Seats.{Gathered, Whole, MarkIsOne, drained_in, marks_in}
-use Rattle.turn_cell.proofs.Sums.{terms_le, total-only, times-append}
+use Rattle.turn_cell.proofs.Sums.{term_le, terms_le, total-only, times-append}
 use Rattle.turn_cell.proofs.Lists.{off, at_longer2, stand_longer, stand_left, stand_right}
 use Rattle.turn_cell.proofs.Keeps.{born_of}
 
@@ -83,6 +83,12 @@ module _ {N : Type 0} where
 module _ {T N F : Type 0} (stands : T → List N → Type 0) (fixed : T → F) (first : T → ℕ) (origin : T) (start seats : ℕ) where
   abbrev V : Type 0
   V = View N
+
+  -- no more were joined than the cell has
+  pub at_most_all : (id : ℕ) (v : V) (words : List ℕ) (xs : List (Option T)) (views : List V) → Final (Seen (Holds stands fixed first origin start seats) id v) words xs → Gathered views v → length views ≤ seats
+  at_most_all id v words xs views final g =
+      let s = final.0 in let at = final.1.1 in let b = born_of stands fixed first origin start seats s final.1.0 id v at g.begun in let k = b.6 in
+      let weighs = k.weighs in let heavy = g.weighs in let t = term_le weight s.views id v at in omega arith
 
   pub ends : (id : ℕ) (v : V) (words : List ℕ) (xs : List (Option T)) (views : List V) → Final (Seen (Holds stands fixed first origin start seats) id v) words xs → Gathered views v → seats ≤ length views
       → (x : T) × (get_elem? xs 0 ≡ some (Some x)) × Whole stands fixed first origin start x views

@@ -140,12 +140,11 @@ impl<T: Storied> TurnCell<T> {
         requires cell { seat.old.cell ≡ self.now.id }
         requires turn { (seat.old.view.holds ≡ true) × (seat.old.view.marked ≡ true) }
         requires first { T.first held.old.value ≡ seat.old.view.drained + count }
-        requires room { seat.old.view.drained + count < 2 ^ 64 }
         ensures cell { seat.new.cell ≡ seat.old.cell }
         ensures same { held.new.value ≡ held.old.value }
         ensures drained { seat.new.view ≡ draining seat.old.view count }
     {
-        let _ = held;
+        let _first = held.value.first();
         drain(&self.table.shared, &mut seat.seat, count);
     }
 
@@ -202,7 +201,7 @@ impl<T: Storied> TurnCell<T> {
     /// that the value no longer keeps. It takes no memory.
     pub fn close<S: HasSeat<T>>(self, seats: Vec<S>) -> Result<T, (TurnCell<T>, Vec<S>)>
         requires { AreIdle S.standing self.id seats.items }
-        ensures enough { IfOk result (λ x. self.seats ≤ length seats.items) }
+        ensures enough { IfOk result (λ x. length seats.items ≡ self.seats) }
         ensures whole { IfOk result (λ x. Whole T.stands T.fixed T.first self.origin self.start x (map (λ s. (S.standing s).view) seats.items)) }
         ensures refused { IfErr result (λ r. (length seats.items < self.seats) × (r.0 ≡ self) × (r.1 ≡ seats)) }
     {
