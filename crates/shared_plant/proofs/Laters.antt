@@ -1,5 +1,5 @@
 -- What a seat knows after some tries.
-use Rattle.std.proofs.Common.{◌≡◌, ℕ, ◌+◌, List, Option, None, refl, sym, ap, subst, ◌∙◌, arith, le_refl}
+use Rattle.std.proofs.Common.{◌≡◌, ℕ, ◌+◌, List, Option, None, refl, sym, ap, subst, ◌∙◌, arith, le_refl, inl, inr, suc, length, ◌-◌}
 use Rattle.turn_cell.proofs.Lists.{whole, chained}
 use Rattle.step_journal.specs.declared.entry.Entry.{Entry}
 use Rattle.rt_base.specs.declared.operation.Op.{Op}
@@ -7,9 +7,9 @@ use Rattle.rt_base.specs.declared.ids.JobId.{JobId}
 use Rattle.txn_set.specs.Set.{Set}
 use Rattle.board.specs.declared.replies.StepReply.{StepReply}
 use Rattle.board.specs.declared.replies.StepReply.TheVariants.{NoJob, NotYet, Undeclared, TooEarly, Unwritten, Full, Blocked, Done}
-use Rattle.board.specs.Stories.{step_entry}
+use Rattle.board.specs.Stories.{step_entry, step_answer}
 use Rattle.shared_plant.specs.Seats.{SeatFacts, PlantFacts, IsOf}
-use Rattle.shared_plant.specs.Answers.{Later, Answered, IsNotYet, missed_once, missed_more, turned}
+use Rattle.shared_plant.specs.Answers.{Later, Answered, Tries, IsNotYet, WaitsAt, missed_once, missed_more, turned}
 
 pub later_refl : (s : SeatFacts) → Later s s
 later_refl s = record { plant = refl; tx = refl; seen = whole s.seen; mine = refl; turns = le_refl s.turns; missed = le_refl s.missed; drained = refl; base = le_refl s.base }
@@ -44,3 +44,38 @@ missed_none s = let e : s.missed ≡ s.missed + 0 = omega arith in ap (λ (n : �
 
 pub missed_again : (s : SeatFacts) (n : ℕ) → missed_once (missed_more s n) ≡ missed_more s (n + 1)
 missed_again s n = let e : (s.missed + n) + 1 ≡ s.missed + (n + 1) = omega arith in ap (λ (m : ℕ). record s { missed = m }) e
+
+-- what was tried so far, and what is known of the seat then
+pub record Tried (set : Set) (waits : List Entry → ℕ → Type 0) (old new : SeatFacts) : Type 0 where
+  pub number : ℕ
+  pub tries : Tries set waits number old new
+  pub later : Later old new
+
+pub tried_none : (set : Set) (waits : List Entry → ℕ → Type 0) (s : SeatFacts) → Tried set waits s s
+tried_none set waits s = record { number = 0; tries = refl; later = later_refl s }
+
+pub tried_missed : (set : Set) (waits : List Entry → ℕ → Type 0) (s t u : SeatFacts) → Tried set waits s t → u ≡ missed_once t → Tried set waits s u
+tried_missed set waits s t u l e = record { number = suc l.number; tries = (t, l.tries, inl e); later = later_missed s t u l.later e }
+
+pub tried_answered : (set : Set) (room : ℕ) (job : JobId) (op : Op) (now : List Entry → ℕ) (r : StepReply) (s t u : SeatFacts) → Tried set (WaitsAt set room job op) s t
+    → Answered set (λ story base. r ≡ step_answer set story (length story - base) room job op) (λ story. step_entry (now story) job op r) t u → IsNotYet r → Tried set (WaitsAt set room job op) s u
+tried_answered set room job op now r s t u l a yet =
+    let none : step_entry (now a.story) job op r ≡ None = not_yet_has_none r job op (now a.story) yet in
+    record {
+      number = suc l.number;
+      tries = (
+        t,
+        l.tries,
+        inr (record {
+          story = a.story;
+          base = a.base;
+          begins = a.begins;
+          rises = a.rises;
+          within = a.within;
+          says = subst IsNotYet a.says yet;
+          after = a.after ∙ ap (turned t a.story a.base) none;
+          legal = a.legal;
+        }),
+      );
+      later = later_answered set s t u (λ story base. r ≡ step_answer set story (length story - base) room job op) (λ story. step_entry (now story) job op r) l.later a (λ story. not_yet_has_none r job op (now story) yet);
+    }

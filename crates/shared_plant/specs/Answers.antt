@@ -1,9 +1,11 @@
 -- What the calls of a plant answer, and what a seat knows after them.
-use Rattle.std.specs.Prelude.{◌≡◌, ℕ, ◌+◌, ◌-◌, ◌≤◌, ◌++◌, ◌∷◌, [], List, Option, Some, None, length, min, take, drop}
+use Rattle.std.specs.Prelude.{◌≡◌, ◌⊎◌, ℕ, zero, suc, ◌+◌, ◌-◌, ◌≤◌, ◌++◌, ◌∷◌, [], List, Option, Some, None, length, min, take, drop}
+use Rattle.rt_base.specs.declared.ids.JobId.{JobId}
+use Rattle.rt_base.specs.declared.operation.Op.{Op}
 use Rattle.step_journal.specs.declared.entry.Entry.{Entry}
 use Rattle.step_journal.specs.History.{IsLegal}
 use Rattle.txn_set.specs.Set.{Set}
-use Rattle.board.specs.Stories.{noted}
+use Rattle.board.specs.Stories.{noted, step_answer}
 use Rattle.board.specs.declared.replies.StepReply.{StepReply}
 use Rattle.board.specs.declared.replies.StepReply.TheVariants.{NoJob, NotYet, Undeclared, TooEarly, Unwritten, Full, Blocked, Done}
 use Rattle.turn_cell.specs.Turn.{Begins}
@@ -64,9 +66,16 @@ pub record Later (old new : SeatFacts) : Type 0 where
   pub drained : new.drained ≡ old.drained
   pub base : old.base ≤ new.base
 
--- After some such tries one was answered.
-pub record AnsweredLate (set : Set) (found : List Entry → ℕ → Type 0) (own : List Entry → Option Entry) (old new : SeatFacts) : Type 0 where
+-- So many tries, each of which was told Busy, or was answered as `waits` says and made no entry.
+abbrev pub Tries : Set → (List Entry → ℕ → Type 0) → ℕ → SeatFacts → SeatFacts → Type 0
+Tries set waits zero old new = new ≡ old
+Tries set waits (suc n) old new = (last : SeatFacts) × Tries set waits n old last × ((new ≡ missed_once last) ⊎ Answered set waits nothing last new)
+
+-- After some tries, each told Busy or answered as `waits` says, one was answered.
+pub record AnsweredLate (set : Set) (waits found : List Entry → ℕ → Type 0) (own : List Entry → Option Entry) (old new : SeatFacts) : Type 0 where
   pub before : SeatFacts
+  pub number : ℕ
+  pub tries : Tries set waits number old before
   pub later : Later old before
   pub answered : Answered set found own before new
 
@@ -111,3 +120,7 @@ IsNotYet (Unwritten item) = ⊥
 IsNotYet (Full room) = ⊥
 IsNotYet (Blocked by ceiling) = ⊥
 IsNotYet (Done outcome over) = ⊥
+
+-- the board answers a job's request at a history with NotYet
+abbrev pub WaitsAt : Set → ℕ → JobId → Op → List Entry → ℕ → Type 0
+WaitsAt set room job op story base = IsNotYet (step_answer set story (length story - base) room job op)

@@ -7,7 +7,7 @@ ghost use Rattle.rt_base.specs.declared.ids.JobId.{JobId as Job};
 ghost use Rattle.board.specs.Stories.{plan_entry, plan_next_entry, step_entry, idle_entry, plan_answer, plan_next_answer, step_answer, idle_answer, now_of};
 ghost use Rattle.turn_cell.specs.Seats.{fresh};
 ghost use Rattle.shared_plant.specs.Seats.{TableId, IsOf, AreOf, Closed, newcomer, newcomers};
-ghost use Rattle.shared_plant.specs.Answers.{IsBusy, IfSaid, missed_once, Answered, AnsweredLate, nothing, Drained, DrainedLate, IsNotYet};
+ghost use Rattle.shared_plant.specs.Answers.{IsBusy, IfSaid, missed_once, Answered, AnsweredLate, nothing, Drained, DrainedLate, IsNotYet, WaitsAt};
 
 use crate::seat::Seat;
 use crate::shared_board::SharedBoard;
@@ -93,7 +93,6 @@ impl<B: Board> Plant<B> {
     /// It takes no memory.
     pub fn close(self, seats: Vec<Seat<B>>) -> Result<B, CloseRefused<B>>
         requires plant { AreOf self seats.items }
-        requires few { vec_len seats ≤ self.seats }
         ensures enough { IfOk result (λ b. vec_len seats ≡ self.seats) }
         ensures closed { IfOk result (λ b. Closed B.stands B.set B.room B.first B.kept self b seats.items) }
         ensures refused { IfErr result (λ r. (r.have < r.need) × (r.have ≡ vec_len seats) × (r.need ≡ self.seats)) }
@@ -222,11 +221,11 @@ impl<B: Board> Plant<B> {
         Tried::Said(count)
     }
 
-    /// As `try_step`, tried again until the answer is neither Busy nor NotYet: that answer is given. It may wait.
+    /// As `try_step`, tried again while the answer is Busy or NotYet: the first other answer is given. It may wait.
     pub fn step<R: Wait>(&self, rt: &R, seat: &mut Seat<B>, serial: u32, op: Op) -> StepReply
         requires plant { IsOf self.now seat.old }
         requires tx { (tx : Transaction) × (seat.old.tx ≡ Some tx) }
-        ensures answer { (tx : Transaction) → seat.old.tx ≡ Some tx → let job : Job = record { tx = tx; serial = serial } in AnsweredLate self.now.set (λ story base. result ≡ step_answer self.now.set story (length story - base) self.now.room job op) (λ story. step_entry (now_of self.now.set story) job op result) seat.old seat.new }
+        ensures answer { (tx : Transaction) → seat.old.tx ≡ Some tx → let job : Job = record { tx = tx; serial = serial } in AnsweredLate self.now.set (WaitsAt self.now.set self.now.room job op) (λ story base. result ≡ step_answer self.now.set story (length story - base) self.now.room job op) (λ story. step_entry (now_of self.now.set story) job op result) seat.old seat.new }
         ensures yet { IsNotYet result → ⊥ }
     {
         for _ in rt.forever() {

@@ -1,14 +1,19 @@
 use Rattle.std.proofs.Common.{◌≡◌, ◌∙◌, true, rules}
 use Rattle.board.specs.Stories.{now_of}
-use Rattle.shared_plant.proofs.Laters.{later_answered, not_yet_has_none}
+use Rattle.shared_plant.proofs.Answering.{busy_of}
+use Rattle.shared_plant.proofs.Laters.{later_missed, later_answered, not_yet_has_none, tried_missed, tried_answered}
 use Rattle.shared_plant.proofs.plant.Plant.step.Goals as goal
 
 pub returns-then-not-is_not_yet-clause-answer : goal.returns-then-not-is_not_yet-clause-answer
-returns-then-not-is_not_yet-clause-answer g c = λ tx e. record {
-  before = c.loop.seat;
-  later = c.loop.invariant.2;
-  answered = c.in-Said.ensures.said tx (c.loop.invariant.2.tx ∙ e);
-}
+returns-then-not-is_not_yet-clause-answer g c = λ tx e.
+    let tried = c.loop.invariant.3 tx e in
+    record {
+      before = c.loop.seat;
+      number = tried.number;
+      tries = tried.tries;
+      later = c.loop.invariant.2;
+      answered = c.in-Said.ensures.said tx (c.loop.invariant.2.tx ∙ e);
+    }
 
 pub loop-preserved-else-not-is_not_yet : goal.loop-preserved-else-not-is_not_yet
 loop-preserved-else-not-is_not_yet g c =
@@ -18,4 +23,10 @@ loop-preserved-else-not-is_not_yet g c =
       tt,
       tt,
       later_answered _ _ _ _ _ _ i.2 (c.in-Said.ensures.said tx.0 (i.2.tx ∙ tx.1)) (λ story. not_yet_has_none c.in-Said.reply (record { tx = tx.0; serial = c.args.serial }) c.args.op (now_of c.args.self.now.set story) yet),
+      λ x e. tried_answered c.args.self.now.set c.args.self.now.room (record { tx = x; serial = c.args.serial }) c.args.op (now_of c.args.self.now.set) c.in-Said.reply _ _ _ (i.3 x e) (c.in-Said.ensures.said x (i.2.tx ∙ e)) yet,
     )
+
+pub loop-preserved : goal.loop-preserved
+loop-preserved g c =
+    let i = c.loop.invariant in let missed = c.try_step.ensures.busy (busy_of c.try_step.result (λ x e. c.in_default.not-Said x e)) in
+    (tt, tt, later_missed _ _ _ i.2 missed, λ x e. tried_missed _ _ _ _ _ (i.3 x e) missed)
