@@ -14,9 +14,6 @@ whole low high d = option_and_then (λ n. if nat_le low n && nat_le n high then 
 abbrev pub integer : Data → Option ℤ
 integer d = option_and_then as_i64 (as_number d)
 
-abbrev pub name_form : Data → Option (List ℕ)
-name_form d = option_and_then name_of (as_str d)
-
 abbrev pub item_id : ℕ → ItemId
 item_id n = record { 0 = n }
 
