@@ -144,6 +144,7 @@ impl<T: Storied> TurnCell<T> {
         ensures same { held.new.value ≡ held.old.value }
         ensures drained { seat.new.view ≡ draining seat.old.view count }
     {
+        // The value counts in 64 bits what it no longer keeps, so that the sum fits.
         let _first = held.value.first();
         drain(&self.table.shared, &mut seat.seat, count);
     }
