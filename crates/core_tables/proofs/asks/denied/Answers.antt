@@ -28,5 +28,5 @@ returns-in-Commit c = λ row here is.
     ∙ (commit_denied set row c.work.result.now.work c.work.result.now.may_write c.unwritten.result
     (c.work.ensures.writes ∙ (ap (λ (a : Accesses). a.writes) declared ∙ ap (λ (h : Head). (txn_of set h.job.tx.0).writes) is))
     (c.work.ensures.work row here)
-    (c.unwritten.ensures ∙ ap (λ (l : List ItemDecl). unwritten_of l c.work.result.now.may_write c.work.result.now.work) c.items.ensures)
+    (c.unwritten.ensures.which ∙ ap (λ (l : List ItemDecl). unwritten_of l c.work.result.now.may_write c.work.result.now.work) c.items.ensures)
     ∙ ap (denied set row) (sym c.in-Commit.is))
