@@ -1,6 +1,6 @@
 use Rattle.std.proofs.Common.{rules, ◌≡◌, ◌+◌, ◌≤◌, [], length}
 use Rattle.entry_out.proofs.Taking.{second_fits}
-use Rattle.entry_out.proofs.tests.keeps_what_comes.Goals as goal
+use Rattle.base_tests.proofs.outs.keeps_what_comes.Goals as goal
 
 pub put-requires-2-clause-fine : goal.put-requires-2-clause-fine
 put-requires-2-clause-fine g c =

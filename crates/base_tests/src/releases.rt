@@ -1,8 +1,8 @@
 //! What no clause says: the jobs and ticks of releases by outside examples.
 ghost use Rattle.std.specs.Prelude.{◌≡◌};
 
-use crate::Releases;
 use rt_base::List;
+use scenario::Releases;
 use std::alloc::Global;
 use std::test::Fail;
 use txn_set::TxnDecl;

@@ -1,6 +1,6 @@
 //! The journal's happy path: what is drained, and what is left.
-use super::*;
 use rt_base::{OutOfMemory, TxId};
+use step_journal::{Entry, Journal};
 
 #[test]
 fn drains(rt: HostRuntime) -> Result<(), OutOfMemory> {

@@ -1,8 +1,8 @@
 //! What no clause says: outside examples of values, a script's operations from its first call on, and a script over more
 //! items than memory has places.
-use crate::{BinOp, Body, Expr, Script, ScriptOp};
 use rt_base::{ItemId, Op, Outcome};
 use std::test::Fail;
+use step_script::{BinOp, Body, Expr, Script, ScriptOp};
 
 #[test]
 fn values(rt: HostRuntime) -> Result<(), Fail> {

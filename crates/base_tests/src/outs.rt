@@ -1,6 +1,6 @@
 //! Pieces are kept in the order in which they come.
 
-use super::*;
+use entry_out::{EntryOut, KeptEntries};
 use rt_base::TxId;
 use std::test::Fail;
 use step_journal::Entry;

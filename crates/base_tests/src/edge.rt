@@ -2,7 +2,7 @@
 //! caller learns from the contracts alone.
 ghost use Rattle.std.specs.Prelude.{◌≡◌, IfOk, IsErrOf, length, ◌≤◌};
 
-use super::*;
+use io_edge::{MemSink, MemSource, ReadError, StdSink, StdSource, SureSource, read_all, write_all};
 use rt_base::OutOfMemory;
 use std::alloc::{AllocError, Global};
 use std::io::{self, ErrorKind, Read, Write};

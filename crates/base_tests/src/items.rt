@@ -1,5 +1,5 @@
 //! The items at the start and after an install.
-use super::*;
+use item_model::{ItemDecl, ItemKind, Items};
 use rt_base::{ItemId, OutOfMemory};
 
 #[test]

@@ -1,7 +1,7 @@
 //! What no clause says: outside examples, and each generic call at a concrete type.
 ghost use Rattle.std.specs.Prelude.{◌≡◌, ◌<◌, length};
 
-use super::*;
+use rt_base::{Looked, Name, OutOfMemory, RankSet, Steps};
 use std::marker::Brand;
 use std::sync::ledger::{Blank, Ledger};
 
