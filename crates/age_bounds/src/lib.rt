@@ -71,6 +71,3 @@ fn age_at(rows: &[AgeRow], known: &mut [Option<Tick>], row: usize, left: usize) 
     known[row] = Some(age);
     age
 }
-
-#[cfg(test)]
-mod tests;

@@ -188,6 +188,3 @@ impl Held {
         unseat(&mut self.rows, tx, &mut steps);
     }
 }
-
-#[cfg(test)]
-mod tests;

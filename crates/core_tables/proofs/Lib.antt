@@ -12,4 +12,3 @@ pub mod Refusals
 pub mod Places
 pub mod Arrived
 pub mod Effected
-pub mod SoloCompiled

@@ -4,4 +4,3 @@ pub mod Legal
 pub mod Changes
 pub mod Asks
 pub mod Arriving
-pub mod SoloSet

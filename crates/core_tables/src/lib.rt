@@ -13,6 +13,3 @@ mod tally;
 
 pub use tables::CoreTables;
 pub use tally::Tally;
-
-#[cfg(test)]
-mod tests;

@@ -26,6 +26,3 @@ pub fn dispatched<L: Ledger>(pending: RankSet, waits: &Waits, steps: &mut Steps<
     };
     Some(on)
 }
-
-#[cfg(test)]
-mod tests;

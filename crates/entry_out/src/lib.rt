@@ -6,6 +6,3 @@ mod out;
 
 pub use kept::{KeptEntries, append};
 pub use out::{EntryOut, Stopped};
-
-#[cfg(test)]
-mod tests;

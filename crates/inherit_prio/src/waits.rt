@@ -210,6 +210,3 @@ fn stop_waiting<L: Ledger>(
         left = left.without(rank);
     }
 }
-
-#[cfg(test)]
-mod tests;

@@ -28,6 +28,3 @@ impl Failed {
         Failed
     }
 }
-
-#[cfg(test)]
-mod tests;

@@ -9,6 +9,3 @@ mod stored;
 pub use decl::{ItemDecl, ItemKind};
 pub use items::Items;
 pub use stored::{OutsideRead, OwnWrite, Stored};
-
-#[cfg(test)]
-mod tests;

@@ -11,5 +11,3 @@ pub mod Protocols
 mod Opens
 mod Calls
 mod Questions
-mod TrioCompiled
-mod TrioSteps

@@ -2,4 +2,3 @@ pub mod Rows
 pub mod Waiting
 pub mod Deadlines
 pub mod Tables
-pub mod Trio

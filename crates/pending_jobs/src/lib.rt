@@ -10,6 +10,3 @@ mod ranks;
 
 pub use head::{Blocker, Head};
 pub use pending::Pending;
-
-#[cfg(test)]
-mod tests;

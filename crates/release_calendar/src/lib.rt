@@ -6,6 +6,3 @@ mod planned;
 mod queues;
 
 pub use calendar::Calendar;
-
-#[cfg(test)]
-mod tests;

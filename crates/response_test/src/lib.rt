@@ -93,6 +93,3 @@ fn demand_of(higher: &[RespRow], row: RespRow, ticks: Tick) -> u64
     }
     total
 }
-
-#[cfg(test)]
-mod tests;

@@ -21,6 +21,3 @@ pub use operation::{End, Op, Outcome};
 pub use rank_set::RankSet;
 pub use release::{PlanRefused, Plans, Release};
 pub use steps::Steps;
-
-#[cfg(test)]
-mod tests;

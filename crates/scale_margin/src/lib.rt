@@ -37,6 +37,3 @@ pub fn accepted_unless_barred()
 pub fn accepted_falls_once()
     ensures { AcceptedFallsOnce }
 {}
-
-#[cfg(test)]
-mod tests;

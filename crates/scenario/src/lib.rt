@@ -7,6 +7,3 @@ mod whole;
 
 pub use releases::Releases;
 pub use whole::Scenario;
-
-#[cfg(test)]
-mod tests;

@@ -38,6 +38,3 @@ pub fn admitted_unless_refused()
 pub fn admitted_keeps_bounds()
     ensures { AdmittedKeepsBounds }
 {}
-
-#[cfg(test)]
-mod tests;

@@ -9,6 +9,3 @@ mod journal;
 
 pub use entry::{EndedJob, Entry};
 pub use journal::Journal;
-
-#[cfg(test)]
-mod tests;

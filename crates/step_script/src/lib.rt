@@ -10,6 +10,3 @@ mod script;
 pub use body::Body;
 pub use expr::{BinOp, Expr};
 pub use script::{Script, ScriptOp};
-
-#[cfg(test)]
-mod tests;

@@ -9,6 +9,3 @@ mod work;
 
 pub use verdict::{ApartRead, CommitRefused, StaleRead};
 pub use work::Work;
-
-#[cfg(test)]
-mod tests;

@@ -31,6 +31,3 @@ pub fn compiled_unless_refused()
 pub fn kept_as_declared()
     ensures { KeptAsDeclared }
 {}
-
-#[cfg(test)]
-mod tests;

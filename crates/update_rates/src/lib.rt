@@ -36,6 +36,3 @@ pub fn periods_are_greatest()
 pub fn tight_unless_kept()
     ensures { TightUnlessKept }
 {}
-
-#[cfg(test)]
-mod tests;

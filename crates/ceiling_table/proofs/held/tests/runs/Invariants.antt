@@ -1,5 +1,0 @@
-use Rattle.std.proofs.Common.{◌≡◌, length}
-use Rattle.ceiling_table.proofs.held.tests.runs.Given as goal
-
-abbrev pub invariant-loop-row : goal.invariant-loop-row
-invariant-loop-row g l = (length l.held.prios ≡ 3) × (length l.held.ceilings ≡ 4)

@@ -1,8 +1,0 @@
-use Rattle.std.proofs.Common.{◌≡◌, ℕ, ◌+◌, ◌<◌, length, get_or}
-use Rattle.ceiling_table.proofs.held.tests.sixty_four.Given as goal
-
-abbrev pub invariant-loop-tx : goal.invariant-loop-tx
-invariant-loop-tx l = record {
-  size : length l.prios.items ≡ l.tx;
-  prios : (i : ℕ) → i < l.tx → get_or l.prios.items i 0 ≡ i + 1;
-}

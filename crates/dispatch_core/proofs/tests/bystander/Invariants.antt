@@ -1,4 +1,0 @@
-use Rattle.dispatch_core.proofs.tests.bystander.Given as goal
-
-abbrev pub ghosts-running : goal.ghosts-running
-ghosts-running g a = record { name = a.blank.name; parts = a.blank.parts }

@@ -1,4 +1,0 @@
-use Rattle.inherit_prio.proofs.waits.tests.change.Given as goal
-
-abbrev pub ghosts-may_block : goal.ghosts-may_block
-ghosts-may_block a = record { name = a.blank.name; parts = a.blank.parts }

@@ -1,0 +1,3 @@
+mod TrioCompiled
+mod TrioSteps
+mod TrioStands

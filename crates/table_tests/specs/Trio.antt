@@ -1,0 +1,57 @@
+-- A set for the tests: two readers and a writer of one state item, and rows of it.
+use Rattle.std.specs.Prelude.{ℕ, List, [], ◌∷◌, Option, None, Some, pos}
+use Rattle.rt_base.specs.declared.ids.ItemId.{ItemId}
+use Rattle.rt_base.specs.declared.ids.JobId.{JobId}
+use Rattle.item_model.specs.declared.decl.ItemKind.TheVariants.{State}
+use Rattle.item_model.specs.declared.decl.ItemDecl.{ItemDecl}
+use Rattle.item_model.specs.declared.stored.Stored.{Stored}
+use Rattle.txn_set.specs.declared.decl.TxnDecl.{TxnDecl}
+use Rattle.txn_set.specs.declared.decl.Ceilings.{Ceilings}
+use Rattle.txn_set.specs.Set.{Set}
+use Rattle.step_journal.specs.State.{Row, new_row}
+
+abbrev pub x : ItemId
+x = record { 0 = 0 }
+
+-- a transaction with its deadline at its period, no offset and no quiet step
+abbrev pub plain_txn : (prio period : ℕ) → List ItemId → List ItemId → TxnDecl
+plain_txn prio period reads writes =
+    record { prio = prio; period = period; offset = 0; deadline = period; steps = 4; quiet = 0; reads = reads; writes = writes }
+
+abbrev pub trio_items : List ItemDecl
+trio_items = record { kind = State; initial = pos 7 } ∷ []
+
+abbrev pub trio_txns : List TxnDecl
+trio_txns = plain_txn 3 20 (x ∷ []) [] ∷ plain_txn 2 20 (x ∷ []) [] ∷ plain_txn 1 40 [] (x ∷ []) ∷ []
+
+abbrev pub trio_ceilings : List Ceilings
+trio_ceilings = record { write = 1; absolute = 3 } ∷ []
+
+abbrev pub trio : Set
+trio = record { items = trio_items; txns = trio_txns; together = [] }
+
+abbrev pub first_job : ℕ → JobId
+first_job tx = record { tx = record { 0 = tx }; serial = 0 }
+
+abbrev pub trio_stored : List Stored
+trio_stored = record { value = pos 0; stamp = 0 } ∷ []
+
+abbrev pub no_rows : List (Option Row)
+no_rows = None ∷ None ∷ None ∷ []
+
+-- the writer has written
+abbrev pub written_row : Row
+written_row = record (new_row (first_job 2) 0) { used = 1; work = record { reads = []; writes = record { item = x; value = pos 9 } ∷ [] } }
+
+abbrev pub high_row : Row
+high_row = new_row (first_job 0) 1
+
+abbrev pub written_rows : List (Option Row)
+written_rows = Some high_row ∷ None ∷ Some written_row ∷ []
+
+-- the middle one has read, and the high one is released
+abbrev pub read_row : Row
+read_row = record (new_row (first_job 1) 0) { used = 1; work = record { reads = record { item = x; stamp = 0 } ∷ []; writes = [] } }
+
+abbrev pub read_rows : List (Option Row)
+read_rows = Some high_row ∷ Some read_row ∷ None ∷ []

@@ -1,0 +1,239 @@
+//! A job's reads, writes and commit: worked commits, and many beside a plain scan.
+ghost use Rattle.std.specs.Prelude.{◌≡◌, ◌<◌, [], ◌∷◌};
+
+use crate::draws::Draws;
+use item_model::{ItemDecl, ItemKind, Items, Stored};
+use rt_base::{ItemId, List, OutOfMemory, Tick, TogetherDecl, Value};
+use std::alloc::Global;
+use strict_commit::{ApartRead, CommitRefused, StaleRead, Work};
+
+const TEMP: ItemId = ItemId(0);
+
+const FLOW: ItemId = ItemId(1);
+
+const MEAN: ItemId = ItemId(2);
+
+const VALVE: ItemId = ItemId(3);
+
+const SENSOR: ItemDecl = ItemDecl {
+    kind: ItemKind::Sensor { validity: 20 },
+    initial: 0,
+};
+
+const DECLS: [ItemDecl; 4] = [
+    SENSOR,
+    SENSOR,
+    ItemDecl {
+        kind: ItemKind::Derived { validity: 20 },
+        initial: 0,
+    },
+    ItemDecl {
+        kind: ItemKind::State,
+        initial: 9,
+    },
+];
+
+// A relative set of two items.
+fn group(
+    alloc: Global,
+    first: ItemId,
+    second: ItemId,
+    within: Tick,
+) -> Result<TogetherDecl, OutOfMemory> {
+    let items = List::of(Vec::from_array(alloc, [first, second])?);
+    Ok(TogetherDecl { items, within })
+}
+
+// A job that was released at 10 reads the temperature and the flow with these stamps, writes their mean, and commits.
+#[test]
+fn commits(rt: HostRuntime) -> Result<(), OutOfMemory> {
+    let alloc = rt.alloc();
+    let together = [group(alloc, TEMP, FLOW, 5)?];
+    let before = Stored { value: 0, stamp: 0 };
+    let after = Stored { value: 4, stamp: 5 };
+    let temp_at_7 = CommitRefused::Stale(StaleRead {
+        item: TEMP,
+        stamp: 7,
+    });
+    let flow_at_5 = CommitRefused::Stale(StaleRead {
+        item: FLOW,
+        stamp: 5,
+    });
+    let temp_at_12 = CommitRefused::Stale(StaleRead {
+        item: TEMP,
+        stamp: 12,
+    });
+    let apart = CommitRefused::Apart(ApartRead { a: FLOW, b: TEMP });
+    for (temp, flow, at, ended, mean) in [
+        (7, 5, 20, Ok(()), after),
+        (7, 5, 28, Err(temp_at_7), before),
+        (9, 5, 26, Err(flow_at_5), before),
+        (12, 5, 20, Err(apart), before),
+        (12, 5, 33, Err(temp_at_12), before),
+    ] {
+        let mut items = Items::new(alloc, &DECLS)?;
+        let reads = Vec::from_array(alloc, [TEMP, FLOW])?;
+        let writes = Vec::from_array(alloc, [MEAN, VALVE])?;
+        let mut work = Work::new(alloc, reads, writes)?;
+        work.note_read(TEMP, temp);
+        work.note_read(FLOW, flow);
+        work.put(MEAN, 4);
+        assert!(rt; work.commit(&DECLS, &together, &mut items, 10, at) == ended);
+        assert!(rt; items.as_slice().get(2) == Some(&mean));
+    }
+    Ok(())
+}
+
+#[test]
+fn notes(rt: HostRuntime) -> Result<(), OutOfMemory> {
+    let reads = Vec::from_array(rt.alloc(), [TEMP, FLOW])?;
+    let writes = Vec::from_array(rt.alloc(), [MEAN, VALVE])?;
+    let mut work = Work::new(rt.alloc(), reads, writes)?;
+    assert_eq!(rt; work.unwritten(&DECLS), Some(MEAN));
+    work.put(MEAN, 4);
+    work.put(VALVE, 1);
+    work.put(MEAN, 5);
+    assert_eq!(rt; work.value_of(MEAN), Some(5));
+    assert_eq!(rt; work.unwritten(&DECLS), None);
+    work.clear();
+    assert_eq!(rt; work.value_of(VALVE), None);
+    Ok(())
+}
+
+// A job of the plain scan may read the temperature, the flow and the mean, and write the mean and the valve: the stamps of
+// its reads, and the values of its writes.
+#[derive(Clone, Copy)]
+struct Plain {
+    reads: [Option<Tick>; 3],
+    writes: [Option<Value>; 2],
+}
+
+// No read is older than 20 ticks, in the order of the declared reads.
+fn stale(plain: &Plain, at: Tick) -> Option<CommitRefused> {
+    for place in 0..3 {
+        if let Some(stamp) = plain.reads[place as usize] {
+            if at.saturating_sub(stamp) > 20 {
+                let item = ItemId(place);
+                return Some(CommitRefused::Stale(StaleRead { item, stamp }));
+            }
+        }
+    }
+    None
+}
+
+// Temperature and flow lie within 6, and flow and mean within 8.
+fn apart(plain: &Plain) -> Option<CommitRefused> {
+    for (place, within) in [6, 8].iter().enumerate() {
+        let (first, second) = (plain.reads[place], plain.reads[place + 1]);
+        if let (Some(one), Some(other)) = (first, second) {
+            let (a, b) = (ItemId(place as u32), ItemId(place as u32 + 1));
+            if other.saturating_sub(one) > *within {
+                return Some(CommitRefused::Apart(ApartRead { a, b }));
+            }
+            if one.saturating_sub(other) > *within {
+                return Some(CommitRefused::Apart(ApartRead { a: b, b: a }));
+            }
+        }
+    }
+    None
+}
+
+fn committed(
+    plain: &Plain,
+    items: &mut [Stored; 4],
+    release: Tick,
+    at: Tick,
+) -> Result<(), CommitRefused> {
+    if let Some(refused) = stale(plain, at).or(apart(plain)) {
+        return Err(refused);
+    }
+    let mut oldest = None;
+    for read in 0..3 {
+        if let Some(stamp) = plain.reads[read] {
+            oldest = Some(stamp.min(oldest.unwrap_or(stamp)));
+        }
+    }
+    if let Some(value) = plain.writes[0] {
+        let stamp = oldest.unwrap_or(release);
+        items[2] = Stored { value, stamp };
+    }
+    if let Some(value) = plain.writes[1] {
+        let stamp = release;
+        items[3] = Stored { value, stamp };
+    }
+    Ok(())
+}
+
+// A note of both.
+fn note(work: &mut Work, plain: &mut Plain, what: usize, stamp: Tick, value: Value)
+    requires what { what < 5 }
+    requires reads { work.old.may_read ≡ TEMP ∷ FLOW ∷ MEAN ∷ [] }
+    requires writes { work.old.may_write ≡ MEAN ∷ VALVE ∷ [] }
+    ensures reads { work.new.may_read ≡ work.old.may_read }
+    ensures writes { work.new.may_write ≡ work.old.may_write }
+{
+    match what {
+        0 => work.note_read(TEMP, stamp),
+        1 => work.note_read(FLOW, stamp),
+        2 => work.note_read(MEAN, stamp),
+        3 => work.put(MEAN, value),
+        _ => work.put(VALVE, value),
+    }
+    if what < 3 {
+        plain.reads[what] = plain.reads[what].or(Some(stamp));
+    } else {
+        plain.writes[what - 3] = Some(value);
+    }
+}
+
+// Some notes of a job, on both: whether they tell the same after each.
+fn noted(work: &mut Work, plain: &mut Plain, draws: &mut Draws, release: Tick) -> bool
+    requires reads { work.old.may_read ≡ TEMP ∷ FLOW ∷ MEAN ∷ [] }
+    requires writes { work.old.may_write ≡ MEAN ∷ VALVE ∷ [] }
+    ensures reads { work.new.may_read ≡ work.old.may_read }
+    ensures writes { work.new.may_write ≡ work.old.may_write }
+{
+    let mut same = true;
+    for value in 0..draws.below(8) {
+        let what = draws.below(5) as usize;
+        let stamp = release.saturating_sub(draws.below(12));
+        note(work, plain, what, stamp, value as Value);
+        same = same
+            && work.value_of(MEAN) == plain.writes[0]
+            && work.value_of(VALVE) == plain.writes[1]
+            && work.unwritten(&DECLS).is_none() == plain.writes[0].is_some();
+    }
+    same
+}
+
+#[test]
+fn beside_a_plain_scan(rt: HostRuntime) -> Result<(), OutOfMemory> {
+    let alloc = rt.alloc();
+    let reads = Vec::from_array(alloc, [TEMP, FLOW, MEAN])?;
+    let writes = Vec::from_array(alloc, [MEAN, VALVE])?;
+    let mut work = Work::new(alloc, reads, writes)?;
+    let mut items = Items::new(alloc, &DECLS)?;
+    let together = [group(alloc, TEMP, FLOW, 6)?, group(alloc, FLOW, MEAN, 8)?];
+    let mut stored = [Stored { value: 0, stamp: 0 }; 4];
+    stored[3].value = 9;
+    let mut draws = Draws { state: 1 };
+    let mut release = 30;
+    for call in 0..300 {
+        work.clear();
+        let mut plain = Plain {
+            reads: [None; 3],
+            writes: [None; 2],
+        };
+        let told = noted(&mut work, &mut plain, &mut draws, release);
+        assert!(rt; told, "call {call}");
+        let at = release.saturating_add(draws.below(16));
+        let ended = work.commit(&DECLS, &together, &mut items, release, at);
+        assert!(rt;
+            ended == committed(&plain, &mut stored, release, at),
+            "call {call}"
+        );
+        assert!(rt; items.as_slice() == stored.as_slice(), "call {call}");
+        release = release.saturating_add(draws.below(9));
+    }
+    Ok(())
+}

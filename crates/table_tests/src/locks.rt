@@ -1,0 +1,245 @@
+//! Locks: worked runs at a concrete ledger, and many calls beside a plain scan.
+ghost use Rattle.std.specs.Prelude.{◌≡◌, ℕ, ◌+◌, ◌<◌, length, slice_index_or, IfOk};
+
+use crate::draws::Draws;
+use ceiling_table::{Above, CeilRow, Held, LockKind};
+use rt_base::{ItemId, Looked, Op, OutOfMemory, Prio, Steps, TxId};
+use std::alloc::Global;
+use std::marker::Brand;
+use std::mem::size_of;
+use std::sync::ledger::{Blank, Ledger};
+
+// A further field would need more room.
+#[test]
+fn fields(rt: HostRuntime) {
+    let declared = size_of::<Looked<CeilRow>>() + size_of::<Looked<Prio>>();
+    let held = size_of::<Looked<LockKind>>() + size_of::<Looked<Above>>();
+    assert_eq!(rt; size_of::<Held>(), declared + held);
+}
+
+fn asked<L: Ledger>(held: &Held, tx: TxId, blank: Blank) -> Result<(), Above>
+    requires name { blank.name ≡ L.name }
+    requires parts { blank.parts ≡ L.parts }
+    requires one_part { blank.parts ≡ 1 }
+    requires tx { tx.0 < length held.now.prios }
+{
+    let mut steps = Steps::<L>::start(blank);
+    held.grantable(tx, &mut steps)
+}
+
+const ITEMS: [CeilRow; 4] = [
+    CeilRow {
+        write: 3,
+        absolute: 3,
+    },
+    CeilRow {
+        write: 2,
+        absolute: 2,
+    },
+    CeilRow {
+        write: 1,
+        absolute: 3,
+    },
+    CeilRow {
+        write: 0,
+        absolute: 2,
+    },
+];
+
+const PRIOS: [Prio; 3] = [3, 2, 1];
+
+// Nothing is locked, of these items and of transactions with these priorities.
+fn unlocked(alloc: Global) -> Result<Held, OutOfMemory>
+    ensures items { IfOk result (λ h. length h.ceilings ≡ 4) }
+    ensures txns { IfOk result (λ h. length h.prios ≡ 3) }
+{
+    let items = Vec::from_array(alloc, ITEMS)?;
+    let prios = Vec::from_array(alloc, PRIOS)?;
+    Held::new(alloc, items, prios)
+}
+
+// A lock that is added, or the end of a job for Free.
+fn act(held: &mut Held, what: LockKind, tx: u32, item: u32)
+    requires txns { length held.old.prios ≡ 3 }
+    requires items { length held.old.ceilings ≡ 4 }
+    requires given { (tx < 3) × (item < 4) }
+    ensures prios { held.new.prios ≡ held.old.prios }
+    ensures ceilings { held.new.ceilings ≡ held.old.ceilings }
+{
+    match what {
+        LockKind::Read => held.lock_read(TxId(tx), ItemId(item)),
+        LockKind::Write => held.lock_write(TxId(tx), ItemId(item)),
+        LockKind::Free => held.release_all(TxId(tx)),
+    }
+}
+
+// The locks of three runs, in their order; each is asked for, and added where it is granted. The first is of a sampler, a
+// controller and a logger, which write the temperature (item 0); read it and write the valve (item 1); and read both. In
+// the others the first and the second read an item (item 2) that the third may write, and then that the third has written.
+#[test]
+fn runs(rt: HostRuntime) -> Result<(), OutOfMemory> {
+    let (reads, writes, ends) = (LockKind::Read, LockKind::Write, LockKind::Free);
+    let by_third = Err(Above {
+        holder: TxId(2),
+        ceiling: 3,
+    });
+    let mut held = unlocked(rt.alloc())?;
+    for (row, tx, what, item, want) in [
+        ("first sample", 0, writes, 0, Ok(())),
+        ("it ends", 0, ends, 0, Ok(())),
+        ("control reads", 1, reads, 0, Ok(())),
+        ("own locks do not count", 1, writes, 1, Ok(())),
+        ("it ends", 1, ends, 0, Ok(())),
+        ("logger reads", 2, reads, 0, Ok(())),
+        ("own locks do not count", 2, reads, 1, Ok(())),
+        ("an equal ceiling refuses", 0, writes, 0, by_third),
+        ("logger ends", 2, ends, 0, Ok(())),
+        ("second sample", 0, writes, 0, Ok(())),
+        ("it ends", 0, ends, 0, Ok(())),
+        ("third sample", 0, writes, 0, Ok(())),
+        ("it ends", 0, ends, 0, Ok(())),
+        ("control reads", 1, reads, 0, Ok(())),
+        ("own locks do not count", 1, writes, 1, Ok(())),
+        ("it ends", 1, ends, 0, Ok(())),
+        ("fourth sample", 0, writes, 0, Ok(())),
+        ("it ends", 0, ends, 0, Ok(())),
+        ("the second reads", 1, reads, 2, Ok(())),
+        ("readers share", 0, reads, 2, Ok(())),
+        ("the first ends", 0, ends, 0, Ok(())),
+        ("the second ends", 1, ends, 0, Ok(())),
+        ("the third writes", 2, writes, 2, Ok(())),
+        ("a write lock refuses", 0, reads, 2, by_third),
+        ("the third ends", 2, ends, 0, Ok(())),
+        ("the first reads", 0, reads, 2, Ok(())),
+    ] {
+        assert!(rt; tx < 3 && item < 4);
+        let answer = if what == ends {
+            Ok(())
+        } else {
+            asked::<Brand>(&held, TxId(tx), Blank::new(1))
+        };
+        assert!(rt; answer == want, "{row}");
+        if answer.is_ok() {
+            act(&mut held, what, tx, item);
+        }
+    }
+    Ok(())
+}
+
+// The ceiling of a lock of this kind on the item.
+fn ceiling(kind: LockKind, item: usize) -> Option<Prio>
+    requires { item < 4 }
+{
+    match kind {
+        LockKind::Free => None,
+        LockKind::Read => Some(ITEMS[item].write),
+        LockKind::Write => Some(ITEMS[item].absolute),
+    }
+}
+
+// The greatest ceiling of a transaction's locks.
+fn greatest(locks: &[[LockKind; 4]; 3], tx: usize) -> Option<Prio>
+    requires { tx < 3 }
+{
+    let mut top = None;
+    for item in 0..4 {
+        top = top.max(ceiling(locks[tx][item], item));
+    }
+    top
+}
+
+// The greatest ceiling of a lock of another, with the highest holder of a lock with it: the holders stand in falling priority.
+fn refusal(locks: &[[LockKind; 4]; 3], tx: usize) -> Result<(), Above>
+    requires { tx < 3 }
+{
+    let mut top = None;
+    let mut holder = 0;
+    for other in 0..3 {
+        let of_other = greatest(locks, other as usize);
+        if other as usize != tx && of_other > top {
+            top = of_other;
+            holder = other;
+        }
+    }
+    match top {
+        Some(ceiling) if ceiling >= PRIOS[tx] => Err(Above {
+            holder: TxId(holder),
+            ceiling,
+        }),
+        _ => Ok(()),
+    }
+}
+
+// Whether both answer alike what one may ask of a transaction and an item.
+fn alike(held: &Held, locks: &[[LockKind; 4]; 3], tx: u32, item: u32) -> bool
+    requires txns { length held.now.prios ≡ 3 }
+    requires items { length held.now.ceilings ≡ 4 }
+    requires asked { (tx < 3) × (item < 4) }
+{
+    let id = TxId(tx);
+    let kind = locks[tx as usize][item as usize];
+    asked::<Brand>(held, id, Blank::new(1)) == refusal(locks, tx as usize)
+        && held.ceiling_of(id) == greatest(locks, tx as usize).unwrap_or(0)
+        && held.needs(id, Op::Read(ItemId(item))) == (kind == LockKind::Free)
+        && held.needs(id, Op::Write(ItemId(item), 1)) == (kind != LockKind::Write)
+}
+
+#[test]
+fn beside_a_plain_scan(rt: HostRuntime) -> Result<(), OutOfMemory> {
+    let mut held = unlocked(rt.alloc())?;
+    let mut locks = [[LockKind::Free; 4]; 3];
+    let mut draws = Draws { state: 1 };
+    for call in 0..400 {
+        let what = draws.below(4);
+        let tx = draws.below(3) as u32;
+        let item = draws.below(4) as u32;
+        let was = locks[tx as usize][item as usize];
+        let kind = if what == 0 {
+            LockKind::Write
+        } else if what == 1 {
+            LockKind::Free
+        } else {
+            LockKind::Read
+        };
+        act(&mut held, kind, tx, item);
+        if kind == LockKind::Free {
+            locks[tx as usize] = [LockKind::Free; 4];
+        } else if was != LockKind::Write {
+            locks[tx as usize][item as usize] = kind;
+        }
+        for other in 0..3 {
+            assert!(rt; alike(&held, &locks, other, item), "call {call}");
+        }
+    }
+    Ok(())
+}
+
+fn sixty_four(alloc: Global) -> Result<Vec<Prio>, OutOfMemory>
+    ensures size { IfOk result (λ prios. length prios.items ≡ 64) }
+    ensures prios { IfOk result (λ prios. (i : ℕ) → i < 64 → slice_index_or prios.items i 0 ≡ i + 1) }
+{
+    let mut prios = Vec::new(alloc);
+    for tx in 0..64 {
+        prios.push(tx + 1)?;
+    }
+    Ok(prios)
+}
+
+// As many transactions as there may be hold read locks with the ceiling 0.
+#[test]
+fn ranks(rt: HostRuntime) -> Result<(), OutOfMemory> {
+    let alloc = rt.alloc();
+    let only_read = CeilRow {
+        write: 0,
+        absolute: 64,
+    };
+    let items = Vec::from_array(alloc, [only_read])?;
+    let prios = sixty_four(alloc)?;
+    let mut held = Held::new(alloc, items, prios)?;
+    for tx in 0..64 {
+        held.lock_read(TxId(tx), ItemId(0));
+    }
+    assert!(rt; asked::<Brand>(&held, TxId(0), Blank::new(1)) == Ok(()));
+    assert_eq!(rt; held.ceiling_of(TxId(63)), 0);
+    Ok(())
+}

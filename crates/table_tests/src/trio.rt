@@ -1,0 +1,85 @@
+//! Two readers and a writer of one state item.
+ghost use Rattle.std.specs.Prelude.{◌≡◌, IfOk};
+ghost use Rattle.table_tests.specs.Trio.{trio as trio_of, trio_items, trio_txns, trio_ceilings, plain_txn};
+
+use item_model::{ItemDecl, ItemKind};
+use rt_base::{ItemId, List, OutOfMemory, Prio, Tick};
+use std::alloc::Global;
+use txn_set::{Ceilings, CompiledSet, TxnDecl};
+
+fn ids(alloc: Global, items: &[ItemId]) -> Result<List<ItemId>, OutOfMemory>
+    ensures { IfOk result (λ l. l ≡ items.now) }
+{
+    let mut list = Vec::new(alloc);
+    list.extend_from_slice(items)?;
+    Ok(List::of(list))
+}
+
+fn txn(
+    alloc: Global,
+    prio: Prio,
+    period: Tick,
+    reads: &[ItemId],
+    writes: &[ItemId],
+) -> Result<TxnDecl, OutOfMemory>
+    ensures { IfOk result (λ t. t ≡ plain_txn prio period reads.now writes.now) }
+{
+    let reads = ids(alloc, reads)?;
+    let writes = ids(alloc, writes)?;
+    Ok(TxnDecl {
+        prio,
+        period,
+        offset: 0,
+        deadline: period,
+        steps: 4,
+        quiet: 0,
+        reads,
+        writes,
+    })
+}
+
+fn items(alloc: Global) -> Result<Vec<ItemDecl>, OutOfMemory>
+    ensures { IfOk result (λ v. v.items ≡ trio_items) }
+{
+    let mut items = Vec::new(alloc);
+    items.push(ItemDecl {
+        kind: ItemKind::State,
+        initial: 7,
+    })?;
+    Ok(items)
+}
+
+fn txns(alloc: Global) -> Result<Vec<TxnDecl>, OutOfMemory>
+    ensures { IfOk result (λ v. v.items ≡ trio_txns) }
+{
+    let high = txn(alloc, 3, 20, &[ItemId(0)], &[])?;
+    let middle = txn(alloc, 2, 20, &[ItemId(0)], &[])?;
+    let low = txn(alloc, 1, 40, &[], &[ItemId(0)])?;
+    let mut txns = Vec::new(alloc);
+    txns.push(high)?;
+    txns.push(middle)?;
+    txns.push(low)?;
+    Ok(txns)
+}
+
+fn ceilings(alloc: Global) -> Result<Vec<Ceilings>, OutOfMemory>
+    ensures { IfOk result (λ v. v.items ≡ trio_ceilings) }
+{
+    let mut ceilings = Vec::new(alloc);
+    ceilings.push(Ceilings {
+        write: 1,
+        absolute: 3,
+    })?;
+    Ok(ceilings)
+}
+
+/// The compiled set.
+pub fn trio(alloc: Global) -> Result<CompiledSet, OutOfMemory>
+    ensures { IfOk result (λ s. s ≡ trio_of) }
+{
+    let items = items(alloc)?;
+    let txns = txns(alloc)?;
+    let ceilings = ceilings(alloc)?;
+    let together = Vec::new(alloc);
+    Ok(CompiledSet::of(items, txns, together, ceilings))
+}
