@@ -109,13 +109,19 @@ fn rates_against_list_order(rt: HostRuntime) -> Result<(), RateError> {
     Ok(())
 }
 
+// The second updater has no deadline, also where the first takes all of the processor and the cap is 2^30.
 #[test]
 fn too_tight(rt: HostRuntime) {
-    let (b, demand) = (TxId(1), 3);
-    let items = [sensor(4), sensor(4)];
-    let rows = [updater(&[0], 1), updater(&[1], 2)];
-    let planned = plan(rt.alloc(), &items, &rows);
-    assert_eq!(rt; planned.err(), Some(RateError::TooTight { tx: b, demand }));
+    let tx = TxId(1);
+    for (validities, steps, demand) in [
+        ([4, 4], [1, 2], 3),
+        ([4, 2147483648], [2, 5], 1073741829),
+    ] {
+        let items = [sensor(validities[0]), sensor(validities[1])];
+        let rows = [updater(&[0], steps[0]), updater(&[1], steps[1])];
+        let planned = plan(rt.alloc(), &items, &rows);
+        assert_eq!(rt; planned.err(), Some(RateError::TooTight { tx, demand }));
+    }
 }
 
 // A sampler, a controller and a logger over a sensor and a state item.
