@@ -40,13 +40,15 @@ fn rates_of_three(rt: HostRuntime) -> Result<(), OutOfMemory> {
     Ok(())
 }
 
-// Of two updaters the second is too tight; a sampler, a controller and a logger, of which the controller is no updater; an
-// item without a writer.
+// Of two updaters the second is too tight, also where the first takes all of the processor and the cap is 2^30; a sampler, a
+// controller and a logger, of which the controller is no updater; an item without a writer.
 #[test]
 fn refusals(rt: HostRuntime) -> Result<(), OutOfMemory> {
     let alloc = rt.alloc();
     let tight = [txn(1, 1, 1, &[], &[0]), txn(1, 1, 2, &[], &[1])];
     let tight = planned(alloc, &[sensor(4), sensor(4)], &tight)?;
+    let full = [txn(1, 1, 2, &[], &[0]), txn(1, 1, 5, &[], &[1])];
+    let full = planned(alloc, &[sensor(4), sensor(2147483648)], &full)?;
     let plant = [
         txn(1, 1, 2, &[], &[0]),
         txn(1, 1, 4, &[0], &[1]),
@@ -55,9 +57,11 @@ fn refusals(rt: HostRuntime) -> Result<(), OutOfMemory> {
     let plant = planned(alloc, &[sensor(20), STATE], &plant)?;
     let lone = planned(alloc, &[sensor(10), sensor(12)], &[txn(1, 1, 1, &[], &[0])])?;
     let tx = TxId(1);
+    let demand = 1073741829;
     let no_writer = CompileError::NoWriter { item: ItemId(1) };
     for (found, want) in [
         (tight, RateError::TooTight { tx, demand: 3 }),
+        (full, RateError::TooTight { tx, demand }),
         (plant, RateError::NotAnUpdater { tx }),
         (lone, RateError::Compile(no_writer)),
     ] {

@@ -1,12 +1,12 @@
 -- The deadlines by levels: with as many levels as updaters, each deadline is the least window by the earlier deadlines.
-use Rattle.std.proofs.Common.{◌≡◌, ℕ, zero, suc, ◌+◌, ◌*◌, ◌<◌, ◌≤◌, Bool, true, false, leb, cond, List, length, Option, Some, refl, ap, ⊎_elim, arith}
+use Rattle.std.proofs.Common.{◌≡◌, ℕ, zero, suc, ◌+◌, ◌*◌, ◌<◌, ◌≤◌, Bool, true, false, leb, List, length, ap, ⊎_elim, arith}
 use Rattle.std.specs.List.{filter, range_with_len, sum_by}
 use Rattle.std.specs.Int.{div_ceil}
 use Rattle.std.proofs.Math.Nat.{mul-le-mul_left, mul-le-mul_right}
 use Rattle.std.proofs.lemmas.Grind.{div_ceil_times}
 use Rattle.std.proofs.lemmas.Bool.{cases_lt, cases_Bool}
 use Rattle.std.proofs.lemmas.List.Sums.{sum_by-cons}
-use Rattle.response_test.specs.Response.{least_from}
+use Rattle.response_test.proofs.Least.{least_from-same}
 use Rattle.update_rates.specs.declared.updaters.Updater.{Updater}
 use Rattle.update_rates.specs.Updaters.{updater_at}
 use Rattle.update_rates.specs.Rates.{is_earlier, place_of, load, cap, least_window, period_after, deadline_by, deadline}
@@ -44,20 +44,6 @@ shorter s t w some le =
     (λ fine. fine)
     (cases_lt (div_ceil w s) (div_ceil w t))
 
--- and a longer window holds more beginnings
-longer : (t v w : ℕ) → 1 ≤ t → v ≤ w → div_ceil v t ≤ div_ceil w t
-longer t v w some le =
-    ⊎_elim
-    (λ (more : div_ceil w t < div_ceil v t).
-    let up : div_ceil w t + 1 ≤ div_ceil v t = omega arith in
-    let a : (div_ceil w t + 1) * t ≤ div_ceil v t * t = mul-le-mul_right t up in
-    let pt : 0 < t = omega arith in
-    let from = div_ceil_times v t pt in
-    let to = div_ceil_times w t pt in
-    absurd (omega (arith, a, from.1, to.0)))
-    (λ fine. fine)
-    (cases_lt (div_ceil w t) (div_ceil v t))
-
 -- with longer periods of the earlier updaters the load is no greater
 pub load-le : (us : List Updater) (f g : ℕ → ℕ) (tx w : ℕ) → ((h : ℕ) → h < length us → is_earlier us h tx ≡ true → (1 ≤ f h) × (f h ≤ g h)) → load us g tx w ≤ load us f tx w
 unfolding load
@@ -66,14 +52,6 @@ load-le us f g tx w le =
     (λ h low high first.
     let both = le h (omega arith) first in
     mul-le-mul_right (updater_at us h).steps (shorter (f h) (g h) w both.0 both.1)) in
-    omega (arith, sum)
-
--- the load grows with the window
-pub load-mono : (us : List Updater) (f : ℕ → ℕ) (tx v w : ℕ) → ((h : ℕ) → h < length us → is_earlier us h tx ≡ true → 1 ≤ f h) → v ≤ w → load us f tx v ≤ load us f tx w
-unfolding load
-load-mono us f tx v w some le =
-    let sum = sum-le (λ h. is_earlier us h tx) (λ h. div_ceil v (f h) * (updater_at us h).steps) (λ h. div_ceil w (f h) * (updater_at us h).steps) 0 (length us)
-    (λ h low high first. mul-le-mul_right (updater_at us h).steps (longer (f h) v w (some h (omega arith) first) le)) in
     omega (arith, sum)
 
 -- the load is by the periods of the earlier updaters alone
@@ -87,10 +65,6 @@ load-same us f g tx w same =
     let down = sum-le (λ h. is_earlier us h tx) (λ h. div_ceil w (g h) * (updater_at us h).steps) (λ h. div_ceil w (f h) * (updater_at us h).steps) 0 (length us)
     (λ h low high first. omega (arith, term h (omega arith) first)) in
     omega (arith, up, down)
-
-pub least_from-same : (p q : ℕ → Bool) (first n : ℕ) → ((v : ℕ) → p v ≡ q v) → least_from p first n ≡ least_from q first n
-least_from-same p q first zero same = refl
-least_from-same p q first (suc n) same = rw (same first) (ap (λ (o : Option ℕ). cond (q first) (Some first) o) (least_from-same p q (suc first) n same))
 
 least_window-same : (us : List Updater) (f g : ℕ → ℕ) (tx : ℕ) → ((h : ℕ) → h < length us → is_earlier us h tx ≡ true → f h ≡ g h) → least_window us f tx ≡ least_window us g tx
 unfolding least_window

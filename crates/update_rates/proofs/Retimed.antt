@@ -16,7 +16,7 @@ use Rattle.update_rates.specs.declared.error.RateError.TheVariants.{NotAnUpdater
 use Rattle.update_rates.specs.Updaters.{updater_validity, updater_of, updaters}
 use Rattle.update_rates.specs.RatedSet.{with_rate, txns_with, set_with, list_rate, plain_set}
 use Rattle.update_rates.specs.Refusal.{is_other, not_an_updater}
-use Rattle.update_rates.proofs.Levels.{least_from-same}
+use Rattle.response_test.proofs.Least.{least_from-same}
 
 pub with-length : (rates : ℕ → Rate) (txns : List TxnDecl) → length (txns_with rates txns) ≡ length txns
 with-length rates txns = length-map-range_with_len (λ tx. with_rate (rates tx) (get_or txns tx no_txn)) 0 (length txns)

@@ -1,17 +1,18 @@
--- What the search for a deadline knows of the windows that it has passed.
-use Rattle.std.proofs.Common.{◌≡◌, ℕ, ◌+◌, ◌*◌, ◌<◌, ◌≤◌, List, length, get_or, None, Some, arith, ◌∙◌, ap, ⊎_elim}
+-- What the loops over the updaters begin with, and the deadline as the least window of loads.
+use Rattle.std.proofs.Common.{◌≡◌, ℕ, ◌+◌, ◌*◌, ◌<◌, ◌≤◌, ◌^◌, List, [], true, length, get_or, leb, arith, ◌∙◌, ap, sym}
 use Rattle.std.specs.List.{filter, sum_by}
 use Rattle.std.specs.Int.{div_ceil}
-use Rattle.std.proofs.lemmas.Bool.{cases_lt, lt-leb, le-leb}
-use Rattle.response_test.proofs.Least.{least_from-found, least_from-none}
+use Rattle.response_test.specs.declared.windows.Load.{Load}
+use Rattle.response_test.specs.Loads.{uses, window}
+use Rattle.response_test.proofs.Least.{least_from-same}
 use Rattle.update_rates.specs.declared.updaters.Updater.{Updater}
 use Rattle.update_rates.specs.declared.rates.Rate.{Rate}
 use Rattle.update_rates.specs.Updaters.{updater_at}
 use Rattle.update_rates.specs.Rates.{is_earlier, place_of, load, cap, least_window, deadline, period}
-use Rattle.update_rates.specs.Turns.{IsRated, AreRatedBefore}
-use Rattle.update_rates.proofs.Levels.{load-mono, deadlines-are-least}
+use Rattle.update_rates.specs.Turns.{IsRated, StandForEarlier}
+use Rattle.update_rates.proofs.Levels.{deadlines-are-least}
 use Rattle.update_rates.proofs.Greatest.{deadline-is, period-is}
-use Rattle.update_rates.proofs.Ranges.{rest_of, rest-start}
+use Rattle.update_rates.proofs.Ranges.{rest_of, rest-start, sum-passes}
 
 -- the loops over the updaters begin with all numbers
 
@@ -30,11 +31,6 @@ load-starts us tx ticks =
     let e = ap (λ (xs : List ℕ). sum_by (term_of us ticks) (filter (λ h. is_earlier us h tx) xs)) (rest-start (length us)) in
     omega (arith, e)
 
--- no window below this one holds its load
-pub record IsBelow (us : List Updater) (tx ticks : ℕ) : Type 0 where
-  pub some : 1 ≤ ticks
-  pub below : (w : ℕ) → w < ticks → w < load us (period us) tx w
-
 pub rated-period : (us : List Updater) (rates : List Rate) (h : ℕ) → h < length us → IsRated us rates h → 1 ≤ period us h
 rated-period us rates h inside r = (period-is us h _ (deadline-is us h _ inside r.found)).some
 
@@ -46,33 +42,24 @@ no_rate = record { prio = 0; period = 0; deadline = 0 }
 pub period-at : (us : List Updater) (rates : List Rate) (h : ℕ) (d : Rate) → IsRated us rates h → (get_or rates h d).period ≡ period us h
 period-at us rates h d r = ap (λ (rate : Rate). rate.period) (r.rate d)
 
-pub below-first : (us : List Updater) (tx : ℕ) → 1 ≤ (updater_at us tx).steps → IsBelow us tx (updater_at us tx).steps
-unfolding load
-below-first us tx some = record { some = some; below = λ w less. omega arith }
+-- the loads that the loop begins with, and one more
+pub loads-start : (us : List Updater) (tx w : ℕ) (loads : List Load) → loads ≡ [] → (updater_at us tx).steps + uses w loads + sum_by (term_of us w) (filter (λ h. is_earlier us h tx) (rest_of 0 (length us))) ≡ load us (period us) tx w
+loads-start us tx w loads e = rw e (omega (arith, load-starts us tx w))
 
-pub below-next : (us : List Updater) (rates : List Rate) (tx ticks : ℕ) → AreRatedBefore us rates tx → IsBelow us tx ticks → ticks < load us (period us) tx ticks → IsBelow us tx (load us (period us) tx ticks)
-below-next us rates tx ticks rated h grows = record {
-  some = omega (arith, h.some);
-  below =
-      λ w less.
-      ⊎_elim
-      (λ (early : w < ticks). h.below w early)
-      (λ (late : ticks ≤ w).
-      omega (arith, load-mono us (period us) tx ticks w (λ g inside first. rated-period us rates g inside (rated.each g inside first)) late))
-      (cases_lt w ticks);
-}
+pub rated-row : (us : List Updater) (rates : List Rate) (h : ℕ) (d : Rate) → h < length us → IsRated us rates h → (1 ≤ (get_or rates h d).period) × ((get_or rates h d).period ≤ 2 ^ 30)
+rated-row us rates h d inside r =
+    let p = period-is us h _ (deadline-is us h _ inside r.found) in
+    (omega (arith, p.some, period-at us rates h d r), omega (arith, p.few, period-at us rates h d r))
 
-window-found : (us : List Updater) (tx ticks : ℕ) → IsBelow us tx ticks → ticks ≤ cap us tx → load us (period us) tx ticks ≤ ticks → least_window us (period us) tx ≡ Some ticks
-unfolding least_window
-window-found us tx ticks h within fits =
-    least_from-found _ 1 (cap us tx) ticks h.some (omega arith) (λ w low less. lt-leb _ _ (h.below w less)) (le-leb _ _ fits)
+pub loads-more : (us : List Updater) (rates : List Rate) (tx other w : ℕ) (loads more : List Load) → other < length us → is_earlier us other tx ≡ true → IsRated us rates other → uses w more ≡ uses w loads + div_ceil w (get_or rates other no_rate).period * (updater_at us other).steps
+    → (updater_at us tx).steps + uses w loads + sum_by (term_of us w) (filter (λ h. is_earlier us h tx) (rest_of other (length us))) ≡ load us (period us) tx w → (updater_at us tx).steps + uses w more + sum_by (term_of us w) (filter (λ h. is_earlier us h tx) (rest_of (other + 1) (length us))) ≡ load us (period us) tx w
+loads-more us rates tx other w loads more inside passes r one is =
+    let term : div_ceil w (get_or rates other no_rate).period * (updater_at us other).steps ≡ term_of us w other = ap (λ (t : ℕ). div_ceil w t * (updater_at us other).steps) (period-at us rates other no_rate r) in
+    omega (arith, one, sum-passes (λ h. is_earlier us h tx) (term_of us w) other (length us) ((updater_at us tx).steps + uses w loads) (load us (period us) tx w) _ inside passes term is)
 
-window-none : (us : List Updater) (tx ticks : ℕ) → IsBelow us tx ticks → cap us tx < ticks → least_window us (period us) tx ≡ None
-unfolding least_window
-window-none us tx ticks h past = least_from-none _ 1 (cap us tx) (λ w low less. lt-leb _ _ (h.below w (omega arith)))
-
-pub found : (us : List Updater) (tx ticks : ℕ) → tx < length us → IsBelow us tx ticks → ticks ≤ cap us tx → load us (period us) tx ticks ≤ ticks → deadline us tx ≡ Some ticks
-found us tx ticks inside h within fits = deadlines-are-least us tx inside ∙ window-found us tx ticks h within fits
-
-pub none : (us : List Updater) (tx ticks : ℕ) → tx < length us → IsBelow us tx ticks → cap us tx < ticks → deadline us tx ≡ None
-none us tx ticks inside h past = deadlines-are-least us tx inside ∙ window-none us tx ticks h past
+-- the deadline is the least window of the loads that stand for the earlier updaters
+pub deadline-window : (us : List Updater) (tx : ℕ) (loads : List Load) → tx < length us → StandForEarlier us tx loads → deadline us tx ≡ window loads (updater_at us tx).steps (cap us tx)
+unfolding least_window window
+deadline-window us tx loads inside stand =
+    deadlines-are-least us tx inside
+    ∙ least_from-same (λ w. leb (load us (period us) tx w) w) (λ w. leb ((updater_at us tx).steps + uses w loads) w) 1 (cap us tx) (λ w. ap (λ (n : ℕ). leb n w) (sym (stand w)))

@@ -1,13 +1,16 @@
 //! The deadline of an updater, from the rates of the earlier ones.
 ghost use Rattle.std.specs.Prelude.{◌≡◌, ◌<◌, ◌≤◌, ◌^◌, length, Some, None, IfOk, IfErr};
+ghost use Rattle.response_test.specs.Loads.{IsFair};
 ghost use Rattle.std.specs.List.{All};
 ghost use Rattle.update_rates.specs.Rates.{load, cap, longest, deadline, period};
-ghost use Rattle.update_rates.specs.Turns.{HasFewSteps, AreRatedBefore};
+ghost use Rattle.update_rates.specs.Turns.{HasFewSteps, AreRatedBefore, StandForEarlier};
 
 use crate::order::is_earlier;
 use crate::rates::Rate;
 use crate::updaters::Updater;
-use rt_base::Tick;
+use response_test::{Load, add_load, least_window};
+use rt_base::{OutOfMemory, Tick};
+use std::alloc::Global;
 
 /// Periods and deadlines are at most this, in ticks.
 pub const LONGEST: Tick = 1 << 30;
@@ -30,25 +33,52 @@ fn load_of(updaters: &[Updater], rates: &[Rate], tx: usize, ticks: Tick) -> u64
     total
 }
 
-/// The least window up to the cap that holds the load, or else the load of the cap. It starts from the updater's own
-/// steps, below which no window fits, and goes on from a window to its load, which is longer.
-pub fn deadline_of(updaters: &[Updater], rates: &[Rate], tx: usize) -> Result<Tick, u64>
+/// The loads of the updaters that come before the one at `tx`. It takes memory once, a place for each updater.
+pub fn earlier_loads(
+    alloc: Global,
+    updaters: &[Updater],
+    rates: &[Rate],
+    tx: usize,
+) -> Result<Vec<Load>, OutOfMemory>
     requires few { length updaters.now ≤ 64 }
     requires steps { All HasFewSteps updaters.now }
     requires rates { AreRatedBefore updaters.now rates.now tx }
     requires tx { tx < length updaters.now }
+    ensures few { IfOk result (λ loads. length loads.items ≤ 64) }
+    ensures fair { IfOk result (λ loads. All IsFair loads.items) }
+    ensures stand { IfOk result (λ loads. StandForEarlier updaters.now tx loads.items) }
+{
+    let mut loads = Vec::with_capacity(alloc, updaters.len())?;
+    for other in 0..updaters.len() {
+        if is_earlier(updaters, other, tx) {
+            add_load(&mut loads, updaters[other].steps, rates[other].period)?;
+        }
+    }
+    Ok(loads)
+}
+
+/// The least window up to the cap that holds the load of the updater at `tx`, given the loads of the earlier ones; or else
+/// the load of the cap. Its time is that of `least_window`.
+pub fn deadline_of(
+    updaters: &[Updater],
+    rates: &[Rate],
+    loads: &[Load],
+    tx: usize,
+) -> Result<Tick, u64>
+    requires few { length updaters.now ≤ 64 }
+    requires steps { All HasFewSteps updaters.now }
+    requires rates { AreRatedBefore updaters.now rates.now tx }
+    requires tx { tx < length updaters.now }
+    requires few_loads { length loads.now ≤ 64 }
+    requires fair { All IsFair loads.now }
+    requires stand { StandForEarlier updaters.now tx loads.now }
     ensures found { IfOk result (λ d. deadline updaters.now tx ≡ Some d) }
     ensures none { IfErr result (λ e. deadline updaters.now tx ≡ None) }
     ensures demand { IfErr result (λ e. e ≡ load updaters.now (period updaters.now) tx (cap updaters.now tx)) }
 {
     let most = (updaters[tx].validity / 2).min(LONGEST);
-    let mut ticks = updaters[tx].steps;
-    while ticks <= most {
-        let needed = load_of(updaters, rates, tx, ticks);
-        if needed <= ticks {
-            return Ok(ticks);
-        }
-        ticks = needed;
+    match least_window(loads, updaters[tx].steps, most) {
+        Some(ticks) => Ok(ticks),
+        None => Err(load_of(updaters, rates, tx, most)),
     }
-    Err(load_of(updaters, rates, tx, most))
 }

@@ -193,7 +193,8 @@ fn admitted(alloc: Global, set: &CompiledSet, rates: &[Rate]) -> Result<Admitted
 /// The declarations are refused by the first cause that they have, in the order of RateError.
 ///
 /// It compiles the declarations twice and takes memory for both sets and their tables. Its time is that, the admission,
-/// and for each window that is tried a division for each earlier updater.
+/// and for each window that is tried a division for each earlier updater; few windows are tried where the earlier updaters
+/// take nearly all of the processor, and one where they take all.
 pub fn plan_rates(
     alloc: Global,
     items: Vec<ItemDecl>,

@@ -4,7 +4,7 @@ ghost use Rattle.std.specs.List.{All};
 ghost use Rattle.update_rates.specs.Turns.{HasFewSteps, AreRates};
 ghost use Rattle.update_rates.specs.Refusal.{too_tight, Refuses};
 
-use crate::deadline::{LONGEST, deadline_of};
+use crate::deadline::{LONGEST, deadline_of, earlier_loads};
 use crate::error::RateError;
 use crate::order::turns_of;
 use crate::updaters::Updater;
@@ -19,7 +19,8 @@ pub struct Rate {
     pub deadline: Tick,
 }
 
-/// The rates of updaters, in list order, or the first by rising validity that has no deadline.
+/// The rates of updaters, in list order, or the first by rising validity that has no deadline. It takes memory for them, and
+/// for each updater for the loads of the earlier ones.
 pub fn rates_of(alloc: Global, updaters: &[Updater]) -> Result<Vec<Rate>, RateError>
     requires few { length updaters.now ≤ 64 }
     requires steps { All HasFewSteps updaters.now }
@@ -35,7 +36,8 @@ pub fn rates_of(alloc: Global, updaters: &[Updater]) -> Result<Vec<Rate>, RateEr
     };
     let mut rates = vec![in alloc; none; updaters.len()]?;
     for turn in &turns {
-        match deadline_of(updaters, &rates, turn.tx) {
+        let loads = earlier_loads(alloc, updaters, &rates, turn.tx)?;
+        match deadline_of(updaters, &rates, &loads, turn.tx) {
             Ok(deadline) => {
                 rates[turn.tx] = Rate {
                     prio: (updaters.len() - turn.place) as u32,

@@ -2,10 +2,16 @@ use Rattle.std.proofs.Common.{arith}
 use Rattle.update_rates.proofs.Chosen.{no_turn, turns-seen, rated-before, rated-all, place-low, deadline-low, tight-found, none-tight}
 use Rattle.update_rates.proofs.rates.rates_of.Goals as goal
 
+pub earlier_loads-requires-clause-rates : goal.earlier_loads-requires-clause-rates
+earlier_loads-requires-clause-rates c =
+    let t = turns-seen c.args.updaters.now c.deref-turn-items.result.now c.in_ok-turns.turns.items c.deref-turn-items.ensures.value c.in_ok-turns.ensures in
+    rw c.deref.ensures.value
+    (rated-before c.args.updaters.now c.deref-turn-items.result.now c.loop-turn.rates.items c.loop-turn.turn-index no_turn t c.loop-turn.invariant.one_each (omega arith) c.loop-turn.invariant.rated)
+
 pub deadline_of-requires-clause-rates : goal.deadline_of-requires-clause-rates
 deadline_of-requires-clause-rates c =
     let t = turns-seen c.args.updaters.now c.deref-turn-items.result.now c.in_ok-turns.turns.items c.deref-turn-items.ensures.value c.in_ok-turns.ensures in
-    rw c.deref.ensures.value
+    rw c.deref-in-loop-turn.ensures.value
     (rated-before c.args.updaters.now c.deref-turn-items.result.now c.loop-turn.rates.items c.loop-turn.turn-index no_turn t c.loop-turn.invariant.one_each (omega arith) c.loop-turn.invariant.rated)
 
 pub overflow_sub-updaters : goal.overflow_sub-updaters
