@@ -18,6 +18,3 @@ pub fn lines_both_ways()
 pub fn one_entry_a_line()
     ensures { OneEntryALine }
 {}
-
-#[cfg(test)]
-mod tests;

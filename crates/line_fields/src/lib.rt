@@ -24,6 +24,3 @@ pub fn numbers_both_ways()
 pub fn named_both_ways()
     ensures { NamedBothWays }
 {}
-
-#[cfg(test)]
-mod tests;

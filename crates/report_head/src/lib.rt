@@ -8,6 +8,3 @@ mod words;
 
 pub use found::{Found, Numbers, Part};
 pub use read::{Head, HeadError, read_head};
-
-#[cfg(test)]
-mod tests;

@@ -26,6 +26,3 @@ pub fn after_full()
 pub fn has_front()
     ensures { HasFront }
 {}
-
-#[cfg(test)]
-mod tests;

@@ -1,6 +1,6 @@
 use Rattle.std.proofs.Common.{◌-◌, ◌≤◌, List, [], take, length}
 use Rattle.step_journal.specs.declared.entry.Entry.{Entry as Noted}
-use Rattle.report_out.proofs.tests.put_pieces.Given as goal
+use Rattle.report_tests.proofs.pieces.put_pieces.Given as goal
 
 abbrev pub invariant-loop-done : goal.invariant-loop-done
 invariant-loop-done g l = record {

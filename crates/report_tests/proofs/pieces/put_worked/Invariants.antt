@@ -1,5 +1,5 @@
 use Rattle.std.proofs.Common.{Some}
-use Rattle.report_out.proofs.tests.put_worked.Given as goal
+use Rattle.report_tests.proofs.pieces.put_worked.Given as goal
 
 abbrev pub ghosts-put_all : goal.ghosts-put_all
 ghosts-put_all a = record {

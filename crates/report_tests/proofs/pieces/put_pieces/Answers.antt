@@ -1,6 +1,6 @@
 use Rattle.std.proofs.Common.{rules, take, sym, subst}
 use Rattle.report_out.proofs.Pieces.{take_piece}
-use Rattle.report_out.proofs.tests.put_pieces.Goals as goal
+use Rattle.report_tests.proofs.pieces.put_pieces.Goals as goal
 
 pub put-requires-clause-fine : goal.put-requires-clause-fine
 put-requires-clause-fine g c = (

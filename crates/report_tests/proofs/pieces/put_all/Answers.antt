@@ -4,7 +4,7 @@ use Rattle.job_rows.specs.Upkeep.{Follows}
 use Rattle.report_out.specs.Outs.{Begun, OutSeen, seen}
 use Rattle.report_out.proofs.Taking.{opens}
 use Rattle.report_out.proofs.Pieces.{fronts_legal, all_going, both_ok}
-use Rattle.report_out.proofs.tests.put_all.Goals as goal
+use Rattle.report_tests.proofs.pieces.put_all.Goals as goal
 
 pub put_pieces-requires-clause-nothing : goal.put_pieces-requires-clause-nothing
 put_pieces-requires-clause-nothing g c =

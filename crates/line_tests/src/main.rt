@@ -1,0 +1,134 @@
+//! Reads what the lines of standard input say as numbers, jobs, entries and heads of reports, and prints what was read. A
+//! line is a word that says what to read, and a text in which `⏎` stands for a line end and `␍` for a carriage return.
+#![tactic(auto)]
+
+ghost use Rattle.std.specs.Prelude.{◌≡◌, length, IfSome};
+
+mod heads;
+
+use heads::head;
+use journal_text::{read_entry, write_entry};
+use line_fields::{
+    done, item, job, next_unsigned, next_word, put, put_job, put_name, put_short, put_signed,
+    put_unsigned, short, signed, tx, unsigned, word,
+};
+use rt_base::{JobId, List, Name, Names, TxId};
+use std::alloc::Global;
+use std::io;
+
+// The names of two items and three transactions.
+fn small(alloc: Global) -> Option<Names>
+    ensures { IfSome result (λ n. (length n.items ≡ 2) × (length n.txns ≡ 3)) }
+{
+    let items = vec![in alloc; Name::new(b"temp")?, Name::new(b"valve")?].ok()?;
+    let txns = vec![in alloc;
+        Name::new(b"sample")?,
+        Name::new(b"control")?,
+        Name::new(b"logger")?,
+    ];
+    Some(Names {
+        items: List::of(items),
+        txns: List::of(txns.ok()?),
+    })
+}
+
+// The number that a word is: one below 2^64, one below 2^32, and one with a sign.
+fn number(alloc: Global, text: &[u8]) -> Option<String> {
+    let (whole, least, with_sign) = (unsigned(text), short(text), signed(text));
+    format!(in alloc; "{whole:?} {least:?} {with_sign:?}").ok()
+}
+
+// The item, the transaction and the job that a word is.
+fn ids(alloc: Global, names: &Names, text: &[u8]) -> Option<String>
+    requires items { length names.now.items ≡ 2 }
+    requires txns { length names.now.txns ≡ 3 }
+{
+    let item = item(names.items.as_slice(), text);
+    let tx = tx(names.txns.as_slice(), text);
+    let job = job(names.txns.as_slice(), text);
+    format!(in alloc; "{item:?} {tx:?} {job:?}").ok()
+}
+
+// The entry of a line, and the line that is written of it.
+fn entry(alloc: Global, names: &Names, line: &[u8]) -> Option<String>
+    requires items { length names.now.items ≡ 2 }
+    requires txns { length names.now.txns ≡ 3 }
+{
+    let Some(entry) = read_entry(names, line) else {
+        return String::from_str(alloc, "none").ok();
+    };
+    let mut text = Vec::with_capacity(alloc, 256).ok()?;
+    write_entry(names, &entry, &mut text);
+    let same = text.strip_suffix(b"\n") == Some(line);
+    format!(in alloc; "{entry:?} {same}").ok()
+}
+
+// Whether the bytes are none, the length of their first word, the number in their next field, and the length of what
+// follows the word `by`.
+fn fields(alloc: Global, text: &[u8]) -> Option<String> {
+    let none = done(text).is_some();
+    let length = word(text).0.len();
+    let number = match next_unsigned(text) {
+        Some((n, _)) => Some(n),
+        None => None,
+    };
+    let rest = match next_word(b"by", text) {
+        Some((_, rest)) => Some(rest.len()),
+        None => None,
+    };
+    format!(in alloc; "{none} {length} {number:?} {rest:?}").ok()
+}
+
+// A word, an item, a job and three numbers as they are written.
+fn written(alloc: Global, names: &Names) -> Option<String>
+    requires items { length names.now.items ≡ 2 }
+    requires txns { length names.now.txns ≡ 3 }
+{
+    let logger = JobId {
+        tx: TxId(2),
+        serial: 3,
+    };
+    let mut text = Vec::with_capacity(alloc, 200).ok()?;
+    put(&mut text, b"x");
+    put_name(&mut text, names.items.as_slice(), 0);
+    put_job(&mut text, names.txns.as_slice(), logger);
+    put_signed(&mut text, -5);
+    put_unsigned(&mut text, 18446744073709551615);
+    put_short(&mut text, 6);
+    String::from_utf8(text).ok()
+}
+
+// What is read of a text.
+fn read(alloc: Global, names: &Names, kind: &str, text: &str) -> Option<String>
+    requires items { length names.now.items ≡ 2 }
+    requires txns { length names.now.txns ≡ 3 }
+{
+    let text = text.replace(alloc, "⏎", "\n").ok()?;
+    let text = text.as_str().replace(alloc, "␍", "\r").ok()?;
+    let bytes = text.as_bytes();
+    match kind {
+        "number" => number(alloc, bytes),
+        "ids" => ids(alloc, names, bytes),
+        "entry" => entry(alloc, names, bytes),
+        "fields" => fields(alloc, bytes),
+        "head" => head(alloc, bytes),
+        "written" => written(alloc, names),
+        _ => None,
+    }
+}
+
+fn main(rt: HostRuntime) -> io::Result<()> {
+    let alloc = rt.alloc();
+    let Some(names) = small(alloc) else {
+        return println!(rt; "out of memory");
+    };
+    for line in rt.lines(alloc) {
+        let line = line?;
+        let (kind, text) = line.as_str().split_once(' ').unwrap_or((line.as_str(), ""));
+        match read(alloc, &names, kind, text) {
+            Some(said) => println!(rt; "{kind} {text}: {said}")?,
+            None => println!(rt; "{kind} {text}: not read")?,
+        }
+    }
+    Ok(())
+}
