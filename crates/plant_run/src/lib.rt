@@ -9,6 +9,3 @@ mod work;
 
 pub use laws::fixed_runs;
 pub use run::{RunFault, run_workers};
-
-#[cfg(test)]
-mod tests;

@@ -275,6 +275,3 @@ pub fn run<B: Board, Y: Body, O: EntryOut>(
     }
     hand_on(board, spare, out)
 }
-
-#[cfg(test)]
-mod tests;

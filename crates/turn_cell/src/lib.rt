@@ -7,8 +7,6 @@ mod plays;
 mod sends;
 mod steps;
 mod storied;
-#[cfg(test)]
-mod tests;
 mod view;
 
 pub use cell::{HasSeat, Taken, TurnCell, TurnSeat};

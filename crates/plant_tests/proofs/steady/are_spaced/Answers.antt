@@ -1,6 +1,6 @@
 use Rattle.std.proofs.Common.{◌+◌, arith}
 use Rattle.sim_run.proofs.Steady.{spaced_more}
-use Rattle.sim_run.proofs.tests.are_spaced.Goals as goal
+use Rattle.plant_tests.proofs.steady.are_spaced.Goals as goal
 
 pub loop-tick-preserved : goal.loop-tick-preserved
 loop-tick-preserved c = λ h.

@@ -1,54 +1,28 @@
 //! Runs by one, two and three workers, against the run on one board; an eager transaction; an out that stops; a set
 //! without transactions.
-ghost use Rattle.std.specs.Prelude.{◌≡◌, ℕ, ◌<◌, ◌≤◌, ◌^◌, ◌∷◌, [], length, vec_capacity, true, IfOk, IfSome};
-ghost use Rattle.plain_core.specs.Stands.{Stands};
-ghost use Rattle.sim_run.specs.Workloads.{workload, ticks_of, AreSpaced, AreAccepted};
+ghost use Rattle.std.specs.Prelude.{◌≡◌, ℕ, ◌<◌, ◌≤◌, [], length, vec_capacity, IfOk, IfSome};
+ghost use Rattle.sim_run.specs.Workloads.{workload, ticks_of, AreAccepted};
 ghost use Rattle.eager_laws.specs.Plannable.{ArePlannable};
 ghost use Rattle.plant_run.specs.Runs.{own_at};
 ghost use Rattle.plant_run.specs.EagerSlow.{fast_releases};
-ghost use Rattle.sim_run.specs.Steady.{steady_txn as steady_of, steady_set as set_of_two};
+ghost use Rattle.sim_run.specs.Steady.{steady_set as set_of_two};
 
-use super::{RunFault, run_workers};
+use crate::steady::{Steady, are_accepted, new_board, ticks};
 use board::Board;
 use entry_out::{EntryOut, Stopped};
 use plain_core::PlainCore;
-use rt_base::{List, Op, OutOfMemory, Outcome, Prio, Tick};
+use plant_run::{RunFault, run_workers};
+use rt_base::{List, OutOfMemory, Tick};
 use sim_run::run;
 use std::alloc::Global;
 use std::sync::Wait;
 use std::test::Fail;
 use std::thread::Threads;
 use step_journal::Entry;
-use step_script::Body;
-use txn_set::{CompiledSet, TxnDecl};
+use txn_set::CompiledSet;
 use txn_threads::NoGate;
 
-const LATEST: Tick = 1_099_511_627_776;
-
 const ROOM: usize = 1100;
-
-// A body that always computes, or always quits.
-#[derive(Clone, Copy)]
-struct Steady {
-    computes: bool,
-}
-
-impl Body for Steady {
-    ghost use Rattle.std.specs.Prelude.{◌≡◌};
-    ghost use Rattle.sim_run.specs.Steady.{steady_op};
-
-    ghost gives = { λ b serial outcomes. steady_op b.computes };
-
-    ghost stands = { λ b serial outcomes. b ≡ b };
-
-    fn begin(&mut self, _serial: u32) {}
-
-    fn next(&self) -> Op {
-        if self.computes { Op::Compute } else { Op::Quit }
-    }
-
-    fn told(&mut self, _outcome: Outcome) {}
-}
 
 // An out that keeps what it takes, and stops where that would be more than it may take.
 #[derive(Drop)]
@@ -95,88 +69,6 @@ fn few(alloc: Global, most: usize) -> Result<FewEntries, OutOfMemory> {
     })
 }
 
-fn steady_txn(alloc: Global, prio: Prio, period: Tick) -> TxnDecl
-    ensures { result ≡ steady_of prio period }
-{
-    TxnDecl {
-        prio,
-        period,
-        offset: 0,
-        deadline: period,
-        steps: 2,
-        quiet: 0,
-        reads: List::of(Vec::new(alloc)),
-        writes: List::of(Vec::new(alloc)),
-    }
-}
-
-fn steady_set(alloc: Global) -> Result<CompiledSet, OutOfMemory>
-    ensures { IfOk result (λ s. s ≡ set_of_two) }
-{
-    let mut txns = Vec::new(alloc);
-    txns.push(steady_txn(alloc, 2, 4))?;
-    txns.push(steady_txn(alloc, 1, 8))?;
-    let items = Vec::new(alloc);
-    let together = Vec::new(alloc);
-    let ceilings = Vec::new(alloc);
-    Ok(CompiledSet::of(items, txns, together, ceilings))
-}
-
-fn steady_board(alloc: Global) -> Result<PlainCore, OutOfMemory>
-    ensures stands { IfOk result (λ c. Stands c []) }
-    ensures set { IfOk result (λ c. c.set ≡ set_of_two) }
-    ensures room { IfOk result (λ c. c.journal.room ≡ 1100) }
-{
-    let set = steady_set(alloc)?;
-    match PlainCore::new(alloc, set, ROOM) {
-        Ok(core) => Ok(core),
-        Err((_, error)) => Err(error),
-    }
-}
-
-// So many ticks, each a period after the one before.
-fn ticks(alloc: Global, period: Tick, jobs: usize) -> Result<List<Tick>, OutOfMemory> {
-    let mut ticks = Vec::new(alloc);
-    let mut tick: Tick = 0;
-    for _ in 0..jobs {
-        ticks.push(tick)?;
-        tick = tick.saturating_add(period);
-    }
-    Ok(List::of(ticks))
-}
-
-fn are_spaced(period: Tick, ticks: &[Tick]) -> bool
-    requires { period ≤ 2 ^ 40 }
-    ensures { result ≡ true → AreSpaced period 0 ticks.now }
-{
-    let mut from: Tick = 0;
-    for tick in ticks {
-        if *tick < from {
-            return false;
-        }
-        if *tick > LATEST {
-            return false;
-        }
-        from = *tick + period;
-    }
-    true
-}
-
-fn are_accepted(fast: &[Tick], slow: &[Tick]) -> bool
-    ensures { result ≡ true → AreAccepted set_of_two (fast.now ∷ slow.now ∷ []) }
-{
-    if fast.len() > 2000 {
-        return false;
-    }
-    if slow.len() > 2000 {
-        return false;
-    }
-    if !are_spaced(4, fast) {
-        return false;
-    }
-    are_spaced(8, slow)
-}
-
 // The releases of the fast transaction and of the slow one. None where they are not spaced.
 fn releases(alloc: Global, fast: usize, slow: usize) -> Result<Option<Vec<List<Tick>>>, OutOfMemory>
     ensures { IfOk result (λ r. IfSome r (λ v. AreAccepted set_of_two v.items)) }
@@ -204,7 +96,7 @@ fn alone(alloc: Global, fast: usize, slow: usize) -> Result<Vec<Entry>, OutOfMem
     let Some(releases) = releases(alloc, fast, slow)? else {
         return Err(OutOfMemory);
     };
-    let mut board = steady_board(alloc)?;
+    let mut board = new_board(alloc, ROOM)?;
     let mut bodies = [Steady { computes: true }, Steady { computes: false }];
     let mut serials = [7u32; 2];
     let mut spare = spare(alloc)?;
@@ -235,7 +127,7 @@ fn by_workers<R: Threads + Wait + Sync>(
     requires eager { (tx : ℕ) → 0 < own_at own.now tx → ticks_of releases.now tx ≡ [] }
     requires plannable { ArePlannable (workload set_of_two [] releases.now) (own_at own.now) }
 {
-    let board = steady_board(alloc)?;
+    let board = new_board(alloc, ROOM)?;
     let mut bodies = Vec::new(alloc);
     bodies.push(Steady { computes: true })?;
     bodies.push(Steady { computes: false })?;
@@ -344,7 +236,7 @@ fn ask_again(board: &mut PlainCore, entry: Entry)
 
 // Whether a new board that is asked the same notes the same.
 fn is_replayed(alloc: Global, entries: &[Entry]) -> Result<bool, OutOfMemory> {
-    let mut board = steady_board(alloc)?;
+    let mut board = new_board(alloc, ROOM)?;
     for i in 0..entries.len() {
         ask_again(&mut board, entries[i]);
     }

@@ -5,7 +5,7 @@ use Rattle.sim_run.proofs.Steady.{of_steady}
 use Rattle.plant_run.specs.Runs.{own_at}
 use Rattle.plant_run.proofs.Fixed.{fixed_plannable}
 use Rattle.plant_run.proofs.NoTxns.{none_of_two}
-use Rattle.plant_run.proofs.tests.of_fixed.Goals as goal
+use Rattle.plant_tests.proofs.workers.of_fixed.Goals as goal
 
 pub by_workers-requires-clause-plannable : goal.by_workers-requires-clause-plannable
 by_workers-requires-clause-plannable g c κs within =

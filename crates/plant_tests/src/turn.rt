@@ -1,10 +1,10 @@
 //! A diary behind a turn, by one thread and by two.
 ghost use Rattle.std.specs.Prelude.{◌≡◌, ℕ, List, ◌+◌, ◌<◌, ◌^◌, ◌++◌, ◌∷◌, [], true, false, length, drop, vec_len, IfOk};
 
-use crate::{Past, Storied, TurnCell, TurnSeat};
 use std::alloc::{AllocError, Global};
 use std::test::Fail;
 use std::thread::{Threads, join};
+use turn_cell::{Past, Storied, TurnCell, TurnSeat};
 
 /// Some notes, of which the oldest may be gone.
 #[derive(Drop)]

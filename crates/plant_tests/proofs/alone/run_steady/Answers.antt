@@ -2,7 +2,7 @@ use Rattle.std.proofs.Common.{[], refl}
 use Rattle.step_journal.specs.Serial.{outcomes_of}
 use Rattle.sim_run.specs.Steady.{steady_set, steady_op}
 use Rattle.sim_run.proofs.Steady.{steady_asks, good_by}
-use Rattle.sim_run.proofs.tests.run_steady.Goals as goal
+use Rattle.plant_tests.proofs.alone.run_steady.Goals as goal
 
 pub run-requires-clause-obedient : goal.run-requires-clause-obedient
 run-requires-clause-obedient c = λ before legal script row runs.
