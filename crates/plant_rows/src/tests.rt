@@ -1,5 +1,5 @@
 //! Rows on a plant, and two threads.
-ghost use Rattle.std.specs.Prelude.{◌≡◌, ◌<◌, ◌≤◌, ◌^◌, ◌++◌, ◌∷◌, [], Some, None, vec_len, OnOk, IfSome};
+ghost use Rattle.std.specs.Prelude.{◌≡◌, ◌<◌, ◌^◌, ◌++◌, ◌∷◌, [], Some, None, vec_len, OnOk, IfSome};
 ghost use Rattle.plain_core.specs.BaseSet.{base};
 ghost use Rattle.shared_plant.specs.Seats.{IsOf, AreOf};
 ghost use Rattle.rt_base.specs.declared.ids.TxId.{TxId as Transaction};
@@ -10,6 +10,7 @@ use plain_core::PlainCore;
 use rt_base::{ItemId, JobId, Op, OutOfMemory, Outcome, PlanRefused, Tick, TxId, Value};
 use shared_plant::{CloseRefused, Plant, Seat, Tried};
 use std::alloc::Global;
+use std::sync::Wait;
 use std::thread;
 use std::thread::{Threads, join};
 use step_journal::Entry;
@@ -92,6 +93,19 @@ fn stepped(plant: &Plant<PlainCore>, seat: &mut Seat<PlainCore>, op: Op) -> Opti
     }
 }
 
+// The outcome of a step that was granted, where it is tried until the board answers.
+fn waited<R: Wait>(
+    rt: &R,
+    plant: &Plant<PlainCore>,
+    seat: &mut Seat<PlainCore>,
+    op: Op,
+) -> Option<Outcome>
+    requires { IsOf plant.now seat.old × ((tx : Transaction) × (seat.old.tx ≡ Some tx)) }
+    ensures { (seat.new.plant ≡ seat.old.plant) × (seat.new.tx ≡ seat.old.tx) }
+{
+    outcome_of(plant.step(rt, seat, 0, op))
+}
+
 fn outcome_of(reply: StepReply) -> Option<Outcome> {
     match reply {
         StepReply::Done { outcome, over: _ } => Some(outcome),
@@ -143,7 +157,7 @@ fn refused_by(
     plant: Plant<PlainCore>,
     seats: Vec<Seat<PlainCore>>,
 ) -> Option<CloseRefused<PlainCore>>
-    requires { AreOf plant seats.items × (vec_len seats ≤ plant.seats) }
+    requires { AreOf plant seats.items }
     ensures { IfSome result (λ r. (r.plant ≡ plant) × (r.seats ≡ seats.items)) }
 {
     match plant.close(seats) {
@@ -153,7 +167,7 @@ fn refused_by(
 }
 
 pub fn board_of(plant: Plant<PlainCore>, seats: Vec<Seat<PlainCore>>) -> Option<PlainCore>
-    requires { AreOf plant seats.items × (vec_len seats ≤ plant.seats) }
+    requires { AreOf plant seats.items }
 {
     match plant.close(seats) {
         Ok(board) => Some(board),
@@ -187,7 +201,7 @@ fn one_thread_with_all_seats(rt: HostRuntime) -> Result<(), OutOfMemory> {
     assert!(rt; peeked(&plant, &mut control) == Some((0, 0)));
     assert_eq!(rt; control.front(), 7);
     assert!(rt; stepped(&plant, &mut sample, Op::Write(TEMP, 5)) == Some(Outcome::Put));
-    assert!(rt; stepped(&plant, &mut sample, Op::Commit) == Some(Outcome::Closed));
+    assert!(rt; waited(&rt, &plant, &mut sample, Op::Commit) == Some(Outcome::Closed));
     assert!(rt; peeked(&plant, &mut operator) == Some((5, 0)));
     assert_eq!(rt; operator.front(), 9);
     let mut into = Vec::with_capacity(rt.alloc(), 16)?;
