@@ -6,6 +6,3 @@ mod rates;
 
 pub use margin::margin_text;
 pub use rates::{put_rate_cause, rates_text};
-
-#[cfg(test)]
-mod tests;

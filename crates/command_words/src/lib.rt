@@ -4,8 +4,6 @@
 mod asked;
 mod command;
 mod line;
-#[cfg(test)]
-mod tests;
 mod word;
 
 pub use asked::read_command;

@@ -10,6 +10,3 @@ mod written;
 pub use eager::write_eager_run;
 pub use kept::keep_run;
 pub use written::write_run;
-
-#[cfg(test)]
-mod tests;

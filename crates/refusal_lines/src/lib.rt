@@ -9,6 +9,3 @@ mod words;
 pub use causes::{put_admit_cause, put_compile_cause, put_scenario_cause};
 pub use places::put_place;
 pub use words::{put_number, put_txn};
-
-#[cfg(test)]
-mod tests;

@@ -17,6 +17,3 @@ pub use limits::{add_age, add_bound, add_ceilings};
 pub fn head_is_read_back()
     ensures { HeadIsReadBack }
 {}
-
-#[cfg(test)]
-mod tests;

@@ -8,6 +8,3 @@ mod parts;
 
 pub use document::{Document, DocumentError, read_document};
 pub use forms::{Kind, Section, final_item};
-
-#[cfg(test)]
-mod tests;

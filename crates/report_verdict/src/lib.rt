@@ -24,6 +24,3 @@ pub fn legal_is_report()
     compiled_unless_refused();
     admitted_unless_refused();
 }
-
-#[cfg(test)]
-mod tests;

@@ -1,18 +1,12 @@
 //! The program: a real-time database for plant control, run from a scenario.
 #![tactic(auto)]
 
-#[cfg(test)]
-mod tests;
-mod top;
-
-pub use command_replies::Status;
-pub use command_words::Word;
 use io_edge::{StdSink, StdSource};
+use rtdb_command::{Status, Word, rtdb};
 use std::alloc::Global;
 use std::env;
 use std::env::Env;
 use std::process::ExitCode;
-pub use top::{rtdb, rtdb_plain};
 use txn_threads::NoGate;
 
 // The words after the program's name. Where one is no text they are the empty word alone.

@@ -26,6 +26,3 @@ pub fn legal_has_lines()
 pub fn legal_has_rows()
     ensures { LegalHasRows }
 {}
-
-#[cfg(test)]
-mod tests;

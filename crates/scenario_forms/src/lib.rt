@@ -22,6 +22,3 @@ pub use root::{Forms, read_forms, read_value};
 pub use scenario::Releases;
 pub use sets::ReadSet;
 pub use txn::{ReadTxn, Times, TxnTable};
-
-#[cfg(test)]
-mod tests;

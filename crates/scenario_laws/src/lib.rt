@@ -5,9 +5,6 @@
 ghost use Rattle.scenario_laws.specs.ReadBack.{DataReadBack, TextsReadBack};
 ghost use Rattle.scenario_laws.specs.Texts.{ReadIsScenario, ReadHasIntegers, GeneratedHasIntegers};
 
-#[cfg(test)]
-mod tests;
-
 /// The canonical data of a scenario is that of the same scenario, with each run of computes as one.
 pub fn data_read_back()
     ensures { DataReadBack }

@@ -12,6 +12,3 @@ pub use error::ScenarioError;
 pub use read::read_scenario;
 pub use scenario::{Releases, Scenario};
 pub use scenario_forms::{ItemMember, Place, TxnMember};
-
-#[cfg(test)]
-mod tests;

@@ -10,6 +10,3 @@ mod txns;
 
 pub use generate::generated;
 pub use text::write_scenario;
-
-#[cfg(test)]
-mod tests;

@@ -1,0 +1,153 @@
+-- What the top call did.
+use Rattle.std.specs.Prelude.{◌≡◌, ◌⊎◌, ℕ, ◌≤◌, Bool, true, false, List, [], length, take, Option, Some, None, Ok, Err, nat_lt}
+use Rattle.std.specs.Option.{option_and_then}
+use Rattle.std.specs.Io.KnownBytes.{Consumes, IsAtEnd, Keeps, Appends}
+use Rattle.txn_compiler.specs.Refusal.{compile_refusal}
+use Rattle.set_admission.specs.Admission.{refusal}
+use Rattle.update_rates.specs.Refusal.{rate_refusal}
+use Rattle.scenario.specs.Shown.{Shown, set_of}
+use Rattle.scenario.specs.Scenarios.{IsScenario}
+use Rattle.scenario_reader.specs.Reading.{data_of, scenario_in}
+use Rattle.report_verdict.specs.declared.verdict.Verdict.TheVariants as verdicts
+use Rattle.report_verdict.specs.Verdict.{IsVerdict}
+use Rattle.command_words.specs.declared.command.Command.{Command}
+use Rattle.command_words.specs.declared.command.Command.TheVariants.{Plain, Run, Load}
+use Rattle.command_words.specs.declared.command.PlainCommand.TheVariants.{Ceilings, Admit, Replay, Gen, Rates, Margin}
+use Rattle.command_words.specs.Commands.{command_of}
+use Rattle.command_replies.specs.declared.status.Status.{Status}
+use Rattle.command_replies.specs.declared.status.Status.TheVariants as statuses
+use Rattle.command_replies.specs.Replies.{Reply, Refused}
+use Rattle.serde_json.specs.Data.{Data}
+use Rattle.refusal_lines.specs.Causes.{scenario_cause}
+use Rattle.scenario_reader.specs.declared.error.ScenarioError.{ScenarioError}
+use Rattle.rtdb_command.specs.Replies.{Replies, names_in, InputReply, scenario_limit, report_limit}
+
+-- the commands that `rtdb_plain` takes
+abbrev pub if_plain : Command → Option Command
+if_plain (Plain command) = Some (Plain command)
+if_plain (Run trial workers) = None
+if_plain (Load n workers) = None
+
+abbrev pub plain_command_of : List (List ℕ) → Option Command
+plain_command_of words = option_and_then if_plain (command_of words)
+
+-- all there is was taken, or more than the limit
+abbrev pub TakesAll : ℕ → Option (List ℕ) → Option (List ℕ) → List ℕ → Type 0
+TakesAll limit old new input = Consumes old new input × (length input ≤ limit → IsAtEnd new)
+
+abbrev pub TakesNone : Option (List ℕ) → Option (List ℕ) → List ℕ → Type 0
+TakesNone old new input = Keeps old new × (input ≡ [])
+
+-- The input that a command takes. Without a command, to generate and to load, nothing is taken.
+abbrev pub Takes : Option Command → Option (List ℕ) → Option (List ℕ) → List ℕ → Type 0
+Takes None old new input = TakesNone old new input
+Takes (Some (Plain Ceilings)) old new input = TakesAll scenario_limit old new input
+Takes (Some (Plain Admit)) old new input = TakesAll scenario_limit old new input
+Takes (Some (Plain Replay)) old new input = TakesAll report_limit old new input
+Takes (Some (Plain (Gen n))) old new input = TakesNone old new input
+Takes (Some (Plain Rates)) old new input = TakesAll scenario_limit old new input
+Takes (Some (Plain Margin)) old new input = TakesAll scenario_limit old new input
+Takes (Some (Run trial workers)) old new input = TakesAll scenario_limit old new input
+Takes (Some (Load n workers)) old new input = TakesNone old new input
+
+-- an input that was taken has this status and this text
+pub record Judged (Took : List ℕ → Type 0) (IsReply : List ℕ → Reply) (status : Status) (text : List ℕ) : Type 0 where
+  pub input : List ℕ
+  pub took : Took input
+  pub reply : IsReply input status text
+
+abbrev pub IsAnswer : Option Command → Option (List ℕ) → Option (List ℕ) → Reply
+IsAnswer command old new = Judged (Takes command old new) (Replies command)
+
+-- that status was answered, and the whole text was written
+pub record Told (Answer : Reply) (taken taken' : Option (List ℕ)) (status : Status) : Type 0 where
+  pub text : List ℕ
+  pub is : Answer status text
+  pub written : Appends taken taken' text
+
+-- a prefix of the text was written, whatever status it has
+pub record CutShort (Answer : Reply) (taken taken' : Option (List ℕ)) : Type 0 where
+  pub status : Status
+  pub text : List ℕ
+  pub is : Answer status text
+  pub count : ℕ
+  pub written : Appends taken taken' (take count text)
+
+-- Memory ran out. Only a run may have written by then, a prefix of its text.
+abbrev pub RanOut : Option Command → Reply → Option (List ℕ) → Option (List ℕ) → Type 0
+RanOut None answer taken taken' = Keeps taken taken'
+RanOut (Some (Plain command)) answer taken taken' = Keeps taken taken'
+RanOut (Some (Run trial workers)) answer taken taken' = Keeps taken taken' ⊎ CutShort answer taken taken'
+RanOut (Some (Load n workers)) answer taken taken' = Keeps taken taken'
+
+abbrev pub AnswersBy : Option Command → Reply → Option (List ℕ) → Option (List ℕ) → Status → Type 0
+AnswersBy command answer taken taken' statuses.Ok = Told answer taken taken' statuses.Ok
+AnswersBy command answer taken taken' statuses.Refused = Told answer taken taken' statuses.Refused
+AnswersBy command answer taken taken' statuses.Usage = Told answer taken taken' statuses.Usage
+AnswersBy command answer taken taken' statuses.TooLong = Told answer taken taken' statuses.TooLong
+AnswersBy command answer taken taken' statuses.WriteFault = CutShort answer taken taken'
+AnswersBy command answer taken taken' statuses.ReadFault = Keeps taken taken'
+AnswersBy command answer taken taken' statuses.OutOfMemory = RanOut command answer taken taken'
+AnswersBy command answer taken taken' statuses.NotLegal = Told answer taken taken' statuses.NotLegal
+
+-- what a command did to a source and a sink, and the status that it answered
+abbrev pub Answers : Option Command → Option (List ℕ) → Option (List ℕ) → Option (List ℕ) → Option (List ℕ) → Status → Type 0
+Answers command old new taken taken' status = AnswersBy command (IsAnswer command old new) taken taken' status
+
+-- the scenario that was read of the input that was taken
+pub record IsReadFrom (old new : Option (List ℕ)) (s : Shown) : Type 0 where
+  pub is : IsScenario s
+  pub input : List ℕ
+  pub took : TakesAll scenario_limit old new input
+  pub short : nat_lt scenario_limit (length input) ≡ false
+  pub read : scenario_in (data_of input) ≡ Ok s
+
+-- the first refusal of the data, and its line
+pub record IsRefused (d : Option Data) (status : Status) (text : List ℕ) : Type 0 where
+  pub error : ScenarioError
+  pub is : scenario_in d ≡ Err error
+  pub reply : Refused (scenario_cause (names_in d) error) status text
+
+-- why no scenario was read of the input that was taken
+pub record IsRefusedFrom (old new : Option (List ℕ)) (status : Status) (text : List ℕ) : Type 0 where
+  pub input : List ℕ
+  pub took : TakesAll scenario_limit old new input
+  pub reply : InputReply (IsRefused (data_of input)) (nat_lt scenario_limit (length input)) status text
+
+-- the scenario is read
+pub record IsRead (input : List ℕ) : Type 0 where
+  pub scenario : Shown
+  pub read : scenario_in (data_of input) ≡ Ok scenario
+  pub compiles : compile_refusal (set_of scenario) ≡ None
+
+-- the scenario is read, and its declarations have rates
+pub record IsReadRated (input : List ℕ) : Type 0 where
+  pub scenario : Shown
+  pub read : scenario_in (data_of input) ≡ Ok scenario
+  pub rated : rate_refusal (set_of scenario) ≡ None
+
+-- besides, its set is admitted
+pub record IsReadAdmitted (input : List ℕ) : Type 0 where
+  pub is_read : IsRead input
+  pub admitted : refusal (set_of is_read.scenario) ≡ None
+
+abbrev pub CanRun : Bool → List ℕ → Type 0
+CanRun true input = IsRead input
+CanRun false input = IsReadAdmitted input
+
+abbrev pub IsWithin : ℕ → (List ℕ → Type 0) → Option (List ℕ) → Type 0
+IsWithin limit holds None = ⊥
+IsWithin limit holds (Some input) = (length input ≤ limit) × holds input
+
+-- A source that tells an input for which the command has a text: a scenario that is read and compiles, and is admitted
+-- where the command admits it, or has rates for `rates`; a legal report. To generate and to load nothing is read.
+abbrev pub IsGood : Option Command → Option (List ℕ) → Type 0
+IsGood None told = ⊥
+IsGood (Some (Plain Ceilings)) told = IsWithin scenario_limit IsRead told
+IsGood (Some (Plain Admit)) told = IsWithin scenario_limit IsReadAdmitted told
+IsGood (Some (Plain Replay)) told = IsWithin report_limit (λ input. IsVerdict input verdicts.Legal) told
+IsGood (Some (Plain (Gen n))) told = Unit {0}
+IsGood (Some (Plain Rates)) told = IsWithin scenario_limit IsReadRated told
+IsGood (Some (Plain Margin)) told = IsWithin scenario_limit IsRead told
+IsGood (Some (Run trial workers)) told = IsWithin scenario_limit (CanRun trial) told
+IsGood (Some (Load n workers)) told = Unit {0}

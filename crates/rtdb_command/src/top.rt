@@ -1,0 +1,361 @@
+//! The top call.
+ghost use Rattle.std.specs.Prelude.{◌≡◌, ◌⊎◌, ◌≤◌, length, [], Some, None, Ok, Option as Maybe, List as Many, ℕ, IfOk, IfErr, IfSome, IsErrOf};
+ghost use Rattle.std.specs.Io.KnownBytes.{Keeps};
+ghost use Rattle.io_edge.specs.Causes.{Rose};
+ghost use Rattle.scenario.specs.Shown.{shown};
+ghost use Rattle.scenario.specs.Scenarios.{IsScenario};
+ghost use Rattle.scenario_forms.specs.Root.{forms_view};
+ghost use Rattle.scenario_reader.specs.Reading.{data_of, scenario_in};
+ghost use Rattle.written_run.specs.Written.{Wrote, WroteFront};
+ghost use Rattle.command_words.specs.Commands.{command_of, IsInRange};
+ghost use Rattle.rtdb_command.specs.Replies.{names_in, names_of_forms, generated_text};
+ghost use Rattle.rtdb_command.specs.Answers.{plain_command_of, IsAnswer, IsReadFrom, IsRefused, IsRefusedFrom, Told, CutShort, RanOut, Answers, IsGood};
+
+use command_replies::{
+    REPORT_LIMIT, Reply, Status, bounds, ceilings, margins, no_names, rates, refused,
+    refused_scenario, replayed, written,
+};
+use command_words::{Command, PlainCommand, Word, read_command};
+use io_edge::{ReadError, Sink, Source, read_all, write_all};
+use rt_base::{List, Names, OutOfMemory};
+use scenario::Scenario;
+use scenario_forms::{FormError, Forms, ItemTable, TextError, TxnTable, read_forms, read_value};
+use scenario_reader::{ScenarioError, read_scenario};
+use scenario_run::{Stop, load, run_scenario};
+use scenario_writer::{generated, write_scenario};
+use std::alloc::Global;
+use std::sync::Wait;
+use std::thread::Threads;
+use txn_threads::Gate;
+
+// The most bytes of a scenario.
+const SCENARIO_LIMIT: usize = 4_194_304;
+
+const USAGE: &[u8] =
+    b"usage: rtdb ceilings | admit | run [--trial] [--workers N] | replay | gen N | load N [--workers K] | rates | margin\n";
+
+// The names that a text's forms declare, for the line of a refusal.
+fn names(alloc: Global, input: &[u8]) -> Result<Names, OutOfMemory>
+    ensures { IfOk result (λ names. names ≡ names_in (data_of input.now)) }
+{
+    let value = match read_value(alloc, input) {
+        Ok(value) => value,
+        Err(TextError::OutOfMemory) => return Err(OutOfMemory),
+        Err(TextError::NotJson) => return Ok(no_names(alloc)),
+    };
+    match read_forms(alloc, &value) {
+        Ok(forms) => Ok(names_of(forms)),
+        Err(FormError::OutOfMemory) => Err(OutOfMemory),
+        Err(FormError::BadField { .. }) => Ok(no_names(alloc)),
+    }
+}
+
+fn names_of(forms: Forms) -> Names
+    ensures { result ≡ names_of_forms (Ok (forms_view forms)) }
+{
+    let Forms {
+        version: _,
+        items,
+        txns,
+        sets: _,
+    } = forms;
+    let ItemTable {
+        places: _,
+        names: items,
+        decls: _,
+    } = items;
+    let TxnTable {
+        places: _,
+        names: txns,
+        txns: _,
+    } = txns;
+    Names {
+        items: List::of(items),
+        txns: List::of(txns),
+    }
+}
+
+// The scenario of the bytes, or the reply that says the first refusal.
+fn judged(alloc: Global, input: &[u8]) -> Result<Result<Scenario, Reply>, OutOfMemory>
+    requires { length input.now ≤ SCENARIO_LIMIT }
+    ensures scenario { IfOk result (λ r. IfOk r (λ s. IsScenario (shown s) × (scenario_in (data_of input.now) ≡ Ok (shown s)))) }
+    ensures refused { IfOk result (λ r. IfErr r (λ p. IsRefused (data_of input.now) p.status p.text.items)) }
+{
+    match read_scenario(alloc, input) {
+        Ok(scenario) => Ok(Ok(scenario)),
+        Err(ScenarioError::OutOfMemory) => Err(OutOfMemory),
+        Err(error) => {
+            let names = names(alloc, input)?;
+            Ok(Err(refused_scenario(alloc, &names, error)?))
+        }
+    }
+}
+
+// The scenario that is read, or the reply that says why there is none.
+fn scenario_from<S: Source>(alloc: Global, source: &mut S) -> Result<Result<Scenario, Reply>, Stop>
+    ensures scenario { IfOk result (λ r. IfOk r (λ s. IsReadFrom (S.left source.old) (S.left source.new) (shown s))) }
+    ensures refused { IfOk result (λ r. IfErr r (λ p. IsRefusedFrom (S.left source.old) (S.left source.new) p.status p.text.items)) }
+    ensures read { IsErrOf result Stop.Reading → Rose (S.faults source.old) (S.faults source.new) }
+    ensures writing { IsErrOf result Stop.Writing → ⊥ }
+{
+    match read_all(alloc, source, SCENARIO_LIMIT) {
+        Ok(input) => Ok(judged(alloc, &input)?),
+        Err(ReadError::TooLong) => Ok(Err(refused(alloc, Status::TooLong, b"TooLong")?)),
+        Err(ReadError::ReadFault) => Err(Stop::Reading),
+        Err(ReadError::OutOfMemory) => Err(Stop::Memory),
+    }
+}
+
+// The verdict on the report that is read.
+fn replay<S: Source>(alloc: Global, source: &mut S) -> Result<Reply, Stop>
+    ensures said { IfOk result (λ r. IsAnswer (Some (Command.Plain PlainCommand.Replay)) (S.left source.old) (S.left source.new) r.status r.text.items) }
+    ensures read { IsErrOf result Stop.Reading → Rose (S.faults source.old) (S.faults source.new) }
+    ensures writing { IsErrOf result Stop.Writing → ⊥ }
+{
+    match read_all(alloc, source, REPORT_LIMIT) {
+        Ok(input) => Ok(replayed(alloc, &input)?),
+        Err(ReadError::TooLong) => Ok(refused(alloc, Status::TooLong, b"TooLong")?),
+        Err(ReadError::ReadFault) => Err(Stop::Reading),
+        Err(ReadError::OutOfMemory) => Err(Stop::Memory),
+    }
+}
+
+// The text of a generated scenario.
+fn generate(alloc: Global, n: u32) -> Result<Reply, OutOfMemory>
+    requires { (1 ≤ n) × (n ≤ 64) }
+    ensures { IfOk result (λ r. (r.status ≡ Status.Ok) × (r.text.items ≡ generated_text n)) }
+{
+    let scenario = generated(alloc, n)?;
+    let mut text = write_scenario(alloc, &scenario)?;
+    text.extend_from_slice(b"\n")?;
+    Ok(written(text))
+}
+
+fn ask_ceilings<S: Source>(alloc: Global, source: &mut S) -> Result<Reply, Stop>
+    ensures said { IfOk result (λ r. IsAnswer (Some (Command.Plain PlainCommand.Ceilings)) (S.left source.old) (S.left source.new) r.status r.text.items) }
+    ensures read { IsErrOf result Stop.Reading → Rose (S.faults source.old) (S.faults source.new) }
+    ensures writing { IsErrOf result Stop.Writing → ⊥ }
+{
+    match scenario_from(alloc, source)? {
+        Ok(scenario) => Ok(ceilings(alloc, scenario)?),
+        Err(reply) => Ok(reply),
+    }
+}
+
+fn ask_bounds<S: Source>(alloc: Global, source: &mut S) -> Result<Reply, Stop>
+    ensures said { IfOk result (λ r. IsAnswer (Some (Command.Plain PlainCommand.Admit)) (S.left source.old) (S.left source.new) r.status r.text.items) }
+    ensures read { IsErrOf result Stop.Reading → Rose (S.faults source.old) (S.faults source.new) }
+    ensures writing { IsErrOf result Stop.Writing → ⊥ }
+{
+    match scenario_from(alloc, source)? {
+        Ok(scenario) => Ok(bounds(alloc, scenario)?),
+        Err(reply) => Ok(reply),
+    }
+}
+
+fn ask_rates<S: Source>(alloc: Global, source: &mut S) -> Result<Reply, Stop>
+    ensures said { IfOk result (λ r. IsAnswer (Some (Command.Plain PlainCommand.Rates)) (S.left source.old) (S.left source.new) r.status r.text.items) }
+    ensures read { IsErrOf result Stop.Reading → Rose (S.faults source.old) (S.faults source.new) }
+    ensures writing { IsErrOf result Stop.Writing → ⊥ }
+{
+    match scenario_from(alloc, source)? {
+        Ok(scenario) => Ok(rates(alloc, scenario)?),
+        Err(reply) => Ok(reply),
+    }
+}
+
+fn ask_margin<S: Source>(alloc: Global, source: &mut S) -> Result<Reply, Stop>
+    ensures said { IfOk result (λ r. IsAnswer (Some (Command.Plain PlainCommand.Margin)) (S.left source.old) (S.left source.new) r.status r.text.items) }
+    ensures read { IsErrOf result Stop.Reading → Rose (S.faults source.old) (S.faults source.new) }
+    ensures writing { IsErrOf result Stop.Writing → ⊥ }
+{
+    match scenario_from(alloc, source)? {
+        Ok(scenario) => Ok(margins(alloc, scenario)?),
+        Err(reply) => Ok(reply),
+    }
+}
+
+// The reply of a command that runs no workers.
+fn reply_to<S: Source>(alloc: Global, command: PlainCommand, source: &mut S) -> Result<Reply, Stop>
+    requires { IsInRange (Command.Plain command) }
+    ensures said { IfOk result (λ r. IsAnswer (Some (Command.Plain command)) (S.left source.old) (S.left source.new) r.status r.text.items) }
+    ensures read { IsErrOf result Stop.Reading → Rose (S.faults source.old) (S.faults source.new) }
+    ensures writing { IsErrOf result Stop.Writing → ⊥ }
+{
+    match command {
+        PlainCommand::Ceilings => ask_ceilings(alloc, source),
+        PlainCommand::Admit => ask_bounds(alloc, source),
+        PlainCommand::Replay => replay(alloc, source),
+        PlainCommand::Gen { n } => Ok(generate(alloc, n)?),
+        PlainCommand::Rates => ask_rates(alloc, source),
+        PlainCommand::Margin => ask_margin(alloc, source),
+    }
+}
+
+fn answer_plain<S: Source, K: Sink>(
+    alloc: Global,
+    command: PlainCommand,
+    source: &mut S,
+    sink: &mut K,
+) -> Status
+    requires { IsInRange (Command.Plain command) }
+    ensures answer { Answers (Some (Command.Plain command)) (S.left source.old) (S.left source.new) (K.taken sink.old) (K.taken sink.new) result }
+    ensures read { result ≡ Status.ReadFault → Rose (S.faults source.old) (S.faults source.new) }
+    ensures write { result ≡ Status.WriteFault → Rose (K.faults sink.old) (K.faults sink.new) }
+{
+    match reply_to(alloc, command, source) {
+        Ok(reply) => match write_all(sink, &reply.text) {
+            Ok(()) => reply.status,
+            Err(_) => Status::WriteFault,
+        },
+        Err(Stop::Reading) => Status::ReadFault,
+        Err(Stop::Writing) => unreachable!(),
+        Err(Stop::Memory) => Status::OutOfMemory,
+    }
+}
+
+fn answer_no_command<K: Sink>(sink: &mut K) -> Status
+    ensures answer { (left : Maybe (Many ℕ)) → Answers None left left (K.taken sink.old) (K.taken sink.new) result }
+    ensures read { result ≡ Status.ReadFault → ⊥ }
+    ensures write { result ≡ Status.WriteFault → Rose (K.faults sink.old) (K.faults sink.new) }
+{
+    match write_all(sink, USAGE) {
+        Ok(()) => Status::Usage,
+        Err(_) => Status::WriteFault,
+    }
+}
+
+// Runs the scenario that is read: a reply that is to be written, or None after the report was written.
+fn run<R: Threads + Wait + Sync, S: Source, K: Sink, G: Gate + Sync>(
+    rt: &R,
+    alloc: Global,
+    trial: bool,
+    workers: u32,
+    source: &mut S,
+    sink: &mut K,
+    gate: &G,
+) -> Result<Option<Reply>, Stop>
+    requires { (1 ≤ workers) × (workers ≤ 64) }
+    ensures said { IfOk result (λ o. IfSome o (λ r. IsAnswer (Some (Command.Run trial workers)) (S.left source.old) (S.left source.new) r.status r.text.items × (sink.new ≡ sink.old))) }
+    ensures whole { IfOk result (λ o. o ≡ None → Told (IsAnswer (Some (Command.Run trial workers)) (S.left source.old) (S.left source.new)) (K.taken sink.old) (K.taken sink.new) Status.Ok) }
+    ensures cut { IsErrOf result Stop.Writing → CutShort (IsAnswer (Some (Command.Run trial workers)) (S.left source.old) (S.left source.new)) (K.taken sink.old) (K.taken sink.new) }
+    ensures short { IsErrOf result Stop.Memory → Keeps (K.taken sink.old) (K.taken sink.new) ⊎ CutShort (IsAnswer (Some (Command.Run trial workers)) (S.left source.old) (S.left source.new)) (K.taken sink.old) (K.taken sink.new) }
+    ensures unread { IsErrOf result Stop.Reading → sink.new ≡ sink.old }
+    ensures read { IsErrOf result Stop.Reading → Rose (S.faults source.old) (S.faults source.new) }
+    ensures fault { IsErrOf result Stop.Writing → Rose (K.faults sink.old) (K.faults sink.new) }
+{
+    match scenario_from(alloc, source)? {
+        Ok(scenario) => run_scenario(rt, alloc, trial, workers, scenario, sink, gate),
+        Err(reply) => Ok(Some(reply)),
+    }
+}
+
+fn answer_run<R: Threads + Wait + Sync, S: Source, K: Sink, G: Gate + Sync>(
+    rt: &R,
+    alloc: Global,
+    trial: bool,
+    workers: u32,
+    source: &mut S,
+    sink: &mut K,
+    gate: &G,
+) -> Status
+    requires { (1 ≤ workers) × (workers ≤ 64) }
+    ensures answer { Answers (Some (Command.Run trial workers)) (S.left source.old) (S.left source.new) (K.taken sink.old) (K.taken sink.new) result }
+    ensures read { result ≡ Status.ReadFault → Rose (S.faults source.old) (S.faults source.new) }
+    ensures write { result ≡ Status.WriteFault → Rose (K.faults sink.old) (K.faults sink.new) }
+{
+    match run(rt, alloc, trial, workers, source, sink, gate) {
+        Ok(None) => Status::Ok,
+        Ok(Some(reply)) => match write_all(sink, &reply.text) {
+            Ok(()) => reply.status,
+            Err(_) => Status::WriteFault,
+        },
+        Err(Stop::Reading) => Status::ReadFault,
+        Err(Stop::Writing) => Status::WriteFault,
+        Err(Stop::Memory) => Status::OutOfMemory,
+    }
+}
+
+fn answer_load<R: Threads + Wait + Sync, K: Sink, G: Gate + Sync>(
+    rt: &R,
+    alloc: Global,
+    n: u32,
+    workers: u32,
+    sink: &mut K,
+    gate: &G,
+) -> Status
+    requires n { (1 ≤ n) × (n ≤ 64) }
+    requires workers { (1 ≤ workers) × (workers ≤ 64) }
+    ensures answer { (left : Maybe (Many ℕ)) → Answers (Some (Command.Load n workers)) left left (K.taken sink.old) (K.taken sink.new) result }
+    ensures read { result ≡ Status.ReadFault → ⊥ }
+    ensures write { result ≡ Status.WriteFault → Rose (K.faults sink.old) (K.faults sink.new) }
+{
+    match load(rt, alloc, n, workers, gate) {
+        Ok(reply) => match write_all(sink, &reply.text) {
+            Ok(()) => reply.status,
+            Err(_) => Status::WriteFault,
+        },
+        Err(OutOfMemory) => Status::OutOfMemory,
+    }
+}
+
+/// Does what the words say, from the source to the sink, but for `run` and `load`, which are Usage here. It always returns. The
+/// words are looked at first, then the source is read, then its bytes are judged, then the text is written, as one
+/// piece.
+pub fn rtdb_plain<S: Source, K: Sink>(
+    alloc: Global,
+    words: &[Word],
+    source: &mut S,
+    sink: &mut K,
+) -> Status
+    // Which status, and what is written.
+    ensures answer { Answers (plain_command_of words.now) (S.left source.old) (S.left source.new) (K.taken sink.old) (K.taken sink.new) result }
+    // No fault is told unless there was one.
+    ensures read { result ≡ Status.ReadFault → Rose (S.faults source.old) (S.faults source.new) }
+    ensures write { result ≡ Status.WriteFault → Rose (K.faults sink.old) (K.faults sink.new) }
+    // What can be answered is, unless memory runs out.
+    ensures complete { IsGood (plain_command_of words.now) (S.left source.old)
+        → ¬ Rose (S.faults source.old) (S.faults source.new) → ¬ Rose (K.faults sink.old) (K.faults sink.new)
+        → (result ≡ Status.Ok) ⊎ (result ≡ Status.OutOfMemory) }
+{
+    match read_command(alloc, words) {
+        Ok(Some(Command::Plain(command))) => answer_plain(alloc, command, source, sink),
+        Ok(Some(Command::Run { .. })) => answer_no_command(sink),
+        Ok(Some(Command::Load { .. })) => answer_no_command(sink),
+        Ok(None) => answer_no_command(sink),
+        Err(OutOfMemory) => Status::OutOfMemory,
+    }
+}
+
+/// Does what the words say, from the source to the sink. The words are looked at first, then the source is read, then its
+/// bytes are judged, then the scenario is run by workers, each in a thread of its own where one can be made; `gate` is told
+/// of each question to a script. The text is written as one piece, but for the report of a run: its declarations are
+/// written as one piece, and later lines as they come, or, where a transaction is eager, when the run is over. `run` and
+/// `load` may wait; every other command always returns.
+pub fn rtdb<R: Threads + Wait + Sync, S: Source, K: Sink, G: Gate + Sync>(
+    rt: &R,
+    alloc: Global,
+    words: &[Word],
+    source: &mut S,
+    sink: &mut K,
+    gate: &G,
+) -> Status
+    // Which status, and what is written.
+    ensures answer { Answers (command_of words.now) (S.left source.old) (S.left source.new) (K.taken sink.old) (K.taken sink.new) result }
+    // No fault is told unless there was one.
+    ensures read { result ≡ Status.ReadFault → Rose (S.faults source.old) (S.faults source.new) }
+    ensures write { result ≡ Status.WriteFault → Rose (K.faults sink.old) (K.faults sink.new) }
+    // What can be answered is, unless memory runs out.
+    ensures complete { IsGood (command_of words.now) (S.left source.old)
+        → ¬ Rose (S.faults source.old) (S.faults source.new) → ¬ Rose (K.faults sink.old) (K.faults sink.new)
+        → (result ≡ Status.Ok) ⊎ (result ≡ Status.OutOfMemory) }
+{
+    match read_command(alloc, words) {
+        Ok(Some(Command::Run { trial, workers })) => {
+            answer_run(rt, alloc, trial, workers, source, sink, gate)
+        }
+        Ok(Some(Command::Load { n, workers })) => answer_load(rt, alloc, n, workers, sink, gate),
+        Ok(_) => rtdb_plain(alloc, words, source, sink),
+        Err(OutOfMemory) => Status::OutOfMemory,
+    }
+}

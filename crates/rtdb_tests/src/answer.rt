@@ -1,0 +1,85 @@
+//! The calls of the program on a case.
+use crate::case::Case;
+use io_edge::{MemSink, MemSource};
+use rt_base::TxId;
+use rtdb_command::{Status, rtdb, rtdb_plain};
+use std::alloc::Global;
+use std::sync::Wait;
+use std::sync::atomic::AtomicU64;
+use std::sync::atomic::Ordering::SeqCst;
+use std::thread::Threads;
+use txn_threads::Gate;
+
+// How often the scripts were asked.
+#[derive(Drop)]
+struct Count {
+    asked: AtomicU64,
+}
+
+impl Gate for Count {
+    fn asked(&self, _tx: TxId) {
+        self.asked.fetch_add(1, SeqCst);
+    }
+
+    fn answered(&self, _tx: TxId) {}
+}
+
+/// Calls the program on the case, which keeps what was said: the status.
+pub fn answer<R: Threads + Wait + Sync>(rt: &R, alloc: Global, case: &mut Case) -> Option<Status> {
+    let input = case.input.to_vec(alloc).ok()?;
+    let mut source = MemSource::new(input, case.read_faults.to_vec(alloc).ok()?);
+    let faults = case.write_faults.to_vec(alloc).ok()?;
+    let mut sink = MemSink::new(alloc, case.room, case.piece.max(1), faults).ok()?;
+    let gate = Count {
+        asked: AtomicU64::new(0),
+    };
+    let status = if case.plain {
+        rtdb_plain(alloc, &case.words, &mut source, &mut sink)
+    } else {
+        rtdb(rt, alloc, &case.words, &mut source, &mut sink, &gate)
+    };
+    case.said = sink.bytes().to_vec(alloc).ok()?;
+    case.asked = gate.asked.load(SeqCst);
+    Some(status)
+}
+
+/// The answers to each proper prefix of the input, one behind the other, if each has the status.
+pub fn answer_prefixes<R: Threads + Wait + Sync>(
+    rt: &R,
+    alloc: Global,
+    case: &mut Case,
+    status: u8,
+) -> Option<bool> {
+    let whole = case.input.to_vec(alloc).ok()?;
+    let mut answers = Vec::new(alloc);
+    for end in 0..whole.len() {
+        case.input = whole[..end].to_vec(alloc).ok()?;
+        if answer(rt, alloc, case)? as u8 != status {
+            return Some(false);
+        }
+        answers.extend_from_slice(&case.said).ok()?;
+    }
+    case.said = answers;
+    Some(true)
+}
+
+/// Fails each call of the sink in turn, until none fails: whether each leaves a front of the wanted text.
+pub fn answer_faults<R: Threads + Wait + Sync>(
+    rt: &R,
+    alloc: Global,
+    case: &mut Case,
+    wanted: &[u8],
+) -> Option<bool> {
+    for call in 0..10_000usize {
+        case.write_faults = vec![in alloc; call as u64].ok()?;
+        let status = answer(rt, alloc, case)?;
+        if status == Status::Ok {
+            let calls = case.piece.saturating_mul(call);
+            return Some(wanted.len() <= calls);
+        }
+        if status != Status::WriteFault || !wanted.starts_with(&case.said) {
+            return Some(false);
+        }
+    }
+    Some(false)
+}
