@@ -4,6 +4,3 @@
 mod admitted;
 
 pub use admitted::{AdmittedBoard, AdmittedCore};
-
-#[cfg(test)]
-mod tests;

@@ -1,76 +1,33 @@
 //! A sampler, a controller and a logger on an admitted core: whatever is planned, nobody is late, and what is read is
 //! young enough.
-ghost use Rattle.std.specs.Prelude.{◌<◌, length, IfOk};
-ghost use Rattle.set_admission.specs.Named.{AreNamed, IsNamed};
+ghost use Rattle.std.specs.Prelude.{◌<◌};
 
-use crate::AdmittedCore;
+use admitted_core::AdmittedCore;
 use board::{Board, IdleReply, StepReply};
+use core_rows::{TxnRow, compiled};
 use item_model::{ItemDecl, ItemKind};
-use rt_base::{End, ItemId, JobId, List, Op, Outcome, Prio, Tick, TxId};
+use rt_base::{End, ItemId, JobId, Op, Outcome, Prio, Tick, TxId};
 use set_admission::{AdmittedSet, admit};
 use std::alloc::Global;
 use std::test::Fail;
 use step_journal::Entry;
-use txn_compiler::compile;
-use txn_set::TxnDecl;
 
 const PERIODS: [Tick; 3] = [10, 20, 40];
 
-// The items of these numbers; those that are no items are left out.
-fn items_of(alloc: Global, count: usize, numbers: &[u32]) -> Result<List<ItemId>, Fail>
-    ensures { IfOk result (AreNamed count) }
-{
-    let mut items = Vec::new(alloc);
-    for number in numbers {
-        if (*number as usize) < count {
-            items.push(ItemId(*number))?;
-        }
-    }
-    Ok(List::of(items))
-}
-
-fn txn(
-    alloc: Global,
+fn txn<'a>(
     prio: Prio,
     period: Tick,
     steps: u64,
-    reads: &[u32],
-    writes: &[u32],
-) -> Result<TxnDecl, Fail>
-    ensures { IfOk result (IsNamed 2) }
-{
-    let reads = items_of(alloc, 2, reads)?;
-    let writes = items_of(alloc, 2, writes)?;
-    Ok(TxnDecl {
+    reads: &'a [u32],
+    writes: &'a [u32],
+) -> TxnRow<'a> {
+    TxnRow {
         prio,
         period,
-        offset: 0,
-        deadline: period,
         steps,
         quiet: 0,
         reads,
         writes,
-    })
-}
-
-fn admitted(
-    alloc: Global,
-    items: Vec<ItemDecl>,
-    first: TxnDecl,
-    second: TxnDecl,
-    third: TxnDecl,
-) -> Result<AdmittedSet, Fail>
-    requires first { IsNamed (length items.items) first }
-    requires second { IsNamed (length items.items) second }
-    requires third { IsNamed (length items.items) third }
-{
-    let txns = vec![in alloc; first, second, third]?;
-    let Ok(set) = compile(alloc, items, txns, Vec::new(alloc)) else {
-        return Err("not compiled".into());
-    };
-    match admit(alloc, set) {
-        Ok(admitted) => Ok(admitted),
-        Err(_) => Err("not admitted".into()),
     }
 }
 
@@ -83,11 +40,18 @@ fn base(alloc: Global) -> Result<AdmittedCore, Fail> {
         kind: ItemKind::State,
         initial: 0,
     };
-    let items = vec![in alloc; temp, valve]?;
-    let sample = txn(alloc, 3, 10, 2, &[], &[0])?;
-    let control = txn(alloc, 2, 20, 4, &[0], &[1])?;
-    let logger = txn(alloc, 1, 40, 6, &[0, 1], &[])?;
-    let set = admitted(alloc, items, sample, control, logger)?;
+    let rows = [
+        txn(3, 10, 2, &[], &[0]),
+        txn(2, 20, 4, &[0], &[1]),
+        txn(1, 40, 6, &[0, 1], &[]),
+    ];
+    let Ok(Some(set)) = compiled(alloc, &[temp, valve], &rows, &[]) else {
+        return Err("not compiled".into());
+    };
+    let set = match admit(alloc, set) {
+        Ok(set) => set,
+        Err(_) => return Err("not admitted".into()),
+    };
     match AdmittedCore::new(alloc, set, 4096) {
         Ok(core) => Ok(core),
         Err(_) => Err("memory".into()),

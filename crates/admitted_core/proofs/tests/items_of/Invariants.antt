@@ -1,5 +1,0 @@
-use Rattle.set_admission.specs.Named.{AreNamed}
-use Rattle.admitted_core.proofs.tests.items_of.Given as goal
-
-abbrev pub invariant-loop-number : goal.invariant-loop-number
-invariant-loop-number l = AreNamed l.count l.items.items
