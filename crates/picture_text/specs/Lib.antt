@@ -1,0 +1,4 @@
+pub mod Svg
+pub mod Places
+pub mod Legend
+pub mod Texts

@@ -1,0 +1,199 @@
+//! Locks, waits and the ceilings of ticks: what lasts until a job ends.
+ghost use Rattle.std.specs.Prelude.{◌≡◌, map};
+ghost use Rattle.step_journal.specs.State.{same_job};
+ghost use Rattle.txn_set.specs.Ceilings.{greatest};
+ghost use Rattle.schedule_marks.specs.Marks.{until as until_in, until_of as until_in_rows, present_in, wait_in, wait_mark, ceiling_in, lock_mark, lock_by, lock_in, ceiling_by};
+
+use crate::mark::Mark;
+use crate::part::{Part, meets};
+use job_rows::JobRow;
+use rt_base::{ItemId, JobId, Op, Outcome, Prio, Tick};
+use step_journal::Entry;
+use txn_set::CompiledSet;
+
+/// The tick at which a job ended, or where the picture stops.
+pub(crate) fn until(stop: Tick, row: &JobRow) -> Tick
+    ensures { result ≡ until_in stop row.now }
+{
+    match row.end {
+        Some((_, tick)) => tick,
+        None => stop,
+    }
+}
+
+fn is_job(a: JobId, b: JobId) -> bool
+    ensures { result ≡ same_job a b }
+{
+    a.tx.0 == b.tx.0 && a.serial == b.serial
+}
+
+// The same of a job by its row, and 0 where it has none.
+fn until_of(stop: Tick, rows: &[JobRow], job: JobId) -> Tick
+    ensures { result ≡ until_in_rows stop rows.now job }
+{
+    for row in rows {
+        if is_job(row.job, job) {
+            return until(stop, row);
+        }
+    }
+    0
+}
+
+/// The row of a job that was pending in the part or at one of its ends.
+pub(crate) fn present_row(part: Part, stop: Tick, row: &JobRow) -> Option<JobRow>
+    ensures { result ≡ present_in part stop row.now }
+{
+    if row.release <= part.to && part.from <= until(stop, row) {
+        Some(*row)
+    } else {
+        None
+    }
+}
+
+fn wait(part: Part, job: JobId, by: JobId, from: Tick, to: Tick) -> Option<Mark>
+    ensures { result ≡ wait_mark part job by from to }
+{
+    if meets(part, from, to) {
+        Some(Mark::Wait { job, by, from, to })
+    } else {
+        None
+    }
+}
+
+pub(crate) fn wait_of(part: Part, stop: Tick, rows: &[JobRow], entry: &Entry) -> Option<Mark>
+    ensures { result ≡ wait_in part stop rows.now entry.now }
+{
+    match *entry {
+        Entry::Blocked { job, by, tick, .. } => {
+            let to = until_of(stop, rows, job).min(until_of(stop, rows, by));
+            wait(part, job, by, tick, to)
+        }
+        Entry::Planned { .. } => None,
+        Entry::Step { .. } => None,
+        Entry::Idle { .. } => None,
+    }
+}
+
+fn ceiling(set: &CompiledSet, item: ItemId, is_write: bool) -> Prio
+    ensures { result ≡ ceiling_in set.now item is_write }
+{
+    if (item.0 as usize) >= set.items().len() {
+        return 0;
+    }
+    if is_write {
+        set.absolute_ceiling(item)
+    } else {
+        set.write_ceiling(item)
+    }
+}
+
+fn lock(
+    set: &CompiledSet,
+    part: Part,
+    job: JobId,
+    item: ItemId,
+    is_write: bool,
+    from: Tick,
+    to: Tick,
+) -> Option<Mark>
+    ensures { result ≡ lock_mark set.now part job item is_write from to }
+{
+    if meets(part, from, to) {
+        Some(Mark::Lock {
+            job,
+            item,
+            is_write,
+            ceiling: ceiling(set, item, is_write),
+            from,
+            to,
+        })
+    } else {
+        None
+    }
+}
+
+// The lock that a step shows: whether it is a write lock comes second.
+fn taken(op: Op, outcome: Outcome) -> Option<(ItemId, bool)>
+    ensures { result ≡ lock_by op outcome }
+{
+    match op {
+        Op::Read(item) => match outcome {
+            Outcome::Got { stamp: Some(_), .. } => Some((item, false)),
+            Outcome::Got { stamp: None, .. } => None,
+            Outcome::Put => None,
+            Outcome::Computed => None,
+            Outcome::Closed => None,
+        },
+        Op::Write(item, _) => Some((item, true)),
+        Op::Compute => None,
+        Op::Commit => None,
+        Op::Quit => None,
+    }
+}
+
+pub(crate) fn lock_of(
+    set: &CompiledSet,
+    part: Part,
+    stop: Tick,
+    rows: &[JobRow],
+    entry: &Entry,
+) -> Option<Mark>
+    ensures { result ≡ lock_in set.now part stop rows.now entry.now }
+{
+    match *entry {
+        Entry::Step {
+            job,
+            op,
+            outcome,
+            tick,
+            ..
+        } => match taken(op, outcome) {
+            Some((item, is_write)) => {
+                let to = until_of(stop, rows, job);
+                lock(set, part, job, item, is_write, tick, to)
+            }
+            None => None,
+        },
+        Entry::Planned { .. } => None,
+        Entry::Blocked { .. } => None,
+        Entry::Idle { .. } => None,
+    }
+}
+
+fn ceiling_then(tick: Tick, mark: Mark) -> Prio
+    ensures { result ≡ ceiling_by tick mark }
+{
+    match mark {
+        Mark::Lock {
+            ceiling,
+            from,
+            to,
+            ..
+        } => {
+            if from <= tick && tick < to {
+                ceiling
+            } else {
+                0
+            }
+        }
+        Mark::Pending { .. } => 0,
+        Mark::Ceiling { .. } => 0,
+        Mark::Wait { .. } => 0,
+        Mark::Step { .. } => 0,
+        Mark::Refusal { .. } => 0,
+        Mark::Release { .. } => 0,
+        Mark::Deadline { .. } => 0,
+        Mark::Ended { .. } => 0,
+    }
+}
+
+/// The greatest ceiling of the locks that are held in a tick.
+pub(crate) fn ceiling_in_tick(locks: &[Mark], tick: Tick) -> Prio
+    ensures { result ≡ greatest (map (ceiling_by tick) locks.now) }
+{
+    let mut greatest = 0;
+    for lock in locks {
+        greatest = greatest.max(ceiling_then(tick, *lock));
+    }
+    greatest
+}

@@ -1,0 +1,105 @@
+//! All marks of the part that is looked at.
+ghost use Rattle.std.specs.Prelude.{◌≡◌, ◌++◌, IfOk, OnOk};
+ghost use Rattle.schedule_marks.specs.Marks.{instant_to, last_instant as last_instant_of, spans_with, instants_of, marks_of, marks_to};
+
+use crate::lists::{
+    add_ceilings, add_deadlines, add_ends, add_pending, add_refusals, add_releases, add_steps,
+    add_waits, locks, present_rows,
+};
+use crate::mark::Mark;
+use crate::part::Part;
+use job_rows::JobRow;
+use rt_base::{OutOfMemory, Tick};
+use std::alloc::Global;
+use step_journal::Entry;
+use txn_set::CompiledSet;
+
+fn instant(to: Tick, entry: &Entry) -> Tick
+    ensures { result ≡ instant_to to entry.now }
+{
+    match *entry {
+        Entry::Planned { .. } => 0,
+        Entry::Step { tick, .. } => { if tick < to { tick + 1 } else { to } }
+        Entry::Blocked { .. } => 0,
+        Entry::Idle { to: tick, .. } => tick.min(to),
+    }
+}
+
+/// The last instant of a history, in ticks, or this tick if that is earlier. It takes no memory.
+pub fn last_instant(to: Tick, entries: &[Entry]) -> Tick
+    ensures { result ≡ last_instant_of to entries.now }
+{
+    let mut last = 0;
+    for entry in entries {
+        last = last.max(instant(to, entry));
+    }
+    last
+}
+
+// What lasts: the jobs, the locks, the ceilings and the waits.
+fn add_spans(
+    into: &mut Vec<Mark>,
+    part: Part,
+    stop: Tick,
+    rows: &[JobRow],
+    present: &[JobRow],
+    locks: &[Mark],
+    entries: &[Entry],
+) -> Result<(), OutOfMemory>
+    ensures { OnOk result (into.new.items ≡ into.old.items ++ spans_with part stop rows.now present.now locks.now entries.now) }
+{
+    add_pending(into, part, stop, rows)?;
+    into.extend_from_slice(locks)?;
+    add_ceilings(into, part, locks)?;
+    add_waits(into, part, stop, present, entries)
+}
+
+// What happens at an instant or in a tick: the steps, the refusals, the releases, the deadlines and the ends.
+fn add_instants(
+    into: &mut Vec<Mark>,
+    set: &CompiledSet,
+    part: Part,
+    rows: &[JobRow],
+    entries: &[Entry],
+) -> Result<(), OutOfMemory>
+    ensures { OnOk result (into.new.items ≡ into.old.items ++ instants_of set.now part rows.now entries.now) }
+{
+    add_steps(into, part, entries)?;
+    add_refusals(into, part, entries)?;
+    add_releases(into, part, rows)?;
+    add_deadlines(into, set, part, rows)?;
+    add_ends(into, part, rows)
+}
+
+fn marks_until(
+    alloc: Global,
+    set: &CompiledSet,
+    part: Part,
+    stop: Tick,
+    rows: &[JobRow],
+    entries: &[Entry],
+) -> Result<Vec<Mark>, OutOfMemory>
+    ensures { IfOk result (λ v. v.items ≡ marks_to set.now part stop rows.now entries.now) }
+{
+    let present = present_rows(alloc, part, stop, rows)?;
+    let locks = locks(alloc, set, part, stop, &present, entries)?;
+    let mut into = Vec::new(alloc);
+    add_spans(&mut into, part, stop, rows, &present, &locks, entries)?;
+    add_instants(&mut into, set, part, rows, entries)?;
+    Ok(into)
+}
+
+/// The marks of a history in a part, from its entries and the rows of its jobs. It goes a few times over them, for each lock
+/// and refusal over the jobs that are pending in the part, and for each tick of the part over the locks.
+pub fn marks(
+    alloc: Global,
+    set: &CompiledSet,
+    part: Part,
+    rows: &[JobRow],
+    entries: &[Entry],
+) -> Result<Vec<Mark>, OutOfMemory>
+    ensures { IfOk result (λ v. v.items ≡ marks_of set.now part rows.now entries.now) }
+{
+    let stop = last_instant(part.to, entries);
+    marks_until(alloc, set, part, stop, rows, entries)
+}
