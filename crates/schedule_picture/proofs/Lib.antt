@@ -1,0 +1,3 @@
+pub mod Legal
+pub mod Telling
+pub mod OtherWords

@@ -1,0 +1,11 @@
+use Rattle.std.proofs.Common.{◌≡◌, ℕ, List, IfOk, subst, ◌∙◌}
+use Rattle.schedule_picture.proofs.Legal.{whole_picture}
+use Rattle.schedule_picture.proofs.drawn.picture_of.Goals as goal
+
+pub returns : goal.returns
+returns c =
+    subst (λ (t : List ℕ). IfOk c.picture.result (λ text. text.items ≡ t))
+    (whole_picture c.args.names.now c.args.set.now c.args.entries.now c.args.wanted c.part_in-part.result c.as_slice.result.now
+    c.deref.result.now c.part_in-part.ensures.value (c.as_slice.ensures ∙ c.in_ok-rows.ensures)
+    (c.deref.ensures.value ∙ c.in_ok-marks.ensures))
+    c.picture.ensures

@@ -1,0 +1,147 @@
+//! The picture of a report.
+ghost use Rattle.std.specs.Prelude.{◌≡◌, ◌≤◌, length, None, IfOk};
+ghost use Rattle.step_journal.specs.History.{IsLegal};
+ghost use Rattle.job_rows.specs.Rows.{job_rows};
+ghost use Rattle.report_head.specs.IsHead.{IsHead, set_of};
+ghost use Rattle.report_verdict.specs.declared.verdict.Verdict.TheVariants.{Legal as LegalReport};
+ghost use Rattle.report_verdict.specs.Verdict.{IsVerdict, Tells, set_refusal, report_for};
+ghost use Rattle.schedule_picture.specs.Parts.{IsEarly};
+ghost use Rattle.schedule_picture.specs.Answers.{picture_of as picture_of_history, picture_in, is_ok as is_ok_status, PictureReply};
+
+use crate::wanted::{Wanted, part_in};
+use command_replies::{REPORT_LIMIT, Reply, Status, replayed, written};
+use job_rows::JobRow;
+use picture_text::picture;
+use report_reader::{Document, DocumentError, read_document};
+use rt_base::{List, Names, OutOfMemory};
+use run_report::compile_head;
+use schedule_marks::marks;
+use serial_replay::{ReplayError, replay};
+use std::alloc::Global;
+use step_journal::Entry;
+use txn_compiler::CompileError;
+use txn_set::CompiledSet;
+
+// Why a legal history is not replayed.
+fn not_replayed(error: ReplayError) -> OutOfMemory
+    requires { error ≡ ReplayError.OutOfMemory }
+{
+    match error {
+        ReplayError::OutOfMemory => OutOfMemory,
+        ReplayError::NotLegal { .. } => unreachable!(),
+    }
+}
+
+// The rows of the jobs of a legal history.
+#[tactic(auto, using(crate::proofs::Legal::replaying_wants))]
+fn rows_of(alloc: Global, set: &CompiledSet, entries: &[Entry]) -> Result<List<JobRow>, OutOfMemory>
+    requires { IsLegal set.now entries.now }
+    ensures { IfOk result (λ rows. rows ≡ job_rows set.now entries.now) }
+{
+    match replay(alloc, set, entries) {
+        Ok(replayed) => Ok(replayed.jobs),
+        Err(error) => Err(not_replayed(error)),
+    }
+}
+
+fn picture_of(
+    alloc: Global,
+    names: &Names,
+    set: &CompiledSet,
+    entries: &[Entry],
+    wanted: Wanted,
+) -> Result<Vec<u8>, OutOfMemory>
+    requires legal { IsLegal set.now entries.now }
+    requires early { IsEarly wanted }
+    ensures { IfOk result (λ text. text.items ≡ picture_of_history names.now set.now entries.now wanted) }
+{
+    let rows = rows_of(alloc, set, entries)?;
+    let part = part_in(wanted, entries);
+    let marks = marks(alloc, set, part, rows.as_slice(), entries)?;
+    picture(alloc, names, set, part, &marks)
+}
+
+// Why declarations that are not refused are not compiled.
+fn not_compiled(error: CompileError) -> OutOfMemory
+    requires { error ≡ CompileError.OutOfMemory }
+{
+    match error {
+        CompileError::OutOfMemory => OutOfMemory,
+        _ => unreachable!(),
+    }
+}
+
+// The picture of a document that is a legal report.
+#[tactic(auto, using(crate::proofs::Legal::compiling_wants))]
+fn picture_of_document(
+    alloc: Global,
+    document: Document,
+    wanted: Wanted,
+) -> Result<Vec<u8>, OutOfMemory>
+    requires good { IsHead document.head }
+    requires not_refused { set_refusal document.head ≡ None }
+    requires legal { IsLegal (set_of document.head) document.entries }
+    requires early { IsEarly wanted }
+    ensures { IfOk result (λ text. text.items ≡ picture_in document wanted) }
+{
+    let Document {
+        head,
+        second: _,
+        entries,
+        first: _,
+    } = document;
+    match compile_head(alloc, head) {
+        Ok((names, set)) => picture_of(alloc, &names, &set, entries.as_slice(), wanted),
+        Err(error) => Err(not_compiled(error)),
+    }
+}
+
+// Why a legal report is not read.
+fn not_read(error: DocumentError) -> OutOfMemory
+    requires { error ≡ DocumentError.OutOfMemory }
+{
+    match error {
+        DocumentError::OutOfMemory => OutOfMemory,
+        DocumentError::BadLine { .. } => unreachable!(),
+        DocumentError::Unfinished => unreachable!(),
+    }
+}
+
+// The document that a legal report is.
+#[tactic(auto, using(crate::proofs::Legal::reading_wants, crate::proofs::Legal::tells_same, crate::proofs::Legal::whole_same))]
+fn legal_document(alloc: Global, input: &[u8]) -> Result<Document, OutOfMemory>
+    requires short { length input.now ≤ REPORT_LIMIT }
+    requires legal { IsVerdict input.now LegalReport }
+    ensures tells { IfOk result (λ d. Tells input.now d) }
+    ensures whole { IfOk result (λ d. input.now ≡ report_for d) }
+    ensures good { IfOk result (λ d. IsHead d.head) }
+{
+    match read_document(alloc, input) {
+        Ok(document) => Ok(document),
+        Err(error) => Err(not_read(error)),
+    }
+}
+
+fn is_ok(status: Status) -> bool
+    ensures { result ≡ is_ok_status status }
+{
+    match status {
+        Status::Ok => true,
+        _ => false,
+    }
+}
+
+/// The picture of a legal report, or else the verdict's line.
+#[tactic(auto, using(crate::proofs::Legal::is_legal, crate::proofs::Legal::verdict_line, crate::proofs::Legal::drawing))]
+pub fn drawn(alloc: Global, input: &[u8], wanted: Wanted) -> Result<Reply, OutOfMemory>
+    requires short { length input.now ≤ REPORT_LIMIT }
+    requires early { IsEarly wanted }
+    ensures { IfOk result (λ r. PictureReply wanted input.now r.status r.text.items) }
+{
+    let reply = replayed(alloc, input)?;
+    if !is_ok(reply.status) {
+        return Ok(reply);
+    }
+    let document = legal_document(alloc, input)?;
+    Ok(written(picture_of_document(alloc, document, wanted)?))
+}

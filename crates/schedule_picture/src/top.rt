@@ -1,0 +1,93 @@
+//! The top call.
+ghost use Rattle.std.specs.Prelude.{◌≡◌, ℕ, List as Many, Option as Maybe, IfOk, IsErrOf, Some, None};
+ghost use Rattle.io_edge.specs.Causes.{Rose};
+ghost use Rattle.schedule_picture.specs.Parts.{wanted_of, IsEarly};
+ghost use Rattle.schedule_picture.specs.Answers.{IsAnswer, Answers};
+
+use crate::drawn::drawn;
+use crate::wanted::{Wanted, read_wanted};
+use command_replies::{REPORT_LIMIT, Reply, Status, refused};
+use command_words::Word;
+use io_edge::{ReadError, Sink, Source, read_all, write_all};
+use rt_base::OutOfMemory;
+use std::alloc::Global;
+
+const USAGE: &[u8] = b"usage: rtdb-picture [--from TICK --to TICK]\n";
+
+// Why no text was made.
+#[derive(Clone, Copy, PartialEq, Eq)]
+enum Stop {
+    Reading,
+    Memory,
+}
+
+impl From<OutOfMemory> for Stop {
+    ghost use Rattle.schedule_picture.specs.declared.top.Stop.TheVariants as stops;
+
+    ghost from_gives = { λ _ e. e ≡ stops.Memory };
+
+    fn from(_e: OutOfMemory) -> Stop {
+        Stop::Memory
+    }
+}
+
+// The reply to the report that is read.
+fn reply_to<S: Source>(alloc: Global, wanted: Wanted, source: &mut S) -> Result<Reply, Stop>
+    requires { IsEarly wanted }
+    ensures said { IfOk result (λ r. IsAnswer (Some wanted) (S.left source.old) (S.left source.new) r.status r.text.items) }
+    ensures read { IsErrOf result Stop.Reading → Rose (S.faults source.old) (S.faults source.new) }
+{
+    match read_all(alloc, source, REPORT_LIMIT) {
+        Ok(input) => Ok(drawn(alloc, &input, wanted)?),
+        Err(ReadError::TooLong) => Ok(refused(alloc, Status::TooLong, b"TooLong")?),
+        Err(ReadError::ReadFault) => Err(Stop::Reading),
+        Err(ReadError::OutOfMemory) => Err(Stop::Memory),
+    }
+}
+
+fn answer<S: Source, K: Sink>(alloc: Global, wanted: Wanted, source: &mut S, sink: &mut K) -> Status
+    requires { IsEarly wanted }
+    ensures answer { Answers (Some wanted) (S.left source.old) (S.left source.new) (K.taken sink.old) (K.taken sink.new) result }
+    ensures read { result ≡ Status.ReadFault → Rose (S.faults source.old) (S.faults source.new) }
+    ensures write { result ≡ Status.WriteFault → Rose (K.faults sink.old) (K.faults sink.new) }
+{
+    match reply_to(alloc, wanted, source) {
+        Ok(reply) => match write_all(sink, &reply.text) {
+            Ok(()) => reply.status,
+            Err(_) => Status::WriteFault,
+        },
+        Err(Stop::Reading) => Status::ReadFault,
+        Err(Stop::Memory) => Status::OutOfMemory,
+    }
+}
+
+fn answer_usage<K: Sink>(sink: &mut K) -> Status
+    ensures answer { (left : Maybe (Many ℕ)) → Answers None left left (K.taken sink.old) (K.taken sink.new) result }
+    ensures read { result ≡ Status.ReadFault → ⊥ }
+    ensures write { result ≡ Status.WriteFault → Rose (K.faults sink.old) (K.faults sink.new) }
+{
+    match write_all(sink, USAGE) {
+        Ok(()) => Status::Usage,
+        Err(_) => Status::WriteFault,
+    }
+}
+
+/// Draws the wanted part of the report from the source to the sink. The words are looked at first, then the source is read,
+/// then its bytes are judged, then the picture is written, as one piece.
+pub fn draw_report<S: Source, K: Sink>(
+    alloc: Global,
+    words: &[Word],
+    source: &mut S,
+    sink: &mut K,
+) -> Status
+    // Which status, and what is written.
+    ensures answer { Answers (wanted_of words.now) (S.left source.old) (S.left source.new) (K.taken sink.old) (K.taken sink.new) result }
+    // No fault is told unless there was one.
+    ensures read { result ≡ Status.ReadFault → Rose (S.faults source.old) (S.faults source.new) }
+    ensures write { result ≡ Status.WriteFault → Rose (K.faults sink.old) (K.faults sink.new) }
+{
+    match read_wanted(words) {
+        Some(wanted) => answer(alloc, wanted, source, sink),
+        None => answer_usage(sink),
+    }
+}
