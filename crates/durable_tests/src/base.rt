@@ -1,0 +1,203 @@
+//! A history, and how it comes to a disk.
+ghost use Rattle.std.specs.Prelude.{◌≡◌, ◌++◌, [], IfOk, IfSome, IsTrue, OnOk};
+ghost use Rattle.step_journal.specs.History.{IsLegal};
+ghost use Rattle.durable_journal.specs.Log.{StandsFor};
+ghost use Rattle.durable_tests.specs.Story.{IsStory};
+
+use durable_disk::{Disk, MemDisk};
+use durable_journal::{Log, LogError};
+use journal_text::read_entry;
+use line_fields::cut;
+use report_head::read_head;
+use rt_base::{Names, OutOfMemory};
+use run_report::compile_head;
+use serial_replay::replay;
+use std::alloc::Global;
+use std::test::Fail;
+use step_journal::Entry;
+use txn_set::CompiledSet;
+
+/// The declarations of a scenario, and the first entries of its run.
+pub const RUN: &str = "rtdb report 1
+item temp sensor 20 0
+item valve state - 0
+txn sample 3 10 0 10 2 reads - writes temp
+txn control 2 20 0 20 4 reads temp writes valve
+txn logger 1 40 0 40 6 reads temp,valve writes -
+mode trial
+plan sample 0
+plan sample 10
+plan sample 20
+plan sample 30
+plan control 0
+plan control 20
+plan logger 0
+step sample/0 0 write temp 5
+step sample/0 1 commit end committed
+step control/0 2 read temp 5 0
+";
+
+/// Names, a set of them, and entries.
+#[derive(Drop)]
+pub struct Story {
+    pub names: Names,
+    pub set: CompiledSet,
+    pub entries: Vec<Entry>,
+}
+
+// The first entries among the lines of a report.
+fn entries_in(alloc: Global, names: &Names, text: &str, most: usize) -> Result<Vec<Entry>, Fail> {
+    if names.items.as_slice().len() > 256 || names.txns.as_slice().len() > 64 {
+        return Err("names".into());
+    }
+    let mut entries = Vec::new(alloc);
+    let mut rest = text.as_bytes();
+    for _ in 0..100 {
+        let Some((line, more)) = cut(b'\n', rest) else {
+            return Ok(entries);
+        };
+        if let Some(entry) = read_entry(names, line) {
+            if entries.len() < most {
+                entries.push(entry)?;
+            }
+        }
+        rest = more;
+    }
+    Ok(entries)
+}
+
+/// What a text declares, and at most so many of its entries.
+pub fn story_of(alloc: Global, text: &str, most: usize) -> Result<Story, Fail>
+    ensures { IfOk result (λ g. IsStory g.names g.set g.entries.items) }
+{
+    if text.len() >= 1 << 32 {
+        return Err("long".into());
+    }
+    let Ok(head) = read_head(alloc, text.as_bytes()) else {
+        return Err("head".into());
+    };
+    let Ok((names, set)) = compile_head(alloc, head) else {
+        return Err("set".into());
+    };
+    let entries = entries_in(alloc, &names, text, most)?;
+    let Ok(_) = replay(alloc, &set, &entries) else {
+        return Err("entries".into());
+    };
+    Ok(Story {
+        names,
+        set,
+        entries,
+    })
+}
+
+/// What a run of a journal came to: its disk, how many entries it found and has at its end, and why it stopped.
+#[derive(Drop)]
+pub struct Ran {
+    pub disk: MemDisk,
+    pub found: usize,
+    pub taken: u64,
+    pub error: Option<LogError>,
+}
+
+// The history that goes on with these, where it is one.
+fn longer(
+    alloc: Global,
+    set: &CompiledSet,
+    found: &[Entry],
+    rest: &[Entry],
+) -> Result<(), OutOfMemory>
+    ensures { OnOk result (IsLegal set.now (found.now ++ rest.now)) }
+{
+    let mut all = found.to_vec(alloc)?;
+    all.extend_from_slice(rest)?;
+    match replay(alloc, set, &all) {
+        Ok(_) => Ok(()),
+        Err(_) => Err(OutOfMemory),
+    }
+}
+
+// Adds the entries behind as many as were found.
+fn add_rest<D: Disk>(
+    alloc: Global,
+    story: &Story,
+    log: Log<D>,
+    found: &[Entry],
+) -> (D, usize, u64, Option<LogError>)
+    requires story { IsStory story.now.names story.now.set story.now.entries.items }
+    requires found { StandsFor D.seen D.may_leave story.now.names story.now.set log found.now }
+{
+    let mut log = log;
+    let known = found.len().min(story.entries.len());
+    let rest = &story.entries[known..];
+    let error = match longer(alloc, &story.set, found, rest) {
+        Ok(()) => log.append_all(&story.names, &story.set, rest).err(),
+        Err(_) => Some(LogError::OutOfMemory),
+    };
+    let taken = log.len();
+    (log.into_disk(), found.len(), taken, error)
+}
+
+// Takes up the journal on a disk, or makes it on a new one, and adds the entries that are not there yet.
+fn run_on<D: Disk>(
+    alloc: Global,
+    story: &Story,
+    disk: D,
+    is_new: bool,
+) -> (D, usize, u64, Option<LogError>)
+    requires story { IsStory story.now.names story.now.set story.now.entries.items }
+    requires new { IsTrue is_new → IfSome (D.seen disk) (λ file. file ≡ []) }
+{
+    if is_new {
+        return match Log::create(alloc, disk) {
+            Ok(log) => add_rest(alloc, story, log, &[]),
+            Err((disk, error)) => (disk, 0, 0, Some(error)),
+        };
+    }
+    let room = story.entries.len();
+    match Log::open(alloc, disk, &story.names, &story.set, room) {
+        Ok((log, found)) => add_rest(alloc, story, log, &found),
+        Err((disk, error)) => (disk, 0, 0, Some(error)),
+    }
+}
+
+/// A run of the journal on a disk.
+pub fn run(alloc: Global, story: &Story, disk: MemDisk) -> Ran
+    requires { IsStory story.now.names story.now.set story.now.entries.items }
+{
+    let is_new = disk.bytes().is_empty();
+    let (disk, found, taken, error) = run_on(alloc, story, disk, is_new);
+    Ran {
+        disk,
+        found,
+        taken,
+        error,
+    }
+}
+
+/// A disk with room for so many bytes and calls, some of which fail.
+pub fn disk(alloc: Global, room: usize, calls: usize, failing: &[u64]) -> Result<MemDisk, Fail> {
+    let failing = failing.to_vec(alloc)?;
+    Ok(
+        MemDisk::new(alloc, room, calls, failing)
+            .ok()
+            .ok_or("memory")?,
+    )
+}
+
+/// The bytes of a journal of these lines: for each an open gate, its length, its text and zeros, and a closed gate.
+pub fn bytes_of(alloc: Global, lines: &[&str]) -> Result<Vec<u8>, Fail> {
+    let mut bytes = Vec::new(alloc);
+    for line in lines {
+        let text = line.as_bytes();
+        let mut record = [0; 256];
+        if text.len() > 254 {
+            return Err("long".into());
+        }
+        record[0] = 1;
+        record[1] = text.len() as u8;
+        record[2..2 + text.len()].copy_from_slice(text);
+        bytes.extend_from_slice(&record)?;
+    }
+    bytes.push(0)?;
+    Ok(bytes)
+}
