@@ -50,6 +50,18 @@ Takes (Some (Plain Margin)) old new input = TakesAll scenario_limit old new inpu
 Takes (Some (Run trial workers)) old new input = TakesAll scenario_limit old new input
 Takes (Some (Load n workers)) old new input = TakesNone old new input
 
+-- whether nothing is taken, whatever the status is
+abbrev pub TakesNoInput : Option Command → Type 0
+TakesNoInput None = Unit {0}
+TakesNoInput (Some (Plain Ceilings)) = ⊥
+TakesNoInput (Some (Plain Admit)) = ⊥
+TakesNoInput (Some (Plain Replay)) = ⊥
+TakesNoInput (Some (Plain (Gen n))) = Unit {0}
+TakesNoInput (Some (Plain Rates)) = ⊥
+TakesNoInput (Some (Plain Margin)) = ⊥
+TakesNoInput (Some (Run trial workers)) = ⊥
+TakesNoInput (Some (Load n workers)) = Unit {0}
+
 -- an input that was taken has this status and this text
 pub record Judged (Took : List ℕ → Type 0) (IsReply : List ℕ → Reply) (status : Status) (text : List ℕ) : Type 0 where
   pub input : List ℕ

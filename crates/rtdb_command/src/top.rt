@@ -9,7 +9,7 @@ ghost use Rattle.scenario_reader.specs.Reading.{data_of, scenario_in};
 ghost use Rattle.written_run.specs.Written.{Wrote, WroteFront};
 ghost use Rattle.command_words.specs.Commands.{command_of, IsInRange};
 ghost use Rattle.rtdb_command.specs.Replies.{names_in, names_of_forms, generated_text};
-ghost use Rattle.rtdb_command.specs.Answers.{plain_command_of, IsAnswer, IsReadFrom, IsRefused, IsRefusedFrom, Told, CutShort, RanOut, Answers, IsGood};
+ghost use Rattle.rtdb_command.specs.Answers.{plain_command_of, IsAnswer, IsReadFrom, IsRefused, IsRefusedFrom, TakesNoInput, Told, CutShort, RanOut, Answers, IsGood};
 
 use command_replies::{
     REPORT_LIMIT, Reply, Status, bounds, ceilings, margins, no_names, rates, refused,
@@ -181,6 +181,7 @@ fn reply_to<S: Source>(alloc: Global, command: PlainCommand, source: &mut S) -> 
     ensures said { IfOk result (λ r. IsAnswer (Some (Command.Plain command)) (S.left source.old) (S.left source.new) r.status r.text.items) }
     ensures read { IsErrOf result Stop.Reading → Rose (S.faults source.old) (S.faults source.new) }
     ensures writing { IsErrOf result Stop.Writing → ⊥ }
+    ensures unread { TakesNoInput (Some (Command.Plain command)) → source.new ≡ source.old }
 {
     match command {
         PlainCommand::Ceilings => ask_ceilings(alloc, source),
@@ -200,6 +201,7 @@ fn answer_plain<S: Source, K: Sink>(
 ) -> Status
     requires { IsInRange (Command.Plain command) }
     ensures answer { Answers (Some (Command.Plain command)) (S.left source.old) (S.left source.new) (K.taken sink.old) (K.taken sink.new) result }
+    ensures unread { TakesNoInput (Some (Command.Plain command)) → source.new ≡ source.old }
     ensures read { result ≡ Status.ReadFault → Rose (S.faults source.old) (S.faults source.new) }
     ensures write { result ≡ Status.WriteFault → Rose (K.faults sink.old) (K.faults sink.new) }
 {
@@ -310,6 +312,8 @@ pub fn rtdb_plain<S: Source, K: Sink>(
 ) -> Status
     // Which status, and what is written.
     ensures answer { Answers (plain_command_of words.now) (S.left source.old) (S.left source.new) (K.taken sink.old) (K.taken sink.new) result }
+    // Without a command and to generate, nothing is read, whatever the status is.
+    ensures unread { TakesNoInput (plain_command_of words.now) → source.new ≡ source.old }
     // No fault is told unless there was one.
     ensures read { result ≡ Status.ReadFault → Rose (S.faults source.old) (S.faults source.new) }
     ensures write { result ≡ Status.WriteFault → Rose (K.faults sink.old) (K.faults sink.new) }
@@ -342,6 +346,8 @@ pub fn rtdb<R: Threads + Wait + Sync, S: Source, K: Sink, G: Gate + Sync>(
 ) -> Status
     // Which status, and what is written.
     ensures answer { Answers (command_of words.now) (S.left source.old) (S.left source.new) (K.taken sink.old) (K.taken sink.new) result }
+    // Without a command, to generate and to load, nothing is read, whatever the status is.
+    ensures unread { TakesNoInput (command_of words.now) → source.new ≡ source.old }
     // No fault is told unless there was one.
     ensures read { result ≡ Status.ReadFault → Rose (S.faults source.old) (S.faults source.new) }
     ensures write { result ≡ Status.WriteFault → Rose (K.faults sink.old) (K.faults sink.new) }

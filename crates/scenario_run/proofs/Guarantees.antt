@@ -1,5 +1,5 @@
 -- What the laws say of the run of a scenario.
-use Rattle.std.proofs.Common.{◌≡◌, ℕ, Bool, true, false, not, List, None}
+use Rattle.std.proofs.Common.{◌≡◌, ℕ, ◌<◌, Bool, true, false, not, List, None, length, arith}
 use Rattle.txn_set.specs.Set.{Set, IsCompiled}
 use Rattle.step_journal.specs.declared.entry.Entry.{Entry}
 use Rattle.step_journal.specs.History.{IsLegal}
@@ -11,9 +11,12 @@ use Rattle.set_admission.specs.Admission.{refusal}
 use Rattle.set_admission.proofs.Admitted.{decided}
 use Rattle.set_admission.proofs.Kept.{keeps_bounds}
 use Rattle.scenario.specs.Shown.{Shown, set_of}
+use Rattle.scenario.specs.Scenarios.{IsScenario}
 use Rattle.scenario_run.specs.Runs.{IsGuaranteed, KeepsBoundsUnless, IsRunText}
 use Rattle.eager_laws.specs.Plannable.{own_of}
 use Rattle.eager_laws.proofs.Scenario.{none_eager}
+use Rattle.eager_laws.proofs.Fits.{run_fits, scenario_room}
+use Rattle.plant_history.specs.Histories.{IsRunOf}
 use Rattle.plant_history.proofs.Fixed.{fixed_sim}
 use Rattle.plant_report.specs.Eager.{IsRunTextBy}
 use Rattle.workload_laws.specs.Runs.{workload_of}
@@ -35,8 +38,11 @@ bounded : (trial : Bool) (set : Set) (history : List Entry) → IsCompiled set �
 bounded true set history ok legal h = tt
 bounded false set history ok legal h = keeps_bounds set history ok ((decided set ok).by_found.0 h) legal
 
-pub run_text : (trial : Bool) (s : Shown) (text : List ℕ) → IsCompiled (set_of s) → IsAdmittedUnless trial (set_of s) → IsRunTextBy s.names (not trial) (workload_of s) (own_of s) text → IsRunText trial s text
-run_text trial s text ok h t =
+few : (s : Shown) (history : List Entry) → IsScenario s → IsCompiled (set_of s) → IsRunOf (workload_of s) (own_of s) history → length history < s.room
+few s history is ok run = omega (arith, run_fits (workload_of s) (own_of s) history ok run.so_far, scenario_room s is)
+
+pub run_text : (trial : Bool) (s : Shown) (text : List ℕ) → IsScenario s → IsCompiled (set_of s) → IsAdmittedUnless trial (set_of s) → IsRunTextBy s.names (not trial) (workload_of s) (own_of s) text → IsRunText trial s text
+run_text trial s text is ok h t =
     let history = t.history in
     let legal = t.run.so_far.legal in
     record {
@@ -45,5 +51,6 @@ run_text trial s text ok h t =
       determined = λ calm. fixed_sim (workload_of s) (own_of s) history (none_eager s calm) t.run;
       guaranteed = guaranteed (set_of s) history ok legal;
       bounded = bounded trial (set_of s) history ok legal h;
+      few = few s history is ok t.run;
       written = t.written;
     }

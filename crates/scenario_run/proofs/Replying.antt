@@ -20,11 +20,11 @@ pub trial_reply : (s : Shown) (status : Status) (text : List ℕ) → IsScenario
     → IsRunTextBy s.names false (workload_of s) (own_of s) text → RunReply true s status text
 trial_reply s status text is none ok t =
     subst (λ (o : Option CompileError). Compiling (Ran true s) s.names o status text) (sym none)
-    (ok, run_text true s text (is_compiled s is none) tt t)
+    (ok, run_text true s text is (is_compiled s is none) tt t)
 
 pub admitted_reply : (s : Shown) (status : Status) (text : List ℕ) → IsScenario s → compile_refusal (set_of s) ≡ None → refusal (set_of s) ≡ None
     → status ≡ statuses.Ok → IsRunTextBy s.names true (workload_of s) (own_of s) text → RunReply false s status text
 admitted_reply s status text is none admits ok t =
     subst (λ (o : Option CompileError). Compiling (Admitting (Ran false s) s.names (refusal (set_of s))) s.names o status text) (sym none)
     (subst (λ (o : Option AdmitError). Admitting (Ran false s) s.names o status text) (sym admits)
-    (ok, run_text false s text (is_compiled s is none) admits t))
+    (ok, run_text false s text is (is_compiled s is none) admits t))

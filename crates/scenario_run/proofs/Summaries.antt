@@ -1,12 +1,17 @@
 -- The run of a generated scenario, whose entries are kept, and in which no transaction is eager.
-use Rattle.std.proofs.Common.{◌≡◌, ℕ, false, List, [], ◌∷◌, map, Option, None, Some, Result, Ok, Err, IfOk, IfErr, refl, sym, ap, subst, ◌∙◌}
+use Rattle.std.proofs.Common.{◌≡◌, ℕ, ◌+◌, ◌<◌, ◌≤◌, length, arith, false, List, [], ◌∷◌, map, Option, None, Some, Result, Ok, Err, IfOk, IfErr, refl, sym, ap, subst, ◌∙◌}
+use mathlib.Core.Path.{fun_ext}
 use Rattle.std.specs.List.{list_any, range_with_len}
 use Rattle.txn_set.specs.Set.{Set, IsCompiled}
 use Rattle.txn_compiler.specs.Refusal.{compile_refusal}
 use Rattle.txn_compiler.proofs.Verdict.{compiled-unless-refused}
 use Rattle.step_journal.specs.declared.entry.Entry.{Entry}
 use Rattle.sim_history.specs.Sim.{Body, Workload, IsSim}
-use Rattle.sim_run.specs.Workloads.{workload}
+use Rattle.counting_laws.specs.Counting.{room_of_jobs}
+use Rattle.sim_run.specs.Workloads.{workload, ticks_of}
+use Rattle.plant_history.specs.Histories.{IsRunOf}
+use Rattle.eager_laws.specs.Plannable.{own_of}
+use Rattle.eager_laws.proofs.Fits.{run_fits, scenario_room}
 use Rattle.step_script.specs.declared.script.Script.{Script}
 use Rattle.step_script.specs.Scripts.{next_of}
 use Rattle.scenario.specs.declared.releases.Releases.{Releases}
@@ -34,13 +39,15 @@ pub never : {A : Type 0} (o : Option A) (x : A) → o ≡ None → o ≡ Some x 
 never o x none some = cc
 
 pub summarized : {A E : Type 0} (items : A → List ℕ) (r : Result A E) (w : Workload) (set : Set) (history kept : List Entry) → set ≡ w.set → kept ≡ history → IsSim w history
+    → length history ≤ room_of_jobs w.set.txns (λ tx. length (ticks_of w.releases tx))
     → IfOk r (λ t. items t ≡ summary_of set kept) → IfOk r (λ t. IsSummaryBy w (items t))
-summarized items (Ok t) w set history kept e f sim h = record {
+summarized items (Ok t) w set history kept e f sim few h = record {
   history = history;
   sim = sim;
+  few = few;
   written = h ∙ (ap (λ (s : Set). summary_of s kept) e ∙ ap (summary_of w.set) f);
 }
-summarized items (Err e) w set history kept f g sim h = tt
+summarized items (Err e) w set history kept f g sim few h = tt
 
 -- the summary of what a scenario declares is that of its workload
 pub summary_as : (set : Set) (scripts : List Script) (releases : List Releases) (d : Declares set scripts releases)
@@ -54,15 +61,24 @@ summary_as set scripts releases d scripts' ticks text e g h =
 pub legal_as : (set set' : Set) (h kept : List Entry) → set' ≡ set → kept ≡ h → IsLegal set h → IsLegal set' kept
 legal_as set set' h kept e f legal = subst (λ (q : Set). IsLegal q kept) (sym e) (subst (IsLegal set) (sym f) legal)
 
--- the text of the generated scenario's run
-pub load_text : (n : ℕ) (s : Shown) (text text' : List ℕ) → s ≡ generated_of n
-    → text' ≡ text → IsSummaryBy (workload_of s) text → IsLoadText n text'
-load_text n s text text' e f h =
-    let h' : IsSummaryBy (workload_of (generated_of n)) text' = subst (λ (q : Shown). IsSummaryBy (workload_of q) text') e (subst (λ (t : List ℕ). IsSummaryBy (workload_of s) t) (sym f) h) in
-    record { history = h'.history; sim = h'.sim; written = h'.written }
+-- where no transaction plans a job itself a run has at most the entries of its releases
+pub fixed_fits : (w : Workload) (own : ℕ → ℕ) (history : List Entry) → IsCompiled w.set → ((tx : ℕ) → own tx ≡ 0) → IsRunOf w own history
+    → length history ≤ room_of_jobs w.set.txns (λ tx. length (ticks_of w.releases tx))
+fixed_fits w own history ok none run =
+    subst (λ (jobs : ℕ → ℕ). length history ≤ room_of_jobs w.set.txns jobs)
+    (fun_ext {f = λ tx. length (ticks_of w.releases tx) + own tx} {g = λ tx. length (ticks_of w.releases tx)} (λ tx. omega (arith, none tx)))
+    (run_fits w own history ok run.so_far)
 
 pub summary_on_set : (set set' : Set) (bodies : List Body) (ticks : List (List ℕ)) (text : List ℕ) → set' ≡ set → IsSummaryBy (workload set' bodies ticks) text → IsSummaryBy (workload set bodies ticks) text
 summary_on_set set set' bodies ticks text e h = subst (λ (q : Set). IsSummaryBy (workload q bodies ticks) text) e h
+
+-- a scenario in which no transaction is eager has more room than its releases need
+fixed_room : (s : Shown) → IsScenario s → list_any is_eager s.releases ≡ false
+    → room_of_jobs s.txns (λ tx. length (ticks_of (workload_of s).releases tx)) < s.room
+fixed_room s is calm =
+    subst (λ (jobs : ℕ → ℕ). room_of_jobs s.txns jobs < s.room)
+    (fun_ext {f = λ tx. length (ticks_of (workload_of s).releases tx) + own_of s tx} {g = λ tx. length (ticks_of (workload_of s).releases tx)} (λ tx. omega (arith, none_eager s calm tx)))
+    (scenario_room s is)
 
 calm_from : (ns : List ℕ) → list_any is_eager (map releases_each ns) ≡ false
 calm_from [] = refl
@@ -72,9 +88,24 @@ releases_of_generated : (n : ℕ) → (generated_of n).releases ≡ each release
 unfolding generated_of
 releases_of_generated n = refl
 
+calm_generated : (n : ℕ) → list_any is_eager (generated_of n).releases ≡ false
+calm_generated n = ap (list_any is_eager) (releases_of_generated n) ∙ calm_from (range_with_len 0 n)
+
+-- the text of the generated scenario's run
+pub load_text : (n : ℕ) (s : Shown) (text text' : List ℕ) → IsScenario s → s ≡ generated_of n
+    → text' ≡ text → IsSummaryBy (workload_of s) text → IsLoadText n text'
+load_text n s text text' is e f h =
+    let h' : IsSummaryBy (workload_of (generated_of n)) text' = subst (λ (q : Shown). IsSummaryBy (workload_of q) text') e (subst (λ (t : List ℕ). IsSummaryBy (workload_of s) t) (sym f) h) in
+    record {
+      history = h'.history;
+      sim = h'.sim;
+      few = omega (arith, h'.few, fixed_room (generated_of n) (subst IsScenario e is) (calm_generated n));
+      written = h'.written;
+    }
+
 -- no transaction of the generated scenario is eager
 pub generated_own : (n : ℕ) (s : Shown) (own : List ℕ) → s ≡ generated_of n → own ≡ map eager_of s.releases → (tx : ℕ) → own_at own tx ≡ 0
 generated_own n s own e f tx =
     let calm : list_any is_eager s.releases ≡ false =
-    ap (λ (q : Shown). list_any is_eager q.releases) e ∙ (ap (list_any is_eager) (releases_of_generated n) ∙ calm_from (range_with_len 0 n)) in
+    ap (λ (q : Shown). list_any is_eager q.releases) e ∙ calm_generated n in
     ap (λ (o : ℕ → ℕ). o tx) (own_is s own f) ∙ none_eager s calm tx

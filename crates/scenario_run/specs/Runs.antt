@@ -6,7 +6,7 @@ use Rattle.txn_set.specs.Set.{Set}
 use Rattle.step_journal.specs.declared.entry.Entry.{Entry}
 use Rattle.step_journal.specs.Serial.{IsSerial}
 use Rattle.history_laws.specs.Protocol.{DelayedByOne}
-use Rattle.counting_laws.specs.Counting.{refusal_count}
+use Rattle.counting_laws.specs.Counting.{refusal_count, room_of_jobs}
 use Rattle.commit_laws.specs.Commits.{CommitsAreFresh}
 use Rattle.set_admission.specs.Laws.{KeepsBounds}
 use Rattle.sim_history.specs.Sim.{Body, Workload, IsSim}
@@ -67,20 +67,24 @@ pub record IsReady (set : Set) (scripts : List Script) (ticks : List (List ℕ))
 pub record IsSummaryBy (w : Workload) (text : List ℕ) : Type 0 where
   pub history : List Entry
   pub sim : IsSim w history
+  pub few : length history ≤ room_of_jobs w.set.txns (λ tx. length (ticks_of w.releases tx))
   pub written : text ≡ summary_of w.set history
 
 -- The text of the run of a scenario, as a trial or admitted: the report of a whole run of its workload, which is the one
--- run where no transaction is eager.
+-- run where no transaction is eager, and has fewer entries than the scenario's room.
 pub record IsRunText (trial : Bool) (s : Shown) (text : List ℕ) : Type 0 where
   pub history : List Entry
   pub run : IsRunOf (workload_of s) (own_of s) history
   pub determined : has_eager s ≡ false → IsSim (workload_of s) history
   pub guaranteed : IsGuaranteed (set_of s) history
   pub bounded : KeepsBoundsUnless trial (set_of s) history
+  pub few : length history < s.room
   pub written : text ≡ report_of s.names (set_of s) (not trial) history
 
--- The text of the run of a generated scenario: the summary of the one history of its workload.
+-- The text of the run of a generated scenario: the summary of the one history of its workload, which has fewer entries
+-- than the scenario's room.
 pub record IsLoadText (n : ℕ) (text : List ℕ) : Type 0 where
   pub history : List Entry
   pub sim : IsSim (workload_of (generated_of n)) history
+  pub few : length history < (generated_of n).room
   pub written : text ≡ summary_of (set_of (generated_of n)) history

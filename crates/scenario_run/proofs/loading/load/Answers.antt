@@ -49,7 +49,7 @@ returns g c =
     record { scenario = s; is = c.in_ok-items.ensures.scenario; set_is = set_is; programs_are = programs; releases_are = releases } in
     let same_set : c.in-Ok-new.board.set ≡ c.in-Ok.set = c.in-Ok-new.ensures.ok.0 in (
       c.written.ensures.0,
-      load_text c.args.n s c.in_ok-text.text.items c.written.result.text.items c.in_ok-items.ensures.made c.written.ensures.1
+      load_text c.args.n s c.in_ok-text.text.items c.written.result.text.items c.in_ok-items.ensures.scenario c.in_ok-items.ensures.made c.written.ensures.1
           (summary_as c.in-Ok.set c.in_ok-items.field-0.scripts c.in_ok-items.field-0.releases d c.in_ok-bodies.bodies.scripts.items c.in_ok-bodies.bodies.ticks.items c.in_ok-text.text.items
           c.in_ok-bodies.ensures.scripts c.in_ok-bodies.ensures.ticks (summary_on_set c.in-Ok.set c.in-Ok-new.board.set _ _ _ same_set c.in_ok-text.ensures)),
     )
