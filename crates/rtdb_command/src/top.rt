@@ -36,6 +36,7 @@ const USAGE: &[u8] =
 
 // The names that a text's forms declare, for the line of a refusal.
 fn names(alloc: Global, input: &[u8]) -> Result<Names, OutOfMemory>
+    requires { length input.now ≤ SCENARIO_LIMIT }
     ensures { IfOk result (λ names. names ≡ names_in (data_of input.now)) }
 {
     let value = match read_value(alloc, input) {
@@ -60,18 +61,16 @@ fn names_of(forms: Forms) -> Names
         sets: _,
     } = forms;
     let ItemTable {
-        places: _,
         names: items,
         decls: _,
     } = items;
     let TxnTable {
-        places: _,
         names: txns,
         txns: _,
     } = txns;
     Names {
-        items: List::of(items),
-        txns: List::of(txns),
+        items: List::of(items.into_names()),
+        txns: List::of(txns.into_names()),
     }
 }
 

@@ -1,8 +1,7 @@
 -- The items of a scenario.
 use Rattle.std.specs.Prelude.{ℕ, pos, ◌^◌, ◌||◌, List, [], ◌∷◌, ◌++◌, length, codes, Bool, if◌then◌else◌, Option, Some, None, Result, Ok, option_and_then, is_none}
 use Rattle.std.specs.Str.{bytes_eq}
-use Rattle.std.specs.Map.{update}
-use Rattle.std.specs.BTreeMap.{get_by_text}
+use Rattle.name_table.specs.Places.{place_in}
 use Rattle.item_model.specs.declared.decl.ItemKind.{ItemKind}
 use Rattle.item_model.specs.declared.decl.ItemKind.TheVariants as kinds
 use Rattle.item_model.specs.declared.decl.ItemDecl.{ItemDecl}
@@ -50,25 +49,20 @@ item_at taken i d = do
   initial ← member_or (pos 0) (places.ItemMember i members.Value) integer (codes "value") d
   Ok (name, record { kind = kind; initial = initial })
 
--- items, and the places of their names
+-- items by their names, each of which has its place
 pub record Table : Type 0 where
-  pub places : Places
   pub names : List (List ℕ)
   pub decls : List ItemDecl
 
 abbrev pub no_items_yet : Table
-no_items_yet = record { places = λ q. None; names = []; decls = [] }
+no_items_yet = record { names = []; decls = [] }
 
 abbrev pub with_item : Table → List ℕ × ItemDecl → Table
-with_item t x = record {
-  places = update bytes_eq t.places x.0 (Some (length t.names));
-  names = t.names ++ x.0 ∷ [];
-  decls = t.decls ++ x.1 ∷ [];
-}
+with_item t x = record { names = t.names ++ x.0 ∷ []; decls = t.decls ++ x.1 ∷ [] }
 
 -- one more item
 unfoldable pub item_step : Table → Data → Result Table FormError
-item_step t d = item_at t.places (length t.names) d >>= λ x. Ok (with_item t x)
+item_step t d = item_at (place_in t.names) (length t.names) d >>= λ x. Ok (with_item t x)
 
 abbrev pub table_view : ItemTable → Table
-table_view t = record { places = get_by_text t.places; names = t.names.items; decls = t.decls.items }
+table_view t = record { names = t.names; decls = t.decls.items }

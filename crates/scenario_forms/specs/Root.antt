@@ -1,6 +1,7 @@
 -- A whole scenario by its forms.
 use Rattle.std.specs.Prelude.{ℕ, ◌&&◌, ◌||◌, List, [], map, codes, Bool, if◌then◌else◌, Some, None, Result, Ok, option_and_then, is_some}
 use Rattle.std.specs.Str.{bytes_eq}
+use Rattle.name_table.specs.Places.{place_in}
 use Rattle.serde_json.specs.Data.{Data}
 use Rattle.serde_json.specs.Find.{get, as_array}
 use Rattle.scenario_forms.specs.declared.error.Place.TheVariants as places
@@ -62,6 +63,6 @@ unfoldable pub forms_at : Data → Result Formed FormError
 forms_at d = do
   version ← head_at d
   items ← items_at d
-  txns ← txns_at (is_second d) items.places d
-  sets ← sets_at items.places d
+  txns ← txns_at (is_second d) (place_in items.names) d
+  sets ← sets_at (place_in items.names) d
   Ok (record { version = version; items = items; txns = txns; sets = sets })

@@ -1,8 +1,7 @@
 -- The transactions of a scenario.
 use Rattle.std.specs.Prelude.{ℕ, ℤ, ◌^◌, ◌&&◌, ◌||◌, List, [], ◌∷◌, ◌++◌, length, map, codes, Bool, if◌then◌else◌, Option, Some, None, Result, Ok, is_none, is_some}
 use Rattle.std.specs.Str.{bytes_eq}
-use Rattle.std.specs.Map.{update}
-use Rattle.std.specs.BTreeMap.{get_by_text}
+use Rattle.name_table.specs.Places.{place_in}
 use Rattle.rt_base.specs.declared.ids.ItemId.{ItemId}
 use Rattle.serde_json.specs.Data.{Data}
 use Rattle.serde_json.specs.Find.{get}
@@ -126,27 +125,21 @@ txn_name second taken i d = do
   formed ← needed (places.Txn i) (if no_others (is_txn_member second) d then Some formed_unit else None)
   member_at (places.TxnMember i members.Name) (new_name taken) (codes "name") d
 
--- transactions, and the places of their names
+-- transactions by their names, each of which has its place
 pub record Txns : Type 0 where
-  pub places : Places
   pub names : List (List ℕ)
   pub txns : List Txn
 
 abbrev pub no_txns_yet : Txns
-no_txns_yet = record { places = λ q. None; names = []; txns = [] }
+no_txns_yet = record { names = []; txns = [] }
 
 abbrev pub with_txn : Txns → List ℕ → Txn → Txns
-with_txn t name x = record {
-  places = update bytes_eq t.places name (Some (length t.names));
-  names =
-      t.names ++ name ∷ [];
-  txns = t.txns ++ x ∷ [];
-}
+with_txn t name x = record { names = t.names ++ name ∷ []; txns = t.txns ++ x ∷ [] }
 
 -- one more transaction
 unfoldable pub txn_step : Bool → Places → Txns → Data → Result Txns FormError
-txn_step second items t d = txn_name second t.places (length t.names) d >>= λ name. txn_at items (length t.names) d
-    >>= λ x. Ok (with_txn t name x)
+txn_step second items t d = txn_name second (place_in t.names) (length t.names) d >>= λ name. txn_at items
+    (length t.names) d >>= λ x. Ok (with_txn t name x)
 
 abbrev pub txns_view : TxnTable → Txns
-txns_view t = record { places = get_by_text t.places; names = t.names.items; txns = map txn_view t.txns.items }
+txns_view t = record { names = t.names; txns = map txn_view t.txns.items }

@@ -1,6 +1,6 @@
 //! Arrays of texts, numbers and operations.
 ghost use Rattle.std.specs.Prelude.{◌≡◌, ◌^◌, map};
-ghost use Rattle.std.specs.BTreeMap.{get_by_text};
+ghost use Rattle.name_table.specs.Places.{place_in};
 ghost use Rattle.serde_json.specs.View.{view, items_view};
 ghost use Rattle.scenario_forms.specs.declared.error.TxnMember.TheVariants as members;
 ghost use Rattle.scenario_forms.specs.Reading.{GivesBy, needed, all_at};
@@ -12,10 +12,10 @@ use crate::error::{FormError, Place, TxnMember};
 use crate::fields::{need, whole_number};
 use crate::names::item;
 use crate::ops::{ReadOp, operation};
+use name_table::NameTable;
 use rt_base::ItemId;
 use serde_json::Value;
 use std::alloc::Global;
-use std::collections::BTreeMap;
 
 const LAST_TICK: u64 = 1 << 53;
 
@@ -35,15 +35,11 @@ fn element(owner: Owner, j: usize) -> Place
     }
 }
 
-fn named_at(
-    place: Place,
-    places: &BTreeMap<String, u32>,
-    value: &Value,
-) -> Result<Option<ItemId>, FormError>
-    ensures { result ≡ needed place (named (get_by_text places.now) (view value.now)) }
+fn named_at(place: Place, names: &NameTable, value: &Value) -> Result<Option<ItemId>, FormError>
+    ensures { result ≡ needed place (named (place_in names.now) (view value.now)) }
 {
     match value.as_str() {
-        Some(text) => Ok(item(places, text)),
+        Some(text) => Ok(item(names, text)),
         None => Err(FormError::BadField { place }),
     }
 }
@@ -52,15 +48,15 @@ fn named_at(
 pub(crate) fn items_named(
     alloc: Global,
     owner: Owner,
-    places: &BTreeMap<String, u32>,
+    names: &NameTable,
     values: &[Value],
 ) -> Result<Vec<Option<ItemId>>, FormError>
     ensures { GivesBy (λ v. v.items) result
-        (all_at (element_place owner) (named (get_by_text places.now)) (items_view values.now)) }
+        (all_at (element_place owner) (named (place_in names.now)) (items_view values.now)) }
 {
     let mut found = Vec::new(alloc);
     for value in values {
-        let item = named_at(element(owner, found.len()), places, value)?;
+        let item = named_at(element(owner, found.len()), names, value)?;
         found.push(item)?;
     }
     Ok(found)
@@ -107,11 +103,11 @@ pub(crate) fn samples(alloc: Global, i: usize, values: &[Value]) -> Result<Vec<i
 pub(crate) fn script(
     alloc: Global,
     i: usize,
-    places: &BTreeMap<String, u32>,
+    names: &NameTable,
     values: &[Value],
 ) -> Result<Vec<ReadOp>, FormError>
     ensures { GivesBy (λ v. map op_view v.items) result
-        (all_at (element_place (Owner.Txn i members.Script)) (op_in (get_by_text places.now)) (items_view values.now)) }
+        (all_at (element_place (Owner.Txn i members.Script)) (op_in (place_in names.now)) (items_view values.now)) }
 {
     let owner = Owner::Txn {
         i,
@@ -119,7 +115,7 @@ pub(crate) fn script(
     };
     let mut found = Vec::new(alloc);
     for value in values {
-        let op = operation(alloc, element(owner, found.len()), places, value)?;
+        let op = operation(alloc, element(owner, found.len()), names, value)?;
         found.push(op)?;
     }
     Ok(found)

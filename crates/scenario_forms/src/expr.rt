@@ -1,6 +1,6 @@
 //! Whole expressions.
 ghost use Rattle.std.specs.Prelude.{◌≡◌, true};
-ghost use Rattle.std.specs.BTreeMap.{get_by_text};
+ghost use Rattle.name_table.specs.Places.{place_in};
 ghost use Rattle.serde_json.specs.View.{view};
 ghost use Rattle.scenario_forms.specs.Exprs.{GivesExpr, MakesExpr, expr_at, expr_view, bin_of, last_of};
 ghost use Rattle.step_script.specs.Values.{leaf_const, leaf_sample, leaf_serial};
@@ -9,10 +9,10 @@ ghost use Rattle.scenario_forms.specs.declared.expr.Fault.TheVariants.{OutOfMemo
 
 use crate::names::item;
 use crate::shape::{Shape, level};
+use name_table::NameTable;
 use rt_base::ItemId;
 use serde_json::Value;
 use std::alloc::{AllocError, AllocFailed, Global};
-use std::collections::BTreeMap;
 use step_script::{BinOp, Expr};
 
 /// An expression, and whether all its names are those of items. Item 0 stands for a name that is none.
@@ -45,10 +45,10 @@ impl<T: Drop> From<AllocFailed<T>> for Fault {
     }
 }
 
-fn last(places: &BTreeMap<String, u32>, name: &str) -> ReadExpr
-    ensures { expr_view result ≡ last_of (item_in (get_by_text places.now) name.now) }
+fn last(names: &NameTable, name: &str) -> ReadExpr
+    ensures { expr_view result ≡ last_of (item_in (place_in names.now) name.now) }
 {
-    match item(places, name) {
+    match item(names, name) {
         Some(item) => ReadExpr {
             expr: Expr::Last(item),
             known: true,
@@ -110,11 +110,11 @@ fn bin(alloc: Global, op: BinOp, first: ReadExpr, second: ReadExpr) -> Result<Re
 #[tactic(auto, using(crate::proofs::Depth::at_zero, crate::proofs::Depth::at_depth))]
 pub(crate) fn read_expr(
     alloc: Global,
-    places: &BTreeMap<String, u32>,
+    names: &NameTable,
     depth: u32,
     value: &Value,
 ) -> Result<ReadExpr, Fault>
-    ensures { GivesExpr result (expr_at (get_by_text places.now) depth (view value.now)) }
+    ensures { GivesExpr result (expr_at (place_in names.now) depth (view value.now)) }
 {
     if depth == 0 {
         return Err(Fault::Form);
@@ -124,10 +124,10 @@ pub(crate) fn read_expr(
         Some(Shape::Const(n)) => Ok(constant(n)),
         Some(Shape::Sample) => Ok(sample()),
         Some(Shape::Serial) => Ok(serial()),
-        Some(Shape::Last(name)) => Ok(last(places, name)),
+        Some(Shape::Last(name)) => Ok(last(names, name)),
         Some(Shape::Bin(op, first, second)) => {
-            let first = read_expr(alloc, places, depth - 1, first)?;
-            let second = read_expr(alloc, places, depth - 1, second)?;
+            let first = read_expr(alloc, names, depth - 1, first)?;
+            let second = read_expr(alloc, names, depth - 1, second)?;
             bin(alloc, op, first, second)
         }
     }

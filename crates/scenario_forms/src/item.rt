@@ -1,7 +1,8 @@
 //! Item objects.
-ghost use Rattle.std.specs.Prelude.{◌≡◌, List, codes, string_bytes, option_map, pos};
+ghost use Rattle.std.specs.Prelude.{◌≡◌, ◌≤◌, ◌^◌, List, codes, length, string_bytes, option_map, pos};
 ghost use Rattle.std.specs.List.{list_all};
-ghost use Rattle.std.specs.BTreeMap.{keys, get_by_text};
+ghost use Rattle.std.specs.BTreeMap.{keys};
+ghost use Rattle.name_table.specs.Places.{place_in};
 ghost use Rattle.serde_json.specs.View.{view, items_view};
 ghost use Rattle.scenario_forms.specs.Reading.{Gives, GivesBy, member_at, fold_at};
 ghost use Rattle.scenario_forms.specs.Fields.{new_name, no_others};
@@ -9,12 +10,12 @@ ghost use Rattle.scenario_forms.specs.Items.{is_item_member, kind_word, kind_for
 
 use crate::error::{FormError, ItemMember, Place};
 use crate::fields::{integer_or, need, number};
-use crate::names::{fresh, note};
+use crate::names::fresh;
 use item_model::{ItemDecl, ItemKind};
+use name_table::NameTable;
 use rt_base::Name;
 use serde_json::{Map, Value};
 use std::alloc::Global;
-use std::collections::BTreeMap;
 
 const LONGEST: u64 = 1 << 40;
 
@@ -26,11 +27,10 @@ pub(crate) enum KindWord {
     State,
 }
 
-/// The items of a scenario, with the places of their names.
+/// The items of a scenario by their names.
 #[derive(Drop)]
 pub struct ItemTable {
-    pub places: BTreeMap<String, u32>,
-    pub names: Vec<Name>,
+    pub names: NameTable,
     pub decls: Vec<ItemDecl>,
 }
 
@@ -79,14 +79,10 @@ fn is_item(value: &Value) -> bool
 
 /// A name that is not taken yet.
 #[tactic(auto, unfolding(crate::specs::Reading::member_at))]
-pub(crate) fn name_at(
-    place: Place,
-    places: &BTreeMap<String, u32>,
-    value: &Value,
-) -> Result<Name, FormError>
-    ensures { result ≡ member_at place (new_name (get_by_text places.now)) (codes "name") (view value.now) }
+pub(crate) fn name_at(place: Place, names: &NameTable, value: &Value) -> Result<Name, FormError>
+    ensures { result ≡ member_at place (new_name (place_in names.now)) (codes "name") (view value.now) }
 {
-    need(place, value.get("name").and_then(|v| fresh(places, v)))
+    need(place, value.get("name").and_then(|v| fresh(names, v)))
 }
 
 #[tactic(auto, unfolding(crate::specs::Reading::member_at))]
@@ -130,40 +126,31 @@ fn of_item(i: usize, member: ItemMember) -> Place
 }
 
 #[tactic(auto, unfolding(crate::specs::Items::item_at))]
-fn item(
-    places: &BTreeMap<String, u32>,
-    i: usize,
-    value: &Value,
-) -> Result<(Name, ItemDecl), FormError>
-    ensures { Gives result (item_at (get_by_text places.now) i (view value.now)) }
+fn item(names: &NameTable, i: usize, value: &Value) -> Result<(Name, ItemDecl), FormError>
+    ensures { Gives result (item_at (place_in names.now) i (view value.now)) }
 {
     need(
         Place::Item { i },
         if is_item(value) { Some(()) } else { None },
     )?;
-    let name = name_at(of_item(i, ItemMember::Name), places, value)?;
+    let name = name_at(of_item(i, ItemMember::Name), names, value)?;
     let word = word_at(of_item(i, ItemMember::Kind), value)?;
     let kind = kind_at(of_item(i, ItemMember::Validity), word, value)?;
     let initial = integer_or(of_item(i, ItemMember::Value), 0, "value", value)?;
     Ok((name, ItemDecl { kind, initial }))
 }
 
-/// The items of an array.
+/// The items of an array. Of each name it takes two look-ups.
 pub(crate) fn items(alloc: Global, values: &[Value]) -> Result<ItemTable, FormError>
+    requires { length values.now ≤ 2 ^ 32 }
     ensures { GivesBy table_view result (fold_at item_step no_items_yet (items_view values.now)) }
 {
-    let mut places = BTreeMap::new(alloc);
-    let mut names = Vec::new(alloc);
+    let mut names = NameTable::new(alloc);
     let mut decls = Vec::new(alloc);
     for value in values {
-        let (name, decl) = item(&places, names.len(), value)?;
-        note(alloc, &mut places, &name, names.len())?;
-        names.push(name)?;
+        let (name, decl) = item(&names, names.len(), value)?;
+        names.add(alloc, &name)?;
         decls.push(decl)?;
     }
-    Ok(ItemTable {
-        places,
-        names,
-        decls,
-    })
+    Ok(ItemTable { names, decls })
 }

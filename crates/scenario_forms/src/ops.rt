@@ -1,6 +1,6 @@
 //! Operations of scripts.
 ghost use Rattle.std.specs.Prelude.{◌≡◌, option_map};
-ghost use Rattle.std.specs.BTreeMap.{get_by_text};
+ghost use Rattle.name_table.specs.Places.{place_in};
 ghost use Rattle.serde_json.specs.View.{view};
 ghost use Rattle.scenario_forms.specs.Reading.{GivesBy, needed};
 ghost use Rattle.scenario_forms.specs.Fields.{item_in};
@@ -12,10 +12,10 @@ use crate::expr::{Fault, ReadExpr, read_expr};
 use crate::fields::small_number;
 use crate::names::item;
 use crate::object::is_sized;
+use name_table::NameTable;
 use rt_base::ItemId;
 use serde_json::Value;
 use std::alloc::Global;
-use std::collections::BTreeMap;
 use step_script::ScriptOp;
 
 /// An operation, and whether all its names are those of items. Item 0 stands for a name that is none.
@@ -94,10 +94,10 @@ fn form(value: &Value) -> Option<OpForm<'_>>
     by_compute(value)
 }
 
-fn read(places: &BTreeMap<String, u32>, name: &str) -> ReadOp
-    ensures { op_view result ≡ read_of (item_in (get_by_text places.now) name.now) }
+fn read(names: &NameTable, name: &str) -> ReadOp
+    ensures { op_view result ≡ read_of (item_in (place_in names.now) name.now) }
 {
-    match item(places, name) {
+    match item(names, name) {
         Some(item) => ReadOp {
             op: ScriptOp::Read(item),
             known: true,
@@ -109,11 +109,11 @@ fn read(places: &BTreeMap<String, u32>, name: &str) -> ReadOp
     }
 }
 
-fn write(places: &BTreeMap<String, u32>, name: &str, value: ReadExpr) -> ReadOp
-    ensures { op_view result ≡ write_of (item_in (get_by_text places.now) name.now) (expr_view value) }
+fn write(names: &NameTable, name: &str, value: ReadExpr) -> ReadOp
+    ensures { op_view result ≡ write_of (item_in (place_in names.now) name.now) (expr_view value) }
 {
     let ReadExpr { expr, known } = value;
-    match item(places, name) {
+    match item(names, name) {
         Some(item) => ReadOp {
             op: ScriptOp::Write(item, expr),
             known,
@@ -129,16 +129,16 @@ fn write(places: &BTreeMap<String, u32>, name: &str, value: ReadExpr) -> ReadOp
 pub(crate) fn operation(
     alloc: Global,
     place: Place,
-    places: &BTreeMap<String, u32>,
+    names: &NameTable,
     value: &Value,
 ) -> Result<ReadOp, FormError>
-    ensures { GivesBy op_view result (needed place (op_in (get_by_text places.now) (view value.now))) }
+    ensures { GivesBy op_view result (needed place (op_in (place_in names.now) (view value.now))) }
 {
     match form(value) {
         None => Err(FormError::BadField { place }),
-        Some(OpForm::Read(name)) => Ok(read(places, name)),
-        Some(OpForm::Write(name, expr)) => match read_expr(alloc, places, 32, expr) {
-            Ok(expr) => Ok(write(places, name, expr)),
+        Some(OpForm::Read(name)) => Ok(read(names, name)),
+        Some(OpForm::Write(name, expr)) => match read_expr(alloc, names, 32, expr) {
+            Ok(expr) => Ok(write(names, name, expr)),
             Err(Fault::Form) => Err(FormError::BadField { place }),
             Err(Fault::OutOfMemory) => Err(FormError::OutOfMemory),
         },

@@ -1,7 +1,8 @@
 //! The root object.
-ghost use Rattle.std.specs.Prelude.{◌≡◌, codes, string_bytes, is_some, option_and_then, map, Some, None, IfOk, IsErrOf};
+ghost use Rattle.std.specs.Prelude.{◌≡◌, ◌≤◌, ◌+◌, ◌^◌, codes, length, string_bytes, is_some, option_and_then, map, Some, None, IfOk, IsErrOf};
 ghost use Rattle.std.specs.List.{list_all};
-ghost use Rattle.std.specs.BTreeMap.{keys, get_by_text};
+ghost use Rattle.std.specs.BTreeMap.{keys};
+ghost use Rattle.name_table.specs.Places.{place_in};
 ghost use Rattle.serde_json.specs.View.{view};
 ghost use Rattle.serde_json.specs.Find.{get};
 ghost use Rattle.scenario_forms.specs.Reading.{GivesBy, data_of};
@@ -10,15 +11,16 @@ ghost use Rattle.scenario_forms.specs.Root.{is_root_member, is_second, forms_vie
 ghost use Rattle.scenario_forms.specs.Items.{table_view};
 ghost use Rattle.scenario_forms.specs.Txns.{txns_view};
 ghost use Rattle.scenario_forms.specs.Sets.{set_view};
+ghost use Rattle.scenario_forms.specs.Sizes.{size};
 
 use crate::error::{FormError, Place, TextError};
 use crate::fields::{array, array_or, need, number, whole_number};
 use crate::item::{ItemTable, items};
 use crate::sets::{ReadSet, sets};
 use crate::txn::{TxnTable, txns};
+use name_table::NameTable;
 use serde_json::{Map, Value};
 use std::alloc::Global;
-use std::collections::BTreeMap;
 
 /// A scenario whose forms are good, with its version, 1 or 2.
 #[derive(Drop)]
@@ -78,6 +80,7 @@ fn head(value: &Value) -> Result<u64, FormError>
 
 #[tactic(auto, unfolding(crate::specs::Root::items_at))]
 fn items_of(alloc: Global, value: &Value) -> Result<ItemTable, FormError>
+    requires { size (view value.now) ≤ 2 ^ 32 }
     ensures { GivesBy table_view result (items_at (view value.now)) }
 {
     let values = array(Place::Items, "items", value)?;
@@ -88,37 +91,35 @@ fn items_of(alloc: Global, value: &Value) -> Result<ItemTable, FormError>
 fn txns_of(
     alloc: Global,
     second: bool,
-    places: &BTreeMap<String, u32>,
+    items: &NameTable,
     value: &Value,
 ) -> Result<TxnTable, FormError>
-    ensures { GivesBy txns_view result (txns_at second (get_by_text places.now) (view value.now)) }
+    requires { size (view value.now) ≤ 2 ^ 32 }
+    ensures { GivesBy txns_view result (txns_at second (place_in items.now) (view value.now)) }
 {
     let values = array(Place::Txns, "transactions", value)?;
-    txns(alloc, second, places, values)
+    txns(alloc, second, items, values)
 }
 
 #[tactic(auto, unfolding(crate::specs::Root::sets_at))]
-fn sets_of(
-    alloc: Global,
-    places: &BTreeMap<String, u32>,
-    value: &Value,
-) -> Result<Vec<ReadSet>, FormError>
-    ensures { GivesBy (λ v. map set_view v.items) result (sets_at (get_by_text places.now) (view value.now)) }
+fn sets_of(alloc: Global, items: &NameTable, value: &Value) -> Result<Vec<ReadSet>, FormError>
+    ensures { GivesBy (λ v. map set_view v.items) result (sets_at (place_in items.now) (view value.now)) }
 {
     let values = array_or(Place::Together, "together", value)?;
-    sets(alloc, places, values)
+    sets(alloc, items, values)
 }
 
-/// The forms of a scenario, or the place of the first that is not good. It is linear in the value, but for the map of
-/// names.
+/// The forms of a scenario, or the place of the first that is not good, of a value that is made of at most 2^32 values.
+/// It is linear in the value, with one look-up in a hash map for each name in it.
 #[tactic(auto, unfolding(crate::specs::Root::forms_at))]
 pub fn read_forms(alloc: Global, value: &Value) -> Result<Forms, FormError>
+    requires { size (view value.now) ≤ 2 ^ 32 }
     ensures { GivesBy forms_view result (forms_at (view value.now)) }
 {
     let version = head(value)?;
     let items = items_of(alloc, value)?;
-    let txns = txns_of(alloc, is_version_two(value), &items.places, value)?;
-    let sets = sets_of(alloc, &items.places, value)?;
+    let txns = txns_of(alloc, is_version_two(value), &items.names, value)?;
+    let sets = sets_of(alloc, &items.names, value)?;
     Ok(Forms {
         version,
         items,
@@ -127,10 +128,12 @@ pub fn read_forms(alloc: Global, value: &Value) -> Result<Forms, FormError>
     })
 }
 
-/// The value of a JSON text. NotJson comes exactly where the bytes are no UTF-8 or the text has no reading.
+/// The value of a JSON text. NotJson comes exactly where the bytes are no UTF-8 or the text has no reading. The value is
+/// made of no more values than there are bytes, and one.
 pub fn read_value(alloc: Global, bytes: &[u8]) -> Result<Value, TextError>
     ensures value { IfOk result (λ v. data_of bytes.now ≡ Some (view v)) }
     ensures none { IsErrOf result TextError.NotJson → data_of bytes.now ≡ None }
+    ensures small { IfOk result (λ v. size (view v) ≤ length bytes.now + 1) }
 {
     match Value::from_slice(alloc, bytes) {
         Ok(value) => Ok(value),

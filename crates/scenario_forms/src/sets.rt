@@ -1,7 +1,8 @@
 //! Relative sets.
 ghost use Rattle.std.specs.Prelude.{◌≡◌, [], codes, string_bytes, map};
 ghost use Rattle.std.specs.List.{list_all};
-ghost use Rattle.std.specs.BTreeMap.{keys, get_by_text};
+ghost use Rattle.std.specs.BTreeMap.{keys};
+ghost use Rattle.name_table.specs.Places.{place_in};
 ghost use Rattle.serde_json.specs.View.{view, items_view};
 ghost use Rattle.scenario_forms.specs.Reading.{GivesBy, fold_at};
 ghost use Rattle.scenario_forms.specs.Fields.{no_others};
@@ -10,10 +11,10 @@ ghost use Rattle.scenario_forms.specs.Sets.{is_set_member, set_view, set_at, set
 use crate::arrays::{Owner, items_named};
 use crate::error::{FormError, Place};
 use crate::fields::{array, need, number};
+use name_table::NameTable;
 use rt_base::ItemId;
 use serde_json::{Map, Value};
 use std::alloc::Global;
-use std::collections::BTreeMap;
 
 const LONGEST: u64 = 1 << 40;
 
@@ -46,13 +47,8 @@ fn is_set(value: &Value) -> bool
 }
 
 #[tactic(auto, unfolding(crate::specs::Sets::set_at))]
-fn set(
-    alloc: Global,
-    i: usize,
-    items: &BTreeMap<String, u32>,
-    value: &Value,
-) -> Result<ReadSet, FormError>
-    ensures { GivesBy set_view result (set_at (get_by_text items.now) i (view value.now)) }
+fn set(alloc: Global, i: usize, items: &NameTable, value: &Value) -> Result<ReadSet, FormError>
+    ensures { GivesBy set_view result (set_at (place_in items.now) i (view value.now)) }
 {
     need(
         Place::Set { i },
@@ -67,11 +63,11 @@ fn set(
 /// The relative sets of an array.
 pub(crate) fn sets(
     alloc: Global,
-    items: &BTreeMap<String, u32>,
+    items: &NameTable,
     values: &[Value],
 ) -> Result<Vec<ReadSet>, FormError>
     ensures { GivesBy (λ v. map set_view v.items) result
-        (fold_at (set_step (get_by_text items.now)) [] (items_view values.now)) }
+        (fold_at (set_step (place_in items.now)) [] (items_view values.now)) }
 {
     let mut found = Vec::new(alloc);
     for value in values {

@@ -1,7 +1,8 @@
 //! Transaction objects.
-ghost use Rattle.std.specs.Prelude.{◌≡◌, List, codes, string_bytes, map};
+ghost use Rattle.std.specs.Prelude.{◌≡◌, ◌≤◌, ◌^◌, List, codes, length, string_bytes, map};
 ghost use Rattle.std.specs.List.{list_all};
-ghost use Rattle.std.specs.BTreeMap.{keys, get_by_text};
+ghost use Rattle.std.specs.BTreeMap.{keys};
+ghost use Rattle.name_table.specs.Places.{place_in};
 ghost use Rattle.serde_json.specs.View.{view, items_view};
 ghost use Rattle.scenario_forms.specs.Reading.{Gives, GivesBy, needed, fold_at};
 ghost use Rattle.scenario_forms.specs.Fields.{no_others};
@@ -12,13 +13,12 @@ use crate::arrays::{Owner, items_named, samples, script, ticks};
 use crate::error::{FormError, Place, TxnMember};
 use crate::fields::{array_or, need, number, number_or, small};
 use crate::item::name_at;
-use crate::names::note;
 use crate::ops::ReadOp;
+use name_table::NameTable;
 use rt_base::{ItemId, List, Name, Prio};
 use scenario::Releases;
 use serde_json::{Map, Value};
 use std::alloc::Global;
-use std::collections::BTreeMap;
 
 const LAST_PRIO: u32 = 1 << 31;
 
@@ -48,11 +48,10 @@ pub struct ReadTxn {
     pub script: Vec<ReadOp>,
 }
 
-/// The transactions of a scenario, with the places of their names.
+/// The transactions of a scenario by their names.
 #[derive(Drop)]
 pub struct TxnTable {
-    pub places: BTreeMap<String, u32>,
-    pub names: Vec<Name>,
+    pub names: NameTable,
     pub txns: Vec<ReadTxn>,
 }
 
@@ -203,10 +202,10 @@ fn names(
     i: usize,
     member: TxnMember,
     name: &str,
-    items: &BTreeMap<String, u32>,
+    items: &NameTable,
     value: &Value,
 ) -> Result<Vec<Option<ItemId>>, FormError>
-    ensures { GivesBy (λ v. v.items) result (names_at (get_by_text items.now) i member name.now (view value.now)) }
+    ensures { GivesBy (λ v. v.items) result (names_at (place_in items.now) i member name.now (view value.now)) }
 {
     let values = array_or(of_txn(i, member), name, value)?;
     items_named(alloc, Owner::Txn { i, member }, items, values)
@@ -224,23 +223,18 @@ fn samples_of(alloc: Global, i: usize, value: &Value) -> Result<Vec<i64>, FormEr
 fn script_of(
     alloc: Global,
     i: usize,
-    items: &BTreeMap<String, u32>,
+    items: &NameTable,
     value: &Value,
 ) -> Result<Vec<ReadOp>, FormError>
-    ensures { GivesBy (λ v. map op_view v.items) result (script_at (get_by_text items.now) i (view value.now)) }
+    ensures { GivesBy (λ v. map op_view v.items) result (script_at (place_in items.now) i (view value.now)) }
 {
     let values = array_or(of_txn(i, TxnMember::Script), "script", value)?;
     script(alloc, i, items, values)
 }
 
 #[tactic(auto, unfolding(crate::specs::Txns::txn_at))]
-fn txn(
-    alloc: Global,
-    i: usize,
-    items: &BTreeMap<String, u32>,
-    value: &Value,
-) -> Result<ReadTxn, FormError>
-    ensures { GivesBy txn_view result (txn_at (get_by_text items.now) i (view value.now)) }
+fn txn(alloc: Global, i: usize, items: &NameTable, value: &Value) -> Result<ReadTxn, FormError>
+    ensures { GivesBy txn_view result (txn_at (place_in items.now) i (view value.now)) }
 {
     let times = numbers(i, value)?;
     let reads = names(alloc, i, TxnMember::Reads, "reads", items, value)?;
@@ -260,13 +254,8 @@ fn txn(
 
 // The name, after the object itself.
 #[tactic(auto, unfolding(crate::specs::Txns::txn_name))]
-fn named(
-    second: bool,
-    i: usize,
-    places: &BTreeMap<String, u32>,
-    value: &Value,
-) -> Result<Name, FormError>
-    ensures { result ≡ txn_name second (get_by_text places.now) i (view value.now) }
+fn named(second: bool, i: usize, names: &NameTable, value: &Value) -> Result<Name, FormError>
+    ensures { result ≡ txn_name second (place_in names.now) i (view value.now) }
 {
     need(
         Place::Txn { i },
@@ -276,32 +265,27 @@ fn named(
             None
         },
     )?;
-    name_at(of_txn(i, TxnMember::Name), places, value)
+    name_at(of_txn(i, TxnMember::Name), names, value)
 }
 
-/// The transactions of an array.
+/// The transactions of an array. Of each name it takes two look-ups, and one of each item's that it names.
 pub(crate) fn txns(
     alloc: Global,
     second: bool,
-    items: &BTreeMap<String, u32>,
+    items: &NameTable,
     values: &[Value],
 ) -> Result<TxnTable, FormError>
+    requires { length values.now ≤ 2 ^ 32 }
     ensures { GivesBy txns_view result
-        (fold_at (txn_step second (get_by_text items.now)) no_txns_yet (items_view values.now)) }
+        (fold_at (txn_step second (place_in items.now)) no_txns_yet (items_view values.now)) }
 {
-    let mut places = BTreeMap::new(alloc);
-    let mut names = Vec::new(alloc);
+    let mut names = NameTable::new(alloc);
     let mut txns = Vec::new(alloc);
     for value in values {
-        let name = named(second, names.len(), &places, value)?;
+        let name = named(second, names.len(), &names, value)?;
         let read = txn(alloc, names.len(), items, value)?;
-        note(alloc, &mut places, &name, names.len())?;
-        names.push(name)?;
+        names.add(alloc, &name)?;
         txns.push(read)?;
     }
-    Ok(TxnTable {
-        places,
-        names,
-        txns,
-    })
+    Ok(TxnTable { names, txns })
 }

@@ -1,5 +1,5 @@
 //! Jobs and releases.
-ghost use Rattle.std.specs.Prelude.{◌≡◌, ◌≤◌, ◌<◌, ◌+◌, ◌*◌, ◌^◌, IfOk, IfNone, IsTrue, None, length, map, option_map};
+ghost use Rattle.std.specs.Prelude.{◌≡◌, ◌≤◌, ◌<◌, ◌+◌, ◌-◌, ◌*◌, ◌^◌, IfNone, IfSome, IsTrue, None, length, map, min};
 ghost use Rattle.std.specs.List.{All};
 ghost use Rattle.txn_set.specs.Ceilings.{greatest};
 ghost use Rattle.scenario.specs.Shown.{shown};
@@ -7,7 +7,7 @@ ghost use Rattle.scenario.specs.Releases.{jobs_of, eager_of, ticks_of, is_eager,
 ghost use Rattle.scenario.specs.Scenarios.{HasTextTimes};
 ghost use Rattle.scenario_judge.specs.Planning.{tick_refusal};
 
-use rt_base::{OutOfMemory, PlanRefused, Tick};
+use rt_base::{PlanRefused, Tick};
 use scenario::{Releases, Scenario};
 use txn_set::TxnDecl;
 
@@ -23,18 +23,15 @@ fn jobs(releases: &Releases) -> u64
     }
 }
 
-/// The number of all jobs. Want of memory stands for a number from 2^64 on, which no text below 2^32 bytes has.
-pub fn total_jobs(releases: &[Releases]) -> Result<u64, OutOfMemory>
-    ensures { IfOk result (λ n. n ≡ total_jobs_of releases.now) }
+/// The number of all jobs, and 2^64 - 1 where there are more. A step for each transaction.
+pub fn total_jobs(releases: &[Releases]) -> u64
+    ensures { result ≡ min (total_jobs_of releases.now) (2 ^ 64 - 1) }
 {
     let mut total = 0u64;
     for one in releases {
-        let Some(more) = total.checked_add(jobs(one)) else {
-            return Err(OutOfMemory);
-        };
-        total = more;
+        total = total.saturating_add(jobs(one));
     }
-    Ok(total)
+    total
 }
 
 // Why a tick may not be planned where this one is the earliest.
@@ -76,7 +73,8 @@ fn first_refused(txns: &[TxnDecl], releases: &[Releases]) -> Option<(usize, u32,
     requires each { length releases.now ≡ length txns.now }
     requires few { total_jobs_of releases.now ≤ 65536 }
     requires times { All HasTextTimes txns.now }
-    ensures { result ≡ refused_from 0 txns.now releases.now }
+    ensures first { result ≡ refused_from 0 txns.now releases.now }
+    ensures within { IfSome result (λ bad. bad.0 < length txns.now) }
 {
     for (tx, txn) in txns.iter().enumerate() {
         if let Some((index, cause)) = refused_in(txn, &releases[tx]) {
@@ -91,7 +89,8 @@ pub fn bad_release(scenario: &Scenario) -> Option<(usize, u32, PlanRefused)>
     requires each { length scenario.now.releases ≡ length scenario.now.txns }
     requires few { total_jobs_of scenario.now.releases ≤ 65536 }
     requires times { All HasTextTimes scenario.now.txns }
-    ensures { result ≡ bad_release_of (shown scenario.now) }
+    ensures first { result ≡ bad_release_of (shown scenario.now) }
+    ensures within { IfSome result (λ bad. bad.0 < length scenario.now.txns) }
 {
     first_refused(scenario.txns.as_slice(), scenario.releases.as_slice())
 }

@@ -1,5 +1,5 @@
 //! Scripts.
-ghost use Rattle.std.specs.Prelude.{◌≡◌, ◌<◌, IfOk, IsTrue, length, map, true, nat_lt};
+ghost use Rattle.std.specs.Prelude.{◌≡◌, ◌<◌, IfOk, IfSome, IsTrue, length, map, true, nat_lt};
 ghost use Rattle.std.specs.List.{All, list_all, position};
 ghost use Rattle.step_script.specs.Scripts.{operation, program_of, is_good};
 ghost use Rattle.scenario.specs.Shown.{shown};
@@ -43,7 +43,8 @@ fn first_bad(
 ) -> Result<Option<(usize, usize)>, OutOfMemory>
     requires each { length scripts.now ≡ length txns.now }
     requires good { All (IsProgramOver (length items.now)) (map program_of scripts.now) }
-    ensures { IfOk result (λ bad. bad ≡ bad_script_from items.now 0 txns.now (map program_of scripts.now)) }
+    ensures first { IfOk result (λ bad. bad ≡ bad_script_from items.now 0 txns.now (map program_of scripts.now)) }
+    ensures within { IfOk result (λ bad. IfSome bad (λ b. b.0 < length txns.now)) }
 {
     let mut walk = Walk::new(alloc, items.len())?;
     for (tx, txn) in txns.iter().enumerate() {
@@ -59,7 +60,8 @@ fn first_bad(
 pub fn bad_script(alloc: Global, scenario: &Scenario) -> Result<Option<(usize, usize)>, OutOfMemory>
     requires each { length scenario.now.scripts ≡ length scenario.now.txns }
     requires good { All (IsProgramOver (length scenario.now.items)) (shown scenario.now).programs }
-    ensures { IfOk result (λ bad. bad ≡ bad_script_of (shown scenario.now)) }
+    ensures first { IfOk result (λ bad. bad ≡ bad_script_of (shown scenario.now)) }
+    ensures within { IfOk result (λ bad. IfSome bad (λ b. b.0 < length scenario.now.txns)) }
 {
     first_bad(
         alloc,
@@ -92,7 +94,8 @@ fn is_long_script(script: &Script) -> bool
 
 // The first script that is too long.
 fn first_long(scripts: &[Script]) -> Option<usize>
-    ensures { result ≡ position is_long_made scripts.now }
+    ensures first { result ≡ position is_long_made scripts.now }
+    ensures within { IfSome result (λ tx. tx < length scripts.now) }
 {
     scripts.iter().position(|s| is_long_script(s))
 }
@@ -101,7 +104,8 @@ fn first_long(scripts: &[Script]) -> Option<usize>
 /// step for each operation that is written.
 #[tactic(auto, using(crate::proofs::Positions::position_long))]
 pub fn long_script(scenario: &Scenario) -> Option<usize>
-    ensures { result ≡ long_script_of (shown scenario.now) }
+    ensures first { result ≡ long_script_of (shown scenario.now) }
+    ensures within { IfSome result (λ tx. tx < length scenario.now.scripts) }
 {
     first_long(scenario.scripts.as_slice())
 }

@@ -36,7 +36,8 @@ use Rattle.scenario_reader.specs.Unknown.{unknown_name}
 use Rattle.scenario_reader.specs.Judged.{judged}
 use Rattle.scenario_reader.specs.Made.{program_from, made_of, with_room}
 use Rattle.scenario_reader.specs.Reading.{data_of, scenario_from, scenario_of, scenario_in}
-use Rattle.scenario_reader.proofs.Tables.{Holds, through, holds_ok, item_form}
+use Rattle.name_table.specs.Places.{place_in}
+use Rattle.scenario_forms.proofs.FreshNames.{Holds, through, holds_ok, item_form}
 use Rattle.scenario_writer.specs.Integers.{IsI64, HasConstants, OpHasConstants, ProgramHasIntegers, HasIntegers}
 use Rattle.scenario_laws.specs.Texts.{ReadHasIntegers}
 use Rattle.scenario_laws.proofs.Numbers.{IfI64, HasI64, ItemsHaveI64, MembersHaveI64, if_mapped, if_then, read_has}
@@ -327,8 +328,8 @@ DeclsHave t = All DeclHas t.decls
 item_steps : (t : Table) (d : Data) → HasI64 d → DeclsHave t → Holds DeclsHave (item_step t d)
 unfolding item_step
 item_steps t d h so_far =
-    through DeclsHave (item_at t.places (length t.names) d) _ (λ x is. All-push DeclHas t.decls x.1 so_far
-    (holds_ok NamedHas (item_at t.places (length t.names) d) x (item_has t.places (length t.names) d h) is))
+    through DeclsHave (item_at (place_in t.names) (length t.names) d) _ (λ x is. All-push DeclHas t.decls x.1 so_far
+    (holds_ok NamedHas (item_at (place_in t.names) (length t.names) d) x (item_has (place_in t.names) (length t.names) d h) is))
 
 decls_have : (d : Data) → HasI64 d → Holds DeclsHave (items_at d)
 unfolding items_at
@@ -386,7 +387,7 @@ txn_steps : (second : Bool) (items : Places) (t : Txns) (d : Data) → HasI64 d 
     → Holds TxnsHave (txn_step second items t d)
 unfolding txn_step
 txn_steps second items t d h so_far =
-    through TxnsHave (txn_name second t.places (length t.names) d) _ (λ name name_is.
+    through TxnsHave (txn_name second (place_in t.names) (length t.names) d) _ (λ name name_is.
     through TxnsHave (txn_at items (length t.names) d) _ (λ x is. All-push TxnHas t.txns x so_far
     (holds_ok TxnHas (txn_at items (length t.names) d) x (txn_has items (length t.names) d h) is)))
 
@@ -408,10 +409,10 @@ forms_have : (d : Data) → HasI64 d → Holds FormedHas (forms_at d)
 unfolding forms_at
 forms_have d h =
     through FormedHas (head_at d) _ (λ version version_is. through FormedHas (items_at d) _ (λ items items_is.
-    through FormedHas (txns_at (is_second d) items.places d) _ (λ txns txns_is.
-    through FormedHas (sets_at items.places d) _ (λ sets sets_is. record {
+    through FormedHas (txns_at (is_second d) (place_in items.names) d) _ (λ txns txns_is.
+    through FormedHas (sets_at (place_in items.names) d) _ (λ sets sets_is. record {
       items = holds_ok DeclsHave (items_at d) items (decls_have d h) items_is;
-      txns = holds_ok TxnsHave (txns_at (is_second d) items.places d) txns (txns_have (is_second d) items.places d h)
+      txns = holds_ok TxnsHave (txns_at (is_second d) (place_in items.names) d) txns (txns_have (is_second d) (place_in items.names) d h)
           txns_is;
     }))))
 

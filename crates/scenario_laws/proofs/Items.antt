@@ -7,6 +7,7 @@ use Rattle.item_model.specs.declared.decl.ItemKind.{ItemKind}
 use Rattle.item_model.specs.declared.decl.ItemKind.TheVariants.{Sensor, Derived, State}
 use Rattle.item_model.specs.declared.decl.ItemDecl.{ItemDecl}
 use Rattle.rt_base.specs.Names.{is_name, name_of}
+use Rattle.name_table.specs.Places.{place_in}
 use Rattle.serde_json.specs.Find.{get}
 use Rattle.serde_json.specs.View.{items_of}
 use Rattle.scenario.specs.Scenarios.{HasValidity}
@@ -20,7 +21,7 @@ use Rattle.scenario_writer.specs.Canonical.{item_data, items_data, word}
 use Rattle.scenario_writer.specs.Canonical as written
 use Rattle.scenario_laws.proofs.Parts.{then, found_member, found_or, head, tail, unfold_step, unfold_end, whole_back, integer_back}
 use Rattle.scenario_laws.proofs.Names.{AreFresh, rest_fresh}
-use Rattle.scenario_laws.specs.ReadBack.{noted, noted_all, table}
+use Rattle.scenario_laws.specs.ReadBack.{table}
 
 -- a new name is taken as it is
 pub new_back : (p : Places) (name : List ℕ) → is_name name ≡ true → p name ≡ None → unless_placed p name ≡ Some name
@@ -84,38 +85,31 @@ item_back p i name decl plain new valid fits =
     (written.integer decl.initial) decl.initial (gets_value name decl.kind decl.initial)
     (integer_back decl.initial fits))
 
-one_item : (name : List ℕ) (d : ItemDecl) (p : Places) (ns : List (List ℕ)) (ds : List ItemDecl) → is_name name ≡ true
-    → p name ≡ None → HasValidity d.kind → FitsSigned w64 d.initial
-    → item_step (table p ns ds) (item_data name d) ≡ Ok (with_item (table p ns ds) (name, d))
+one_item : (name : List ℕ) (d : ItemDecl) (ns : List (List ℕ)) (ds : List ItemDecl) → is_name name ≡ true
+    → place_in ns name ≡ None → HasValidity d.kind → FitsSigned w64 d.initial
+    → item_step (table ns ds) (item_data name d) ≡ Ok (with_item (table ns ds) (name, d))
 unfolding item_step
-one_item name d p ns ds plain new valid fits = then _ (name, d) _ (item_back p (length ns) name d plain new valid fits)
+one_item name d ns ds plain new valid fits =
+    then _ (name, d) _ (item_back (place_in ns) (length ns) name d plain new valid fits)
 
-pub items_from : (names : List (List ℕ)) (decls : List ItemDecl) (p : Places) (ns : List (List ℕ)) (ds : List ItemDecl)
-    → length names ≡ length decls → AreFresh p names → All (λ d. HasValidity d.kind) decls
+pub items_from : (names : List (List ℕ)) (decls : List ItemDecl) (ns : List (List ℕ)) (ds : List ItemDecl)
+    → length names ≡ length decls → AreFresh ns names → All (λ d. HasValidity d.kind) decls
     → All (λ d. FitsSigned w64 d.initial) decls
-    → fold_at item_step (table p ns ds) (items_of (items_data names decls))
-    ≡ Ok (table (noted_all p (length ns) names) (ns ++ names) (ds ++ decls))
-items_from [] [] p ns ds same fresh valid fits =
-    unfold_end item_step _ ∙ ap (λ (ms : List (List ℕ)). Ok (table p ms ds)) (sym (append-nil ns))
-    ∙ ap (λ (es : List ItemDecl). Ok (table p (ns ++ []) es)) (sym (append-nil ds))
-items_from [] (d ∷ decls) p ns ds same fresh valid fits = absurd (omega arith)
-items_from (name ∷ names) [] p ns ds same fresh valid fits = absurd (omega arith)
-items_from (name ∷ names) (d ∷ decls) p ns ds same fresh valid fits =
+    → fold_at item_step (table ns ds) (items_of (items_data names decls)) ≡ Ok (table (ns ++ names) (ds ++ decls))
+items_from [] [] ns ds same fresh valid fits =
+    unfold_end item_step _ ∙ ap (λ (ms : List (List ℕ)). Ok (table ms ds)) (sym (append-nil ns))
+    ∙ ap (λ (es : List ItemDecl). Ok (table (ns ++ []) es)) (sym (append-nil ds))
+items_from [] (d ∷ decls) ns ds same fresh valid fits = absurd (omega arith)
+items_from (name ∷ names) [] ns ds same fresh valid fits = absurd (omega arith)
+items_from (name ∷ names) (d ∷ decls) ns ds same fresh valid fits =
     let first : HasValidity d.kind = head (λ e. HasValidity e.kind) d decls valid in
     let others : All (λ e. HasValidity e.kind) decls = tail (λ e. HasValidity e.kind) d decls valid in
     let fit : FitsSigned w64 d.initial = head (λ e. FitsSigned w64 e.initial) d decls fits in
     let fit_others : All (λ e. FitsSigned w64 e.initial) decls = tail (λ e. FitsSigned w64 e.initial) d decls fits in
-    unfold_step item_step (table p ns ds) (with_item (table p ns ds) (name, d)) (item_data name d)
+    unfold_step item_step (table ns ds) (with_item (table ns ds) (name, d)) (item_data name d)
     (items_data names decls) _
-    (one_item name d p ns ds (fresh.plain 0 (omega arith)) (fresh.new 0 (omega arith)) first fit)
-    (items_from names decls (noted p (length ns) name) (ns ++ name ∷ []) (ds ++ d ∷ []) (omega arith)
-    (rest_fresh p (length ns) name names fresh) others fit_others
-    ∙ ap (λ (n : ℕ). Ok (table (noted_all (noted p (length ns) name) n names) ((ns ++ name ∷ []) ++ names)
-    ((ds ++ d ∷ []) ++ decls)))
-    (length-append ns (name ∷ []))
-    ∙ ap (λ (ms : List (List ℕ)). Ok (table (noted_all (noted p (length ns) name) (length ns + 1) names) ms
-    ((ds ++ d ∷ []) ++ decls)))
-    (append_assoc ns (name ∷ []) names)
-    ∙ ap (λ (es : List ItemDecl). Ok (table (noted_all (noted p (length ns) name) (length ns + 1) names)
-    (ns ++ name ∷ names) es))
-    (append_assoc ds (d ∷ []) decls))
+    (one_item name d ns ds (fresh.plain 0 (omega arith)) (fresh.new 0 (omega arith)) first fit)
+    (items_from names decls (ns ++ name ∷ []) (ds ++ d ∷ []) (omega arith) (rest_fresh ns name names fresh) others
+    fit_others
+    ∙ ap (λ (ms : List (List ℕ)). Ok (table ms ((ds ++ d ∷ []) ++ decls))) (append_assoc ns (name ∷ []) names)
+    ∙ ap (λ (es : List ItemDecl). Ok (table (ns ++ name ∷ names) es)) (append_assoc ds (d ∷ []) decls))

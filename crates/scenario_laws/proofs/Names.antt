@@ -1,63 +1,37 @@
--- The places of names that are noted one after another.
-use Rattle.std.proofs.Common.{◌≡◌, ℕ, zero, suc, ◌+◌, ◌<◌, List, [], ◌∷◌, length, get_or, Bool, true, false, cond, Option, Some, None, refl, sym, ap, ◌∙◌, arith, bytes_eq}
-use Rattle.std.proofs.lemmas.Slice.Eq.{bytes_eq-Decides}
+-- Names that are read one after another.
+use Rattle.std.proofs.Common.{◌≡◌, ℕ, suc, ◌<◌, List, [], ◌∷◌, ◌++◌, length, get_or, true, None, refl, arith}
 use Rattle.rt_base.specs.Names.{is_name, AreNames}
-use Rattle.scenario_forms.specs.Fields.{Places}
-use Rattle.scenario_laws.specs.ReadBack.{noted, noted_all}
+use Rattle.name_table.specs.Places.{place_in}
+use Rattle.name_table.proofs.Places.{place_at, none_further}
 use Rattle.scenario_laws.proofs.Exprs.{ArePlaced}
 
-either : (b : Bool) (o x : Option ℕ) → (b ≡ true → ⊥) → cond b x o ≡ o
-either true o x h = absurd (h refl)
-either false o x h = refl
-
-same : (b : Bool) (o x : Option ℕ) → b ≡ true → cond b x o ≡ x
-same true o x h = refl
-same false o x h = cc
-
-pub noted_here : (p : Places) (n : ℕ) (name : List ℕ) → noted p n name name ≡ Some n
-noted_here p n name = same (bytes_eq name name) (p name) (Some n) ((bytes_eq-Decides name name).1 refl)
-
-pub noted_other : (p : Places) (n : ℕ) (name q : List ℕ) → (name ≡ q → ⊥) → noted p n name q ≡ p q
-noted_other p n name q other = either (bytes_eq name q) (p q) (Some n) (λ e. other ((bytes_eq-Decides name q).0 e))
-
--- names, of which no two are equal, that have no place yet
-pub record AreFresh (p : Places) (names : List (List ℕ)) : Type 0 where
+-- names, of which no two are equal, that have no place among those before them
+pub record AreFresh (before names : List (List ℕ)) : Type 0 where
   pub plain : (i : ℕ) → i < length names → is_name (get_or names i []) ≡ true
-  pub new : (i : ℕ) → i < length names → p (get_or names i []) ≡ None
+  pub new : (i : ℕ) → i < length names → place_in before (get_or names i []) ≡ None
   pub once : (i j : ℕ) → i < length names → j < length names → get_or names i [] ≡ get_or names j [] → i ≡ j
 
-pub all_fresh : (names : List (List ℕ)) → AreNames names → AreFresh (λ q. None) names
-all_fresh names h = record { plain = h.plain; new = λ i lt. refl; once = h.once }
+none_of_none : (name : List ℕ) → place_in [] name ≡ None
+unfolding place_in
+none_of_none name = refl
 
-apart : (p : Places) (name : List ℕ) (names : List (List ℕ)) → AreFresh p (name ∷ names) → (i : ℕ) → i < length names
-    → name ≡ get_or names i [] → ⊥
-apart p name names h i lt e =
+pub all_fresh : (names : List (List ℕ)) → AreNames names → AreFresh [] names
+all_fresh names h = record { plain = h.plain; new = λ i lt. none_of_none (get_or names i []); once = h.once }
+
+apart : (before : List (List ℕ)) (name : List ℕ) (names : List (List ℕ)) → AreFresh before (name ∷ names) → (i : ℕ)
+    → i < length names → name ≡ get_or names i [] → ⊥
+apart before name names h i lt e =
     let z : 0 ≡ suc i = h.once 0 (suc i) (omega arith) (omega arith) e in absurd (omega arith)
 
-pub rest_fresh : (p : Places) (n : ℕ) (name : List ℕ) (names : List (List ℕ)) → AreFresh p (name ∷ names)
-    → AreFresh (noted p n name) names
-rest_fresh p n name names h = record {
+pub rest_fresh : (before : List (List ℕ)) (name : List ℕ) (names : List (List ℕ)) → AreFresh before (name ∷ names)
+    → AreFresh (before ++ name ∷ []) names
+rest_fresh before name names h = record {
   plain = λ i lt. h.plain (suc i) (omega arith);
-  new = λ i lt. noted_other p n name (get_or names i []) (apart p name names h i lt) ∙ h.new (suc i) (omega arith);
+  new = λ i lt. none_further before name (get_or names i []) (h.new (suc i) (omega arith))
+      (apart before name names h i lt);
   once = λ i j l m e. let s : suc i ≡ suc j = h.once (suc i) (suc j) (omega arith) (omega arith) e in omega arith;
 }
 
-kept : (p : Places) (n : ℕ) (names : List (List ℕ)) (q : List ℕ) → ((i : ℕ) → i < length names → get_or names i [] ≡ q
-    → ⊥)
-    → noted_all p n names q ≡ p q
-kept p n [] q other = refl
-kept p n (name ∷ names) q other =
-    kept (noted p n name) (n + 1) names q (λ i lt. other (suc i) (omega arith))
-    ∙ noted_other p n name q (other 0 (omega arith))
-
-placed_from : (p : Places) (n : ℕ) (names : List (List ℕ)) → AreFresh p names → (i : ℕ) → i < length names
-    → noted_all p n names (get_or names i []) ≡ Some (n + i)
-placed_from p n [] h i lt = absurd (omega arith)
-placed_from p n (name ∷ names) h zero lt =
-    kept (noted p n name) (n + 1) names name (λ i l e. apart p name names h i l (sym e))
-    ∙ noted_here p n name ∙ ap Some (omega arith)
-placed_from p n (name ∷ names) h (suc i) lt =
-    placed_from (noted p n name) (n + 1) names (rest_fresh p n name names h) i (omega arith) ∙ ap Some (omega arith)
-
-pub all_placed : (names : List (List ℕ)) → AreNames names → ArePlaced (noted_all (λ q. None) 0 names) names
-all_placed names h i lt = placed_from (λ q. None) 0 names (all_fresh names h) i lt ∙ ap Some (omega arith)
+pub all_placed : (names : List (List ℕ)) → AreNames names → ArePlaced (place_in names) names
+all_placed names h i lt = place_at names i lt (λ k less same.
+    let one : k ≡ i = h.once k i (omega arith) lt same in absurd (omega arith))

@@ -80,8 +80,8 @@ meets d f room is known judged =
     let good = forms_are_good d f is in
     let counted = sym (length-map f.txns.txns (decl_of (length f.items.decls))) in
     record {
-      item_names = are_names _ _ _ tables.0;
-      txn_names = are_names _ _ _ tables.1;
+      item_names = are_names _ _ tables.0;
+      txn_names = are_names _ _ tables.1;
       named_items = tables.0.all;
       named_txns = tables.1.all ∙ counted;
       scripted = length-map f.txns.txns _ ∙ counted;

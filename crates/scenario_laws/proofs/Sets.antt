@@ -1,9 +1,10 @@
 -- Relative sets, and the transactions of a scenario, that are read as they were written.
-use Rattle.std.proofs.Common.{◌≡◌, ℕ, ◌+◌, ◌≤◌, ◌<◌, ◌^◌, List, [], ◌∷◌, ◌++◌, length, get_or, map, codes, Bool, true, Some, None, Ok, refl, sym, ap, ◌∙◌, arith}
+use Rattle.std.proofs.Common.{◌≡◌, ℕ, ◌≤◌, ◌<◌, ◌^◌, List, [], ◌∷◌, ◌++◌, length, get_or, map, codes, Bool, true, Some, None, Ok, refl, sym, ap, ◌∙◌, arith}
 use Rattle.std.specs.List.{All}
-use Rattle.std.proofs.lemmas.List.{append_assoc, append-nil, length-append}
+use Rattle.std.proofs.lemmas.List.{append_assoc, append-nil}
 use Rattle.rt_base.specs.declared.ids.TogetherDecl.{TogetherDecl}
 use Rattle.rt_base.specs.Names.{is_name}
+use Rattle.name_table.specs.Places.{place_in}
 use Rattle.serde_json.specs.Find.{as_array}
 use Rattle.serde_json.specs.View.{items_of}
 use Rattle.scenario_forms.specs.declared.error.Place.TheVariants as places
@@ -17,7 +18,7 @@ use Rattle.scenario_writer.specs.Canonical as written
 use Rattle.scenario_laws.proofs.Parts.{then, found_member, forms_back, whole_back, head, tail, unfold_step, unfold_end}
 use Rattle.scenario_laws.proofs.Exprs.{ArePlaced, item_back}
 use Rattle.scenario_laws.proofs.Names.{AreFresh, rest_fresh}
-use Rattle.scenario_laws.specs.ReadBack.{noted, noted_all, read_txn, read_set}
+use Rattle.scenario_laws.specs.ReadBack.{read_txn, read_set}
 use Rattle.scenario_laws.proofs.Txns.{IsTextTxn, name_back, txn_back}
 
 -- its items are items of the scenario, and its interval is in the range of a text
@@ -53,40 +54,34 @@ module _ (names : List (List ℕ)) (items : Places) (placed : ArePlaced items na
       (sets_from sets (acc ++ read_set g ∷ []) (tail (IsTextSet names) g sets h)
       ∙ ap Ok (append_assoc acc (read_set g ∷ []) (map read_set sets)))
 
-  abbrev txn_table : Places → List (List ℕ) → List Txn → Txns
-  txn_table p ns xs = record { places = p; names = ns; txns = xs }
+  abbrev txn_table : List (List ℕ) → List Txn → Txns
+  txn_table ns xs = record { names = ns; txns = xs }
 
-  one_txn : (second : Bool) (p : Places) (ns : List (List ℕ)) (xs : List Txn) (w : Written) → IsTextTxn second names w
-      → is_name w.name ≡ true → p w.name ≡ None
-      → txn_step second items (txn_table p ns xs) (txn_data second names w)
-      ≡ Ok (with_txn (txn_table p ns xs) w.name (read_txn w))
+  one_txn : (second : Bool) (ns : List (List ℕ)) (xs : List Txn) (w : Written) → IsTextTxn second names w
+      → is_name w.name ≡ true → place_in ns w.name ≡ None
+      → txn_step second items (txn_table ns xs) (txn_data second names w)
+      ≡ Ok (with_txn (txn_table ns xs) w.name (read_txn w))
   unfolding txn_step
-  one_txn second p ns xs w h plain new =
-      then _ w.name _ (name_back names w.name w.decl w.program p (length ns) second w.releases plain new)
+  one_txn second ns xs w h plain new =
+      then _ w.name _ (name_back names w.name w.decl w.program (place_in ns) (length ns) second w.releases plain new)
       ∙ then _ (read_txn w) _ (txn_back names w.name w.decl w.program items placed (length ns) second w.releases h)
 
-  pub txns_from : (second : Bool) (ws : List Written) (p : Places) (ns : List (List ℕ)) (xs : List Txn)
-      → AreFresh p (map (λ w. w.name) ws) → All (IsTextTxn second names) ws
-      → fold_at (txn_step second items) (txn_table p ns xs) (items_of (map (txn_data second names) ws))
-      ≡ Ok (txn_table (noted_all p (length ns) (map (λ w. w.name) ws)) (ns ++ map (λ w. w.name) ws)
-      (xs ++ map read_txn ws))
-  txns_from second [] p ns xs fresh h =
-      unfold_end (txn_step second items) (txn_table p ns xs)
-      ∙ ap (λ (ms : List (List ℕ)). Ok (txn_table p ms xs)) (sym (append-nil ns))
-      ∙ ap (λ (ys : List Txn). Ok (txn_table p (ns ++ []) ys)) (sym (append-nil xs))
-  txns_from second (w ∷ ws) p ns xs fresh h =
-      unfold_step (txn_step second items) (txn_table p ns xs) (with_txn (txn_table p ns xs) w.name (read_txn w))
+  pub txns_from : (second : Bool) (ws : List Written) (ns : List (List ℕ)) (xs : List Txn)
+      → AreFresh ns (map (λ w. w.name) ws) → All (IsTextTxn second names) ws
+      → fold_at (txn_step second items) (txn_table ns xs) (items_of (map (txn_data second names) ws))
+      ≡ Ok (txn_table (ns ++ map (λ w. w.name) ws) (xs ++ map read_txn ws))
+  txns_from second [] ns xs fresh h =
+      unfold_end (txn_step second items) (txn_table ns xs)
+      ∙ ap (λ (ms : List (List ℕ)). Ok (txn_table ms xs)) (sym (append-nil ns))
+      ∙ ap (λ (ys : List Txn). Ok (txn_table (ns ++ []) ys)) (sym (append-nil xs))
+  txns_from second (w ∷ ws) ns xs fresh h =
+      unfold_step (txn_step second items) (txn_table ns xs) (with_txn (txn_table ns xs) w.name (read_txn w))
       (txn_data second names w) (map (txn_data second names) ws) _
-      (one_txn second p ns xs w (head (IsTextTxn second names) w ws h) (fresh.plain 0 (omega arith)) (fresh.new 0
-      (omega arith)))
-      (txns_from second ws (noted p (length ns) w.name) (ns ++ w.name ∷ []) (xs ++ read_txn w ∷ [])
-      (rest_fresh p (length ns) w.name (map (λ u. u.name) ws) fresh) (tail (IsTextTxn second names) w ws h)
-      ∙ ap (λ (n : ℕ). Ok (txn_table (noted_all (noted p (length ns) w.name) n (map (λ u. u.name) ws))
-      ((ns ++ w.name ∷ []) ++ map (λ u. u.name) ws) ((xs ++ read_txn w ∷ []) ++ map read_txn ws))) (length-append ns
-      (w.name ∷ []))
-      ∙ ap (λ (ms : List (List ℕ)). Ok (txn_table (noted_all (noted p (length ns) w.name) (length ns + 1) (map
-      (λ u. u.name) ws))
-      ms ((xs ++ read_txn w ∷ []) ++ map read_txn ws))) (append_assoc ns (w.name ∷ []) (map (λ u. u.name) ws))
-      ∙ ap (λ (ys : List Txn). Ok (txn_table (noted_all (noted p (length ns) w.name) (length ns + 1) (map
-      (λ u. u.name) ws))
-      (ns ++ w.name ∷ map (λ u. u.name) ws) ys)) (append_assoc xs (read_txn w ∷ []) (map read_txn ws)))
+      (one_txn second ns xs w (head (IsTextTxn second names) w ws h) (fresh.plain 0 (omega arith))
+      (fresh.new 0 (omega arith)))
+      (txns_from second ws (ns ++ w.name ∷ []) (xs ++ read_txn w ∷ [])
+      (rest_fresh ns w.name (map (λ u. u.name) ws) fresh) (tail (IsTextTxn second names) w ws h)
+      ∙ ap (λ (ms : List (List ℕ)). Ok (txn_table ms ((xs ++ read_txn w ∷ []) ++ map read_txn ws)))
+      (append_assoc ns (w.name ∷ []) (map (λ u. u.name) ws))
+      ∙ ap (λ (ys : List Txn). Ok (txn_table (ns ++ w.name ∷ map (λ u. u.name) ws) ys))
+      (append_assoc xs (read_txn w ∷ []) (map read_txn ws)))

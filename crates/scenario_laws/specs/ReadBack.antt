@@ -1,7 +1,6 @@
 -- A scenario as its canonical data is read by forms.
-use Rattle.std.specs.Prelude.{◌≡◌, ℕ, ◌+◌, List, [], ◌∷◌, map, Bool, true, if◌then◌else◌, Some, None, Ok}
-use Rattle.std.specs.Str.{bytes_eq, IsUtf8}
-use Rattle.std.specs.Map.{update}
+use Rattle.std.specs.Prelude.{◌≡◌, ℕ, List, map, Bool, true, if◌then◌else◌, Some, Ok}
+use Rattle.std.specs.Str.{IsUtf8}
 use Rattle.rt_base.specs.declared.ids.TogetherDecl.{TogetherDecl}
 use Rattle.item_model.specs.declared.decl.ItemDecl.{ItemDecl}
 use Rattle.txn_set.specs.declared.decl.TxnDecl.{TxnDecl}
@@ -10,7 +9,6 @@ use Rattle.scenario.specs.Shown.{Shown}
 use Rattle.scenario.specs.Scenarios.{IsScenario}
 use Rattle.serde_json.specs.Read.{read}
 use Rattle.scenario_forms.specs.declared.txn.Times.{Times}
-use Rattle.scenario_forms.specs.Fields.{Places}
 use Rattle.scenario_forms.specs.Ops.{KnownOp}
 use Rattle.scenario_forms.specs.Items.{Table}
 use Rattle.scenario_forms.specs.Txns.{Txn}
@@ -20,19 +18,8 @@ use Rattle.scenario_reader.specs.Reading.{data_of, scenario_of, scenario_in}
 use Rattle.scenario_writer.specs.Canonical.{merged, Written, written, merged_ops, canonical}
 use Rattle.scenario_writer.specs.Integers.{HasIntegers}
 
--- names that are noted one after another, the first at this place
-abbrev pub noted : Places → ℕ → List ℕ → Places
-noted p n name = update bytes_eq p name (Some n)
-
-abbrev pub noted_all : Places → ℕ → List (List ℕ) → Places
-noted_all p n [] = p
-noted_all p n (name ∷ names) = noted_all (noted p n name) (n + 1) names
-
-abbrev pub places_of : List (List ℕ) → Places
-places_of names = noted_all (λ q. None) 0 names
-
-abbrev pub table : Places → List (List ℕ) → List ItemDecl → Table
-table p names decls = record { places = p; names = names; decls = decls }
+abbrev pub table : List (List ℕ) → List ItemDecl → Table
+table names decls = record { names = names; decls = decls }
 
 abbrev pub times_of : TxnDecl → Times
 times_of t = record {
@@ -67,12 +54,8 @@ all_written s = written s.names.txns s.txns s.programs s.releases
 abbrev pub read_forms : Bool → Shown → Formed
 read_forms second s = record {
   version = if second then 2 else 1;
-  items = table (places_of s.names.items) s.names.items s.items;
-  txns = record {
-    places = places_of (map (λ w. w.name) (all_written s));
-    names = map (λ w. w.name) (all_written s);
-    txns = map read_txn (all_written s);
-  };
+  items = table s.names.items s.items;
+  txns = record { names = map (λ w. w.name) (all_written s); txns = map read_txn (all_written s) };
   sets = map read_set s.together;
 }
 

@@ -4,3 +4,4 @@ pub mod Tables
 pub mod Making
 pub mod Ranges
 pub mod Meets
+pub mod Counts

@@ -1,5 +1,5 @@
 -- What is known of the scenario that forms declare.
-use Rattle.std.proofs.Common.{◌≡◌, ℕ, ◌+◌, ◌<◌, ◌≤◌, Bool, true, false, cond, ltb, not, List, [], ◌∷◌, ◌++◌, map, length, get_or, Option, Some, None, Result, Ok, Err, Vec, refl, sym, ap, subst, ◌∙◌, arith}
+use Rattle.std.proofs.Common.{◌≡◌, ℕ, ◌+◌, ◌^◌, ◌<◌, ◌≤◌, Bool, true, false, cond, ltb, not, List, [], ◌∷◌, ◌++◌, map, length, get_or, Option, Some, None, Result, Ok, Err, Vec, refl, sym, ap, subst, ◌∙◌, arith}
 use Rattle.std.specs.Prelude.{IfOk}
 use Rattle.std.specs.Option.{option_or, option_map}
 use Rattle.std.specs.List.{All, list_all, position, position_or_len}
@@ -113,3 +113,13 @@ scripts_match s f is =
     ∙ length-map f.txns.txns (program_from (length f.items.decls))
     ∙ sym (length-map f.txns.txns (decl_of (length f.items.decls)))
     ∙ sym (ap (λ (x : Shown). length x.txns) is)
+
+-- as many transactions as forms have
+pub few_txns : (s : Scenario) (f : Formed) → shown s ≡ made_of f → length f.txns.txns ≤ 2 ^ 32
+    → length s.txns ≤ 2 ^ 32
+few_txns s f is few = omega (
+  arith,
+  few,
+  ap (λ (x : Shown). length x.txns) is,
+  length-map f.txns.txns (decl_of (length f.items.decls)),
+)

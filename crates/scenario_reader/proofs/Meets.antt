@@ -139,8 +139,8 @@ meets d f room is known judged =
     let tables = forms_have d f is in
     let good = forms_are_good d f is in
     record {
-      item_names = are_names _ _ _ tables.0;
-      txn_names = are_names _ _ _ tables.1;
+      item_names = are_names _ _ tables.0;
+      txn_names = are_names _ _ tables.1;
       named_items = tables.0.all;
       named_txns = tables.1.all ∙ sym (length-map f.txns.txns (decl_of (length f.items.decls)));
       scripted = length-map f.txns.txns _ ∙ sym (length-map f.txns.txns (decl_of (length f.items.decls)));

@@ -2,7 +2,6 @@
 use Rattle.std.proofs.Common.{◌≡◌, ℕ, zero, suc, ◌+◌, ◌^◌, ◌<◌, ◌≤◌, max, Bool, true, false, cond, List, [], ◌∷◌, ◌++◌, length, codes, ℤ, pos, Option, Some, None, Result, Ok, Err, refl, sym, ap, subst, ◌∙◌, arith, length-append}
 use Rattle.std.specs.Prelude.{if◌then◌else◌, ◌&&◌, option_and_then, option_map, is_none, nat_le, nat_lt, IfSome}
 use Rattle.std.specs.Str.{bytes_eq}
-use Rattle.std.specs.Map.{update}
 use Rattle.std.specs.List.{All, list_all}
 use Rattle.std.proofs.lemmas.Bool.{and_parts, and_from, leb-true, le-leb, lt-ltb}
 use Rattle.std.proofs.lemmas.List.Elements.{All-append, All-cons, All-nil, All-push}
@@ -35,9 +34,12 @@ use Rattle.scenario_forms.specs.Items.{Table, with_item, item_at, item_step, ite
 use Rattle.scenario_forms.specs.Txns.{Txn, Txns, with_txn, times_at, releases_at, names_at, samples_at, script_at, txn_name, txn_at, txn_step, no_txns_yet}
 use Rattle.scenario_forms.specs.Sets.{Together, is_set_member, set_at, set_step}
 use Rattle.scenario_forms.specs.Root.{Formed, is_second, head_at, sets_at, forms_at, items_at, txns_at}
+use Rattle.name_table.specs.Places.{place_in}
+use Rattle.name_table.proofs.Places.{place_is}
 use Rattle.scenario_forms.proofs.Validity.{valid_kind}
+use Rattle.scenario_forms.proofs.FreshNames.{Holds, through, holds_ok, after_kind, after_name, after_form, item_form, item_at_is}
 use Rattle.scenario_reader.specs.Made.{decl_of, IsGoodOp, IsGoodTxn}
-use Rattle.scenario_reader.proofs.Tables.{Holds, through, folded, holds_ok, IsItemTable, items_hold, after_kind, after_name, after_form, item_form, item_at_is, after_txns, after_items, after_version, forms_at_is}
+use Rattle.scenario_reader.proofs.Tables.{folded, IsItemTable, items_hold, after_txns, after_items, after_version, forms_at_is}
 
 -- Members.
 
@@ -127,29 +129,22 @@ valid_item taken i d =
 abbrev pub IsInRange : Places → ℕ → Type 0
 IsInRange places n = (name : List ℕ) (k : ℕ) → places name ≡ Some k → k < n
 
-one_further : (b : Bool) (n k : ℕ) (o : Option ℕ) → (o ≡ Some k → k < n) → cond b (Some n) o ≡ Some k → k < n + 1
-one_further true n k o h is = let same : n ≡ k = cc in omega (arith, same)
-one_further false n k o h is = omega (arith, h is)
-
 abbrev AreItemsGood : Table → Type 0
-AreItemsGood t = IsInRange t.places (length t.names) × All IsValid t.decls
+AreItemsGood t = All IsValid t.decls
 
 item_steps : (t : Table) (d : Data) → AreItemsGood t → Holds AreItemsGood (item_step t d)
 unfolding item_step
 item_steps t d h =
-    through AreItemsGood (item_at t.places (length t.names) d) (λ x. Ok (with_item t x))
-    (λ x is. (
-      λ name k at. subst (λ (n : ℕ). k < n) (sym (length-append t.names (x.0 ∷ [])))
-          (one_further (bytes_eq x.0 name) (length t.names) k (t.places name) (h.0 name k) at),
-      All-push IsValid t.decls x.1 h.1
-          (holds_ok IsValidItem (item_at t.places (length t.names) d) x (valid_item t.places (length t.names) d) is),
-    ))
+    through AreItemsGood (item_at (place_in t.names) (length t.names) d) (λ x. Ok (with_item t x))
+    (λ x is. All-push IsValid t.decls x.1 h
+    (holds_ok IsValidItem (item_at (place_in t.names) (length t.names) d) x
+    (valid_item (place_in t.names) (length t.names) d) is))
 
 items_good : (d : Data) → Holds AreItemsGood (items_at d)
 unfolding items_at
 items_good d =
     through AreItemsGood _ _ (λ values is. folded AreItemsGood item_step item_steps values no_items_yet
-    ((λ name k at. absurd cc), All-nil IsValid))
+    (All-nil IsValid))
 
 -- Expressions.
 
@@ -375,10 +370,10 @@ text_times n t h = record {
   quiet = h.quiet;
 }
 
-abbrev Names : Type 0
+abbrev pub Names : Type 0
 Names = List (Option ItemId)
 
-abbrev after_samples : Places → ℕ → Data → Times → Names → Names → Releases → List ℤ → Result Txn FormError
+abbrev pub after_samples : Places → ℕ → Data → Times → Names → Names → Releases → List ℤ → Result Txn FormError
 after_samples items i d times read_names write_names releases samples =
     script_at items i d >>= λ script. Ok
     (record {
@@ -390,19 +385,19 @@ after_samples items i d times read_names write_names releases samples =
       script = script;
     })
 
-abbrev after_releases : Places → ℕ → Data → Times → Names → Names → Releases → Result Txn FormError
+abbrev pub after_releases : Places → ℕ → Data → Times → Names → Names → Releases → Result Txn FormError
 after_releases items i d times read_names write_names releases =
     samples_at i d >>= after_samples items i d times read_names write_names releases
 
-abbrev after_writes : Places → ℕ → Data → Times → Names → Names → Result Txn FormError
+abbrev pub after_writes : Places → ℕ → Data → Times → Names → Names → Result Txn FormError
 after_writes items i d times read_names write_names = releases_at i d >>= after_releases items i d times read_names
     write_names
 
-abbrev after_reads : Places → ℕ → Data → Times → Names → Result Txn FormError
+abbrev pub after_reads : Places → ℕ → Data → Times → Names → Result Txn FormError
 after_reads items i d times read_names =
     names_at items i txn_members.Writes (codes "writes") d >>= after_writes items i d times read_names
 
-abbrev after_times : Places → ℕ → Data → Times → Result Txn FormError
+abbrev pub after_times : Places → ℕ → Data → Times → Result Txn FormError
 after_times items i d times =
     names_at items i txn_members.Reads (codes "reads") d >>= after_reads items i d times
 
@@ -443,7 +438,7 @@ txn_steps : (n : ℕ) (places : Places) → IsInRange places n → (second : Boo
     → Holds (AreTxnsGood n) (txn_step second places t d)
 unfolding txn_step
 txn_steps n places range second t d h =
-    through (AreTxnsGood n) (txn_name second t.places (length t.names) d) _
+    through (AreTxnsGood n) (txn_name second (place_in t.names) (length t.names) d) _
     (λ name name_is. through (AreTxnsGood n) (txn_at places (length t.names) d) _
     (λ x is. All-push (IsGoodTxn n) t.txns x h
     (holds_ok (IsGoodTxn n) (txn_at places (length t.names) d) x (txn_good n places range (length t.names) d) is)))
@@ -510,16 +505,16 @@ pub record AreGood (f : Formed) : Type 0 where
 items_keep : (d : Data) (version : ℕ) (items : Table) → IsItemTable items → AreItemsGood items
     → Holds AreGood (after_items d version items)
 items_keep d version items table good =
-    let range : IsInRange items.places (length items.decls) =
-    (λ name k at. subst (λ (n : ℕ). k < n) table.all (good.0 name k at)) in
-    through AreGood (txns_at (is_second d) items.places d) (after_txns d version items)
-    (λ txns txns_is. through AreGood (sets_at items.places d)
+    let range : IsInRange (place_in items.names) (length items.decls) =
+    (λ name k at. subst (λ (n : ℕ). k < n) table.all (place_is items.names name k at).0) in
+    through AreGood (txns_at (is_second d) (place_in items.names) d) (after_txns d version items)
+    (λ txns txns_is. through AreGood (sets_at (place_in items.names) d)
     (λ sets. Ok (record { version = version; items = items; txns = txns; sets = sets }))
     (λ sets sets_is. record {
-      validities = good.1;
-      txns = holds_ok (AreTxnsGood (length items.decls)) (txns_at (is_second d) items.places d) txns
-          (txns_good (length items.decls) items.places range (is_second d) d) txns_is;
-      within = holds_ok (All IsNear) (sets_at items.places d) sets (sets_good items.places d) sets_is;
+      validities = good;
+      txns = holds_ok (AreTxnsGood (length items.decls)) (txns_at (is_second d) (place_in items.names) d) txns
+          (txns_good (length items.decls) (place_in items.names) range (is_second d) d) txns_is;
+      within = holds_ok (All IsNear) (sets_at (place_in items.names) d) sets (sets_good (place_in items.names) d) sets_is;
     }))
 
 forms_good : (d : Data) → Holds AreGood (forms_at d)

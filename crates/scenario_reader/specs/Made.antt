@@ -1,5 +1,5 @@
 -- The scenario that forms declare.
-use Rattle.std.specs.Prelude.{◌≡◌, ℕ, ◌==◌, nat_lt, if◌then◌else◌, true, false, Bool, List, [], length, map, Option, Some, None}
+use Rattle.std.specs.Prelude.{◌≡◌, ℕ, ◌≤◌, ◌<◌, ◌^◌, ◌==◌, nat_lt, if◌then◌else◌, true, false, Bool, List, [], length, map, Option, Some, None}
 use Rattle.std.specs.List.{All, filter, list_any, list_all, range_with_len}
 use Rattle.rt_base.specs.declared.ids.ItemId.{ItemId}
 use Rattle.rt_base.specs.declared.ids.TogetherDecl.{TogetherDecl}
@@ -7,10 +7,11 @@ use Rattle.txn_set.specs.declared.decl.TxnDecl.{TxnDecl}
 use Rattle.step_script.specs.Scripts.{Operation, Program, is_good, IsTold}
 use Rattle.scenario.specs.declared.whole.Scenario.{Scenario}
 use Rattle.scenario.specs.Shown.{Shown}
+use Rattle.scenario.specs.Releases.{total_jobs}
 use Rattle.scenario.specs.Scenarios.{HasTextTimes, IsTextOp}
 use Rattle.scenario_forms.specs.Fields.{item_id}
 use Rattle.scenario_forms.specs.Ops.{KnownOp}
-use Rattle.scenario_forms.specs.Txns.{Txn}
+use Rattle.scenario_forms.specs.Txns.{Txn, Txns}
 use Rattle.scenario_forms.specs.Sets.{Together}
 use Rattle.scenario_forms.specs.Root.{Formed}
 
@@ -83,6 +84,11 @@ pub record IsGoodOp (items : ℕ) (op : KnownOp) : Type 0 where
 pub record IsGoodTxn (items : ℕ) (t : Txn) : Type 0 where
   pub times : HasTextTimes (decl_of items t)
   pub script : All (IsGoodOp items) t.script
+
+-- each transaction has an id, and the jobs of all are counted in 64 bits
+pub record AreCounted (t : Txns) : Type 0 where
+  pub few : length t.txns ≤ 2 ^ 32
+  pub jobs : total_jobs (map (λ x. x.releases) t.txns) < 2 ^ 64
 
 -- a transaction whose script is good over so many items
 abbrev pub HasGoodScript : ℕ → Txn → Type 0

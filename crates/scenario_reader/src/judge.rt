@@ -1,13 +1,14 @@
 //! The judgement of a scenario, in order.
-ghost use Rattle.std.specs.Prelude.{◌≡◌, ◌≤◌, ◌<◌, ◌^◌, IfOk, IsErrOf, None, length};
+ghost use Rattle.std.specs.Prelude.{◌≡◌, ◌≤◌, ◌<◌, ◌^◌, IsErrOf, None, length};
 ghost use Rattle.std.specs.List.{All};
 ghost use Rattle.scenario.specs.Shown.{shown};
+ghost use Rattle.scenario.specs.Releases.{total_jobs as total_jobs_of};
 ghost use Rattle.scenario.specs.Scenarios.{HasTextTimes, IsProgramOver};
 ghost use Rattle.scenario_reader.specs.Refusals.{Gives};
 ghost use Rattle.scenario_reader.specs.Judged.{judged, judged_scripts, judged_jobs, tx_id as id_of};
 
 use crate::error::ScenarioError;
-use rt_base::{OutOfMemory, TxId};
+use rt_base::TxId;
 use scenario::Scenario;
 use scenario_judge::{bad_release, bad_script, eager_end, long_script, room, total_jobs};
 use std::alloc::Global;
@@ -18,30 +19,28 @@ const MOST_ROOM: u64 = 1 << 20;
 
 const LAST_TICK: u64 = 1 << 40;
 
-// The transaction at a place. Want of memory stands for a place from 2^32 on, which no text below 2^32 bytes has.
-fn tx_id(place: usize) -> Result<TxId, OutOfMemory>
-    ensures { IfOk result (λ tx. tx ≡ id_of place) }
+// The transaction at a place.
+fn tx_id(place: usize) -> TxId
+    requires { place < 2 ^ 32 }
+    ensures { result ≡ id_of place }
 {
-    if place < 1 << 32 {
-        Ok(TxId(place as u32))
-    } else {
-        Err(OutOfMemory)
-    }
+    TxId(place as u32)
 }
 
 // The scripts.
 #[tactic(auto, unfolding(crate::specs::Judged::judged_scripts))]
 fn judge_scripts(alloc: Global, scenario: &Scenario) -> Result<(), ScenarioError>
     requires each { length scenario.now.scripts ≡ length scenario.now.txns }
+    requires few { length scenario.now.txns ≤ 2 ^ 32 }
     requires good { All (IsProgramOver (length scenario.now.items)) (shown scenario.now).programs }
     ensures judged { Gives result (judged_scripts (shown scenario.now)) }
     ensures json { IsErrOf result ScenarioError.NotJson → ⊥ }
 {
     if let Some((tx, op)) = bad_script(alloc, scenario)? {
-        return Err(ScenarioError::BadScript { tx: tx_id(tx)?, op });
+        return Err(ScenarioError::BadScript { tx: tx_id(tx), op });
     }
     if let Some(tx) = long_script(scenario) {
-        return Err(ScenarioError::TooManySteps { tx: tx_id(tx)? });
+        return Err(ScenarioError::TooManySteps { tx: tx_id(tx) });
     }
     Ok(())
 }
@@ -50,16 +49,18 @@ fn judge_scripts(alloc: Global, scenario: &Scenario) -> Result<(), ScenarioError
 #[tactic(auto, unfolding(crate::specs::Judged::judged_jobs))]
 fn judge_jobs(scenario: &Scenario) -> Result<usize, ScenarioError>
     requires each { length scenario.now.releases ≡ length scenario.now.txns }
+    requires few { length scenario.now.txns ≤ 2 ^ 32 }
+    requires counted { total_jobs_of scenario.now.releases < 2 ^ 64 }
     requires times { All HasTextTimes scenario.now.txns }
     ensures judged { Gives result (judged_jobs (shown scenario.now)) }
     ensures json { IsErrOf result ScenarioError.NotJson → ⊥ }
 {
-    let count = total_jobs(scenario.releases.as_slice())?;
+    let count = total_jobs(scenario.releases.as_slice());
     if MOST_JOBS < count {
         return Err(ScenarioError::TooManyJobs { count });
     }
     if let Some((tx, index, cause)) = bad_release(scenario) {
-        let tx = tx_id(tx)?;
+        let tx = tx_id(tx);
         return Err(ScenarioError::BadRelease { tx, index, cause });
     }
     let needed = room(scenario);
@@ -79,6 +80,8 @@ fn judge_jobs(scenario: &Scenario) -> Result<usize, ScenarioError>
 pub(crate) fn judge(alloc: Global, scenario: &Scenario) -> Result<usize, ScenarioError>
     requires scripted { length scenario.now.scripts ≡ length scenario.now.txns }
     requires released { length scenario.now.releases ≡ length scenario.now.txns }
+    requires few { length scenario.now.txns ≤ 2 ^ 32 }
+    requires counted { total_jobs_of scenario.now.releases < 2 ^ 64 }
     requires good { All (IsProgramOver (length scenario.now.items)) (shown scenario.now).programs }
     requires times { All HasTextTimes scenario.now.txns }
     ensures judged { Gives result (judged (shown scenario.now)) }

@@ -152,12 +152,10 @@ pub(crate) fn made(alloc: Global, forms: Forms) -> Result<Scenario, OutOfMemory>
         sets,
     } = forms;
     let ItemTable {
-        places: _,
         names: item_names,
         decls,
     } = items;
     let TxnTable {
-        places: _,
         names: txn_names,
         txns,
     } = txns;
@@ -169,8 +167,8 @@ pub(crate) fn made(alloc: Global, forms: Forms) -> Result<Scenario, OutOfMemory>
     } = parts(alloc, decls.len(), txns)?;
     Ok(Scenario {
         names: Names {
-            items: List::of(item_names),
-            txns: List::of(txn_names),
+            items: List::of(item_names.into_names()),
+            txns: List::of(txn_names.into_names()),
         },
         items: List::of(decls),
         txns: List::of(txns),

@@ -1,12 +1,15 @@
-use Rattle.std.proofs.Common.{◌≡◌, drop, map}
-use Rattle.std.specs.BTreeMap.{get_by_text}
+use Rattle.std.proofs.Common.{◌≡◌, drop, length, map}
+use Rattle.name_table.specs.Places.{place_in}
 use Rattle.serde_json.specs.View.{items_view}
 use Rattle.scenario_forms.specs.Reading.{fold_at}
 use Rattle.scenario_forms.specs.Txns.{txn_step, txn_view, no_txns_yet}
+use Rattle.scenario_forms.proofs.TxnSteps.{table}
 use Rattle.scenario_forms.proofs.txn.txns.Given as goal
 
 abbrev pub invariant-loop-value : goal.invariant-loop-value
-invariant-loop-value l = fold_at (txn_step l.second (get_by_text l.items))
-    (record { places = get_by_text l.places; names = l.names.items; txns = map txn_view l.txns.items })
-    (items_view (drop l.value-index l.values)) ≡ fold_at (txn_step l.second (get_by_text l.items)) no_txns_yet
-    (items_view l.values)
+invariant-loop-value l = record {
+  count : length l.names ≡ l.value-index;
+  read : fold_at (txn_step l.second (place_in l.items)) (table l.names (map txn_view l.txns.items))
+      (items_view (drop l.value-index l.values))
+      ≡ fold_at (txn_step l.second (place_in l.items)) no_txns_yet (items_view l.values);
+}
