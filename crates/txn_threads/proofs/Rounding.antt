@@ -24,7 +24,7 @@ use Rattle.txn_threads.specs.Scripts.{job_of, own_outcomes, AreAsked}
 use Rattle.txn_threads.specs.Plans.{plans_in, ArePlanned}
 use Rattle.txn_threads.specs.Rising.{AreRising}
 use Rattle.txn_threads.specs.Tasks.{Tied}
-use Rattle.txn_threads.specs.Rounds.{Each, Sits, Ran, IsRefusal, IsRefused, Met, MetIn, IfStop, halt_of}
+use Rattle.txn_threads.specs.Rounds.{Each, Sits, Ran, IsRefusal, IsRefused, Met, MetIn, IfStop}
 use Rattle.txn_threads.proofs.Counting.{ended_grow}
 use Rattle.txn_threads.proofs.Scripting.{asked_append}
 use Rattle.txn_threads.proofs.Rises.{rising_append}
@@ -237,17 +237,38 @@ abbrev the_halt : Halt → Option Halt → Halt
 the_halt other None = other
 the_halt other (Some h) = h
 
--- the stop that came of a try, or none
-pub stop_of_came : (c : Came) (P : Halt → Type 0) → IfStop c P → (h : Halt) → halt_of c ≡ Some h → P h
-stop_of_came came.NoJob P s h is = absurd (none_some_halt h is)
-stop_of_came (came.NotYet tx) P s h is = absurd (none_some_halt h is)
-stop_of_came came.Went P s h is = absurd (none_some_halt h is)
-stop_of_came came.Full P s h is = absurd (none_some_halt h is)
-stop_of_came (came.Stop k) P s h is = subst P (ap (the_halt h) is) s
+-- the stop that is kept after a try
+pub stop_of_came : (c : Came) (kept : Option Halt) (P : Halt → Type 0) → IfStop c kept P → (h : Halt) → kept ≡ Some h → P h
+stop_of_came came.NoJob kept P s h is = absurd (none_some_halt h (sym s ∙ is))
+stop_of_came (came.NotYet tx) kept P s h is = absurd (none_some_halt h (sym s ∙ is))
+stop_of_came (came.Waits tx) kept P s h is = absurd (none_some_halt h (sym s ∙ is))
+stop_of_came came.Went kept P s h is = absurd (none_some_halt h (sym s ∙ is))
+stop_of_came came.Ended kept P s h is = absurd (none_some_halt h (sym s ∙ is))
+stop_of_came came.Idled kept P s h is = absurd (none_some_halt h (sym s ∙ is))
+stop_of_came came.Full kept P s h is = absurd (none_some_halt h (sym s ∙ is))
+stop_of_came came.Stop kept P s h is = subst P (ap (the_halt h) (sym s.1 ∙ is)) s.2
 
-pub if_stop : (c : Came) (P Q : Halt → Type 0) → ((h : Halt) → P h → Q h) → IfStop c P → IfStop c Q
-if_stop came.NoJob P Q f s = tt
-if_stop (came.NotYet tx) P Q f s = tt
-if_stop came.Went P Q f s = tt
-if_stop came.Full P Q f s = tt
-if_stop (came.Stop h) P Q f s = f h s
+pub if_stop : (c : Came) (kept : Option Halt) (P Q : Halt → Type 0) → ((h : Halt) → P h → Q h) → IfStop c kept P → IfStop c kept Q
+if_stop came.NoJob kept P Q f s = s
+if_stop (came.NotYet tx) kept P Q f s = s
+if_stop (came.Waits tx) kept P Q f s = s
+if_stop came.Went kept P Q f s = s
+if_stop came.Ended kept P Q f s = s
+if_stop came.Idled kept P Q f s = s
+if_stop came.Full kept P Q f s = s
+if_stop came.Stop kept P Q f s = (s.0, s.1, f s.0 s.2)
+
+-- a try that meets no stop, where none is kept
+pub no_stop : (c : Came) (kept : Option Halt) (Q : Halt → Type 0) → kept ≡ None → IfStop c None (λ h. ⊥) → IfStop c kept Q
+no_stop c kept Q none s = subst (λ (k : Option Halt). IfStop c k Q) (sym none) (if_stop c None (λ h. ⊥) Q (λ h k. absurd k) s)
+
+-- where it met no stop none is kept
+pub none_kept : (c : Came) (kept : Option Halt) (P : Halt → Type 0) → IfStop c kept P → (c ≡ came.Stop → ⊥) → kept ≡ None
+none_kept came.NoJob kept P s never = s
+none_kept (came.NotYet tx) kept P s never = s
+none_kept (came.Waits tx) kept P s never = s
+none_kept came.Went kept P s never = s
+none_kept came.Ended kept P s never = s
+none_kept came.Idled kept P s never = s
+none_kept came.Full kept P s never = s
+none_kept came.Stop kept P s never = absurd (never refl)

@@ -185,20 +185,20 @@ module _ {B Y : Type 0} (gives : Y → ℕ → List Outcome → Op) (stands : Y 
         answer = sym r_is ∙ (a.says ∙ (λ i. plan_next_answer p.set (seen i) (length (seen i) - base i) p.room t.0));
       }
 
-  pub unplanned_stop : (p : PlantFacts) (m n : Member B Y) (t : TxId) (r : Result (JobId × ℕ) PlanRefused) (c : Came) → Sits gives stands p m → m.seat.tx ≡ Some t
+  pub unplanned_stop : (p : PlantFacts) (m n : Member B Y) (t : TxId) (r : Result (JobId × ℕ) PlanRefused) (c : Came) (kept : Option Halt) → Sits gives stands p m → m.seat.tx ≡ Some t
       → Answered p.set (λ story base. r ≡ plan_next_answer p.set story (length story - base) p.room t.0) (λ story. plan_next_entry t r) m.seat n.seat
       → n.jobs ≡ m.jobs → n.eager ≡ m.eager → n.planned ≡ planned_after m.planned r
-      → m.eager ≡ true → m.planned < m.jobs → m.planned ≤ m.ended → IfStop c (λ h. IsPlanHalt h t r) → IfStop c (λ h. Met gives p h n)
-  unplanned_stop p m n t r c sits is a jobs eager counted is_eager left behind s =
-      if_stop c (λ h. IsPlanHalt h t r) (λ h. Met gives p h n) (λ h k. subst (λ (x : Halt). Met gives p x n) (sym k.1) (unplanned_at p m n t r k.0 k.2 sits is a jobs eager counted is_eager left behind k.3)) s
+      → m.eager ≡ true → m.planned < m.jobs → m.planned ≤ m.ended → IfStop c kept (λ h. IsPlanHalt h t r) → IfStop c kept (λ h. Met gives p h n)
+  unplanned_stop p m n t r c kept sits is a jobs eager counted is_eager left behind s =
+      if_stop c kept (λ h. IsPlanHalt h t r) (λ h. Met gives p h n) (λ h k. subst (λ (x : Halt). Met gives p x n) (sym k.1) (unplanned_at p m n t r k.0 k.2 sits is a jobs eager counted is_eager left behind k.3)) s
 
   -- the refusal of a step is the board's answer at all that the seat has then seen; the task is u once the operation is there
-  pub refused_stop : (p : PlantFacts) (m n : Member B Y) (t : TxId) (u : Task Y) (op : Op) (r : StepReply) (c : Came) → Sits gives stands p m → m.seat.tx ≡ Some t
+  pub refused_stop : (p : PlantFacts) (m n : Member B Y) (t : TxId) (u : Task Y) (op : Op) (r : StepReply) (c : Came) (kept : Option Halt) → Sits gives stands p m → m.seat.tx ≡ Some t
       → Answered p.set (λ story base. r ≡ step_answer p.set story (length story - base) p.room (job_of t u.serial) op) (λ story. step_entry (now_of p.set story) (job_of t u.serial) op r) m.seat n.seat
       → gives n.task.body ≡ gives u.body → u.op ≡ Some op
       → ((tx : TxId) (mine : List (ℕ × Entry)) → Tied gives stands tx mine m.task → Tied gives stands tx mine u)
-      → IfStop c (λ h. IsHaltOf h (job_of t u.serial) r) → IfStop c (λ h. Met gives p h n)
-  refused_stop p m n t u op r c sits is a same kept asked_for s =
+      → IfStop c kept (λ h. IsHaltOf h (job_of t u.serial) r) → IfStop c kept (λ h. Met gives p h n)
+  refused_stop p m n t u op r c k sits is a same kept asked_for s =
       let job : JobId = job_of t u.serial in
       let own : op ≡ gives n.task.body u.serial (own_outcomes m.seat.mine job) = (asked_for t m.seat.mine (sits.tied t is)).op_is op kept ∙ (λ i. sym same i u.serial (own_outcomes m.seat.mine job)) in
-      if_stop c (λ h. IsHaltOf h job r) (λ h. Met gives p h n) (λ h k. subst (λ (x : Halt). Met gives p x n) (sym k.0) (refused_at gives p m.seat n t u.serial op r a is k.1 own)) s
+      if_stop c k (λ h. IsHaltOf h job r) (λ h. Met gives p h n) (λ h w. subst (λ (x : Halt). Met gives p x n) (sym w.0) (refused_at gives p m.seat n t u.serial op r a is w.1 own)) s

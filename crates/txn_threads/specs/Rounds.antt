@@ -110,21 +110,16 @@ module _ {B Y : Type 0} (gives : Y → ℕ → List Outcome → Op) (stands : Y 
   abbrev pub WorkerRan : PlantFacts → Worker B Y → Worker B Y → Type 0
   WorkerRan p w u = Each (Ran p) w.members.items u.members.items × Halted gives p u
 
--- the stop that a try met
-abbrev pub IfStop : Came → (Halt → Type 0) → Type 0
-IfStop came.NoJob P = Unit {0}
-IfStop (came.NotYet tx) P = Unit {0}
-IfStop came.Went P = Unit {0}
-IfStop came.Full P = Unit {0}
-IfStop (came.Stop h) P = P h
-
--- the stop that came of a try
-abbrev pub halt_of : Came → Option Halt
-halt_of came.NoJob = None
-halt_of (came.NotYet tx) = None
-halt_of came.Went = None
-halt_of came.Full = None
-halt_of (came.Stop h) = Some h
+-- the stop that a try met is kept, and no other is
+abbrev pub IfStop : Came → Option Halt → (Halt → Type 0) → Type 0
+IfStop came.NoJob kept P = kept ≡ None
+IfStop (came.NotYet tx) kept P = kept ≡ None
+IfStop (came.Waits tx) kept P = kept ≡ None
+IfStop came.Went kept P = kept ≡ None
+IfStop came.Ended kept P = kept ≡ None
+IfStop came.Idled kept P = kept ≡ None
+IfStop came.Full kept P = kept ≡ None
+IfStop came.Stop kept P = (h : Halt) × (kept ≡ Some h) × P h
 
 -- how many jobs are known to have ended, after an answer
 abbrev pub known_after : ℕ → StepReply → ℕ

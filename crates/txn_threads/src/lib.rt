@@ -3,6 +3,7 @@
 
 mod gate;
 mod member;
+mod places;
 mod round;
 mod run;
 mod task;

@@ -2,6 +2,7 @@
 ghost use Rattle.std.specs.Prelude.{◌≡◌, None};
 ghost use Rattle.txn_threads.specs.Runs.{Cleared};
 
+use crate::places::Places;
 use crate::round::Came;
 use crate::task::Task;
 use board::{Board, StepReply};
@@ -95,6 +96,8 @@ impl<B: Board, Y: Body> Member<B, Y> {
 pub struct Worker<B: Board, Y: Body> {
     pub(crate) members: Vec<Member<B, Y>>,
     pub(crate) halt: Option<Halt>,
+    // where its members stand
+    pub(crate) places: Places,
     // the place of the member that it tries first
     pub(crate) first: usize,
     // what came of its last try
@@ -109,6 +112,7 @@ impl<B: Board, Y: Body> Worker<B, Y> {
         Worker {
             members,
             halt: None,
+            places: Places::none(),
             first: 0,
             came: Came::NoJob,
         }
@@ -121,6 +125,7 @@ impl<B: Board, Y: Body> Worker<B, Y> {
         let Worker {
             members,
             halt: _,
+            places: _,
             first: _,
             came: _,
         } = self;

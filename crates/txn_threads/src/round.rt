@@ -1,16 +1,18 @@
 //! A worker's part of a round.
-ghost use Rattle.std.specs.Prelude.{◌≡◌, ◌<◌, ◌+◌, ◌^◌, All, length};
-ghost use Rattle.txn_threads.specs.Rounds.{Each, Sits, Ran, Met, MetIn, WorkerSits, WorkerRan, IfStop, IsCause, IsHaltOf, IsPlanHalt, halt_of, known_after, planned_after};
+ghost use Rattle.std.specs.Prelude.{◌≡◌, ◌≢◌, ◌<◌, ◌+◌, ◌^◌, All, None, IfSome, length};
+ghost use Rattle.txn_threads.specs.Rounds.{Each, Sits, Ran, Met, MetIn, WorkerSits, WorkerRan, IfStop, IsCause, IsHaltOf, IsPlanHalt, known_after, planned_after};
 ghost use Rattle.txn_threads.specs.declared.member.Halt.TheVariants as stop;
 
 use crate::gate::Gate;
 use crate::member::{Halt, Member, Worker};
+use crate::places::Places;
 use board::{Board, IdleReply, StepReply};
 use rt_base::{JobId, PlanRefused, Tick, TxId};
 use shared_plant::{Plant, Tried};
 use step_script::Body;
 
-// How often a worker goes through its members in a round, at most. This keeps the number of rounds small.
+// How often a worker goes through its members in a round, or how many tries it makes for each, at most. This keeps the number
+// of rounds small.
 const TIMES_THROUGH: u32 = 16;
 
 // What came of a try.
@@ -20,11 +22,18 @@ pub(crate) enum Came {
     NoJob,
     // The running job is one of this transaction.
     NotYet(TxId),
-    // It took a step, or waits for a lock, or found the turn taken.
+    // The member's job waits for a lock, and the running job is one of this transaction.
+    Waits(TxId),
+    // It took a step, or found the turn taken.
     Went,
+    // It took the last step of its job.
+    Ended,
+    // The time went on.
+    Idled,
     // The journal is full.
     Full,
-    Stop(Halt),
+    // It met a stop, which is kept.
+    Stop,
 }
 
 // One step try of a member.
@@ -32,10 +41,12 @@ fn step_member<B: Board, Y: Body, G: Gate>(
     plant: &Plant<B>,
     gate: &G,
     member: &mut Member<B, Y>,
+    halt: &mut Option<Halt>,
 ) -> Came
     requires sits { Sits Y.gives Y.stands plant.now member.old }
+    requires clear { halt.old ≡ None }
     ensures ran { Ran Y.gives Y.stands plant.now member.old member.new }
-    ensures met { IfStop result (λ h. Met Y.gives plant.now h member.new) }
+    ensures met { IfStop result halt.new (λ h. Met Y.gives plant.now h member.new) }
 {
     let Some(tx) = member.seat.tx() else {
         unreachable!()
@@ -47,7 +58,7 @@ fn step_member<B: Board, Y: Body, G: Gate>(
         Tried::Said(reply) => {
             member.task.hear(&reply);
             member.ended = ended_after(member.ended, &reply);
-            came_of(JobId { tx, serial }, reply)
+            came_of(JobId { tx, serial }, &reply, halt)
         }
     }
 }
@@ -65,8 +76,9 @@ fn ended_after(ended: u32, reply: &StepReply) -> u32
     }
 }
 
-fn came_of(job: JobId, reply: StepReply) -> Came
-    ensures { IfStop result (λ h. IsHaltOf h job reply) }
+fn came_of(job: JobId, reply: &StepReply, halt: &mut Option<Halt>) -> Came
+    requires clear { halt.old ≡ None }
+    ensures { IfStop result halt.new (λ h. IsHaltOf h job reply.now) }
 {
     match reply {
         StepReply::NoJob { ended: _, last: _ } => Came::NoJob,
@@ -74,8 +86,18 @@ fn came_of(job: JobId, reply: StepReply) -> Came
         StepReply::Full { room: _ } => Came::Full,
         StepReply::Undeclared { item: _ }
         | StepReply::TooEarly { left: _ }
-        | StepReply::Unwritten { item: _ } => Came::Stop(Halt::Refused { job, reply }),
-        _ => Came::Went,
+        | StepReply::Unwritten { item: _ } => {
+            *halt = Some(Halt::Refused { job, reply: *reply });
+            Came::Stop
+        }
+        StepReply::Blocked { by, ceiling: _ } => Came::Waits(by.tx),
+        StepReply::Done { outcome: _, over } => {
+            if over.is_some() {
+                Came::Ended
+            } else {
+                Came::Went
+            }
+        }
     }
 }
 
@@ -89,31 +111,45 @@ fn planned_after(planned: u32, reply: &Result<(JobId, Tick), PlanRefused>) -> u3
     }
 }
 
-fn came_of_plan(tx: TxId, reply: Result<(JobId, Tick), PlanRefused>) -> Came
-    ensures { IfStop result (λ h. IsPlanHalt h tx reply) }
+fn came_of_plan(
+    tx: TxId,
+    reply: Result<(JobId, Tick), PlanRefused>,
+    halt: &mut Option<Halt>,
+) -> Came
+    requires clear { halt.old ≡ None }
+    ensures { IfStop result halt.new (λ h. IsPlanHalt h tx reply) }
 {
     match reply {
         Ok(_) => Came::NoJob,
-        Err(cause) => came_of_cause(tx, cause),
+        Err(cause) => came_of_cause(tx, cause, halt),
     }
 }
 
-fn came_of_cause(tx: TxId, cause: PlanRefused) -> Came
-    ensures { IfStop result (λ h. (h ≡ stop.NoPlan tx cause) × IsCause cause) }
+fn came_of_cause(tx: TxId, cause: PlanRefused, halt: &mut Option<Halt>) -> Came
+    requires clear { halt.old ≡ None }
+    ensures { IfStop result halt.new (λ h. (h ≡ stop.NoPlan tx cause) × IsCause cause) }
 {
     match cause {
         PlanRefused::TooFar { limit: _ }
         | PlanRefused::CalendarFull { room: _ }
-        | PlanRefused::NoSerial { planned: _ } => Came::Stop(Halt::NoPlan { tx, cause }),
+        | PlanRefused::NoSerial { planned: _ } => {
+            *halt = Some(Halt::NoPlan { tx, cause });
+            Came::Stop
+        }
         _ => Came::Full,
     }
 }
 
 // Plans an eager member's next job where its earlier ones have ended.
-fn plan_member<B: Board, Y: Body>(plant: &Plant<B>, member: &mut Member<B, Y>) -> Came
+fn plan_member<B: Board, Y: Body>(
+    plant: &Plant<B>,
+    member: &mut Member<B, Y>,
+    halt: &mut Option<Halt>,
+) -> Came
     requires sits { Sits Y.gives Y.stands plant.now member.old }
+    requires clear { halt.old ≡ None }
     ensures ran { Ran Y.gives Y.stands plant.now member.old member.new }
-    ensures met { IfStop result (λ h. Met Y.gives plant.now h member.new) }
+    ensures met { IfStop result halt.new (λ h. Met Y.gives plant.now h member.new) }
 {
     if !member.eager || member.planned >= member.jobs || member.ended < member.planned {
         return Came::NoJob;
@@ -125,19 +161,25 @@ fn plan_member<B: Board, Y: Body>(plant: &Plant<B>, member: &mut Member<B, Y>) -
         Tried::Busy => Came::Went,
         Tried::Said(reply) => {
             member.planned = planned_after(member.planned, &reply);
-            came_of_plan(tx, reply)
+            came_of_plan(tx, reply, halt)
         }
     }
 }
 
 // One step try, and where the job is not pending one plan try of an eager member.
-fn turn<B: Board, Y: Body, G: Gate>(plant: &Plant<B>, gate: &G, member: &mut Member<B, Y>) -> Came
+fn turn<B: Board, Y: Body, G: Gate>(
+    plant: &Plant<B>,
+    gate: &G,
+    member: &mut Member<B, Y>,
+    halt: &mut Option<Halt>,
+) -> Came
     requires sits { Sits Y.gives Y.stands plant.now member.old }
+    requires clear { halt.old ≡ None }
     ensures ran { Ran Y.gives Y.stands plant.now member.old member.new }
-    ensures met { IfStop result (λ h. Met Y.gives plant.now h member.new) }
+    ensures met { IfStop result halt.new (λ h. Met Y.gives plant.now h member.new) }
 {
-    match step_member(plant, gate, member) {
-        Came::NoJob => plan_member(plant, member),
+    match step_member(plant, gate, member, halt) {
+        Came::NoJob => plan_member(plant, member, halt),
         other => other,
     }
 }
@@ -146,7 +188,7 @@ fn turn<B: Board, Y: Body, G: Gate>(plant: &Plant<B>, gate: &G, member: &mut Mem
 fn idle_member<B: Board, Y: Body>(plant: &Plant<B>, member: &mut Member<B, Y>) -> Came
     requires sits { Sits Y.gives Y.stands plant.now member.old }
     ensures ran { Ran Y.gives Y.stands plant.now member.old member.new }
-    ensures goes_on { IfStop result (λ h. ⊥) }
+    ensures goes_on { IfStop result None (λ h. ⊥) }
 {
     match plant.try_idle(&mut member.seat) {
         Tried::Busy => Came::Went,
@@ -155,19 +197,39 @@ fn idle_member<B: Board, Y: Body>(plant: &Plant<B>, member: &mut Member<B, Y>) -
 }
 
 fn came_of_idle(reply: &IdleReply) -> Came
-    ensures { IfStop result (λ h. ⊥) }
+    ensures { IfStop result None (λ h. ⊥) }
 {
     match reply {
         IdleReply::NotIdle { running } => Came::NotYet(running.tx),
         IdleReply::Full { room: _ } => Came::Full,
-        IdleReply::Nothing | IdleReply::Advanced { to: _ } => Came::NoJob,
+        IdleReply::Nothing => Came::NoJob,
+        IdleReply::Advanced { to: _ } => Came::Idled,
+    }
+}
+
+// One step try, and where the job has ended or is not pending a try to idle, whose answer tells which job runs.
+fn follow_member<B: Board, Y: Body, G: Gate>(
+    plant: &Plant<B>,
+    gate: &G,
+    member: &mut Member<B, Y>,
+    halt: &mut Option<Halt>,
+) -> Came
+    requires sits { Sits Y.gives Y.stands plant.now member.old }
+    requires clear { halt.old ≡ None }
+    ensures ran { Ran Y.gives Y.stands plant.now member.old member.new }
+    ensures met { IfStop result halt.new (λ h. Met Y.gives plant.now h member.new) }
+{
+    match step_member(plant, gate, member, halt) {
+        Came::NoJob => idle_member(plant, member),
+        Came::Ended => idle_member(plant, member),
+        other => other,
     }
 }
 
 fn idle_first<B: Board, Y: Body>(plant: &Plant<B>, members: &mut Vec<Member<B, Y>>) -> Came
     requires sit { All (Sits Y.gives Y.stands plant.now) members.old.items }
     ensures ran { Each (Ran Y.gives Y.stands plant.now) members.old.items members.new.items }
-    ensures goes_on { IfStop result (λ h. ⊥) }
+    ensures goes_on { IfStop result None (λ h. ⊥) }
 {
     if members.is_empty() {
         return Came::NoJob;
@@ -176,25 +238,20 @@ fn idle_first<B: Board, Y: Body>(plant: &Plant<B>, members: &mut Vec<Member<B, Y
     idle_member(plant, member)
 }
 
-// The place of the member of a transaction. It looks at each member at most once.
-pub(crate) fn place_of<B: Board, Y: Body>(members: &[Member<B, Y>], tx: TxId) -> Option<usize> {
-    members
-        .iter()
-        .position(|member| member.seat.tx() == Some(tx))
-}
-
 // The turn of an eager member that has jobs to plan.
 fn eager_turn<B: Board, Y: Body, G: Gate>(
     plant: &Plant<B>,
     gate: &G,
     member: &mut Member<B, Y>,
+    halt: &mut Option<Halt>,
 ) -> Came
     requires sits { Sits Y.gives Y.stands plant.now member.old }
+    requires clear { halt.old ≡ None }
     ensures ran { Ran Y.gives Y.stands plant.now member.old member.new }
-    ensures met { IfStop result (λ h. Met Y.gives plant.now h member.new) }
+    ensures met { IfStop result halt.new (λ h. Met Y.gives plant.now h member.new) }
 {
     if member.eager && member.planned < member.jobs {
-        turn(plant, gate, member)
+        turn(plant, gate, member, halt)
     } else {
         Came::NoJob
     }
@@ -205,16 +262,18 @@ fn eager_turns<B: Board, Y: Body, G: Gate>(
     plant: &Plant<B>,
     gate: &G,
     members: &mut Vec<Member<B, Y>>,
+    halt: &mut Option<Halt>,
 ) -> Came
     requires sit { All (Sits Y.gives Y.stands plant.now) members.old.items }
+    requires clear { halt.old ≡ None }
     ensures ran { Each (Ran Y.gives Y.stands plant.now) members.old.items members.new.items }
-    ensures met { IfStop result (λ h. MetIn Y.gives plant.now members.new.items h) }
+    ensures met { IfStop result halt.new (λ h. MetIn Y.gives plant.now members.new.items h) }
 {
     for i in 0..members.len() {
         let member = &mut members[i];
-        match eager_turn(plant, gate, member) {
+        match eager_turn(plant, gate, member, halt) {
             Came::Full => return Came::Full,
-            Came::Stop(halt) => return Came::Stop(halt),
+            Came::Stop => return Came::Stop,
             _ => {}
         }
     }
@@ -227,14 +286,16 @@ fn turn_at<B: Board, Y: Body, G: Gate>(
     gate: &G,
     members: &mut Vec<Member<B, Y>>,
     place: usize,
+    halt: &mut Option<Halt>,
 ) -> Came
     requires sit { All (Sits Y.gives Y.stands plant.now) members.old.items }
+    requires clear { halt.old ≡ None }
     requires place { place < length members.old.items }
     ensures ran { Each (Ran Y.gives Y.stands plant.now) members.old.items members.new.items }
-    ensures met { IfStop result (λ h. MetIn Y.gives plant.now members.new.items h) }
+    ensures met { IfStop result halt.new (λ h. MetIn Y.gives plant.now members.new.items h) }
 {
     let member = &mut members[place];
-    turn(plant, gate, member)
+    turn(plant, gate, member, halt)
 }
 
 // Turns of the members from the one at `first` on, up to one whose job is pending. NoJob where none is, and NotYet where
@@ -244,26 +305,31 @@ fn sweep<B: Board, Y: Body, G: Gate>(
     plant: &Plant<B>,
     gate: &G,
     members: &mut Vec<Member<B, Y>>,
+    places: &Places,
     first: &mut usize,
+    halt: &mut Option<Halt>,
 ) -> Came
     requires sit { All (Sits Y.gives Y.stands plant.now) members.old.items }
+    requires clear { halt.old ≡ None }
     ensures ran { Each (Ran Y.gives Y.stands plant.now) members.old.items members.new.items }
-    ensures met { IfStop result (λ h. MetIn Y.gives plant.now members.new.items h) }
+    ensures met { IfStop result halt.new (λ h. MetIn Y.gives plant.now members.new.items h) }
 {
     for _ in 0..members.len() {
         if *first >= members.len() {
             *first = 0;
         }
-        match turn_at(plant, gate, members, *first) {
+        match turn_at(plant, gate, members, *first, halt) {
             Came::NoJob => *first += 1,
-            Came::NotYet(tx) => match place_of(members.as_slice(), tx) {
+            Came::NotYet(tx) => match places.of(tx) {
                 Some(place) => {
                     *first = place;
                     return Came::Went;
                 }
                 None => return Came::NotYet(tx),
             },
-            other => return other,
+            Came::Full => return Came::Full,
+            Came::Stop => return Came::Stop,
+            _ => return Came::Went,
         }
     }
     Came::NoJob
@@ -274,13 +340,16 @@ fn pass<B: Board, Y: Body, G: Gate>(
     plant: &Plant<B>,
     gate: &G,
     members: &mut Vec<Member<B, Y>>,
+    places: &Places,
     first: &mut usize,
+    halt: &mut Option<Halt>,
 ) -> Came
     requires sit { All (Sits Y.gives Y.stands plant.now) members.old.items }
+    requires clear { halt.old ≡ None }
     ensures ran { Each (Ran Y.gives Y.stands plant.now) members.old.items members.new.items }
-    ensures met { IfStop result (λ h. MetIn Y.gives plant.now members.new.items h) }
+    ensures met { IfStop result halt.new (λ h. MetIn Y.gives plant.now members.new.items h) }
 {
-    match sweep(plant, gate, members, first) {
+    match sweep(plant, gate, members, places, first, halt) {
         Came::NoJob => idle_first(plant, members),
         other => other,
     }
@@ -293,19 +362,22 @@ fn passes<B: Board, Y: Body, G: Gate>(
     plant: &Plant<B>,
     gate: &G,
     members: &mut Vec<Member<B, Y>>,
+    places: &Places,
     first: &mut usize,
+    halt: &mut Option<Halt>,
 ) -> Came
     requires sit { All (Sits Y.gives Y.stands plant.now) members.old.items }
+    requires clear { halt.old ≡ None }
     ensures ran { Each (Ran Y.gives Y.stands plant.now) members.old.items members.new.items }
-    ensures met { IfStop result (λ h. MetIn Y.gives plant.now members.new.items h) }
+    ensures met { IfStop result halt.new (λ h. MetIn Y.gives plant.now members.new.items h) }
 {
-    match eager_turns(plant, gate, members) {
+    match eager_turns(plant, gate, members, halt) {
         Came::Full => return Came::Full,
-        Came::Stop(halt) => return Came::Stop(halt),
+        Came::Stop => return Came::Stop,
         _ => {}
     }
     for _ in 1..TIMES_THROUGH {
-        match pass(plant, gate, members, first) {
+        match pass(plant, gate, members, places, first, halt) {
             Came::Went => {}
             other => return other,
         }
@@ -313,13 +385,114 @@ fn passes<B: Board, Y: Body, G: Gate>(
     Came::Went
 }
 
-// The stop that came of a try.
-fn halt_of(came: Came) -> Option<Halt>
-    ensures { result ≡ halt_of came }
+// The tries of `follow_member` of the member at a place.
+fn follow_at<B: Board, Y: Body, G: Gate>(
+    plant: &Plant<B>,
+    gate: &G,
+    members: &mut Vec<Member<B, Y>>,
+    place: usize,
+    halt: &mut Option<Halt>,
+) -> Came
+    requires sit { All (Sits Y.gives Y.stands plant.now) members.old.items }
+    requires clear { halt.old ≡ None }
+    requires place { place < length members.old.items }
+    ensures ran { Each (Ran Y.gives Y.stands plant.now) members.old.items members.new.items }
+    ensures met { IfStop result halt.new (λ h. MetIn Y.gives plant.now members.new.items h) }
+{
+    let member = &mut members[place];
+    follow_member(plant, gate, member, halt)
+}
+
+// The place of the member that can go on after a try of the one at `first`, as far as the answer tells. None where it is no
+// member of this worker, or no try could go on.
+fn heading(came: Came, places: &Places, first: usize) -> Option<usize>
+    ensures { IfSome result (λ place. came ≢ Came.Stop) }
 {
     match came {
-        Came::Stop(halt) => Some(halt),
-        _ => None,
+        Came::Went | Came::Ended | Came::Idled => Some(first),
+        Came::NotYet(tx) | Came::Waits(tx) => places.of(tx),
+        Came::NoJob | Came::Full | Came::Stop => None,
+    }
+}
+
+// As many tries as there are members, each of the member whose job runs, as far as the answers tell: up to a full journal or
+// a stop, up to an answer that the job of another worker's member runs, and up to one that nothing is pending or planned.
+fn follow<B: Board, Y: Body, G: Gate>(
+    plant: &Plant<B>,
+    gate: &G,
+    members: &mut Vec<Member<B, Y>>,
+    places: &Places,
+    first: &mut usize,
+    halt: &mut Option<Halt>,
+) -> Came
+    requires sit { All (Sits Y.gives Y.stands plant.now) members.old.items }
+    requires clear { halt.old ≡ None }
+    ensures ran { Each (Ran Y.gives Y.stands plant.now) members.old.items members.new.items }
+    ensures met { IfStop result halt.new (λ h. MetIn Y.gives plant.now members.new.items h) }
+{
+    for _ in 0..members.len() {
+        if *first >= members.len() {
+            *first = 0;
+        }
+        let came = follow_at(plant, gate, members, *first, halt);
+        match heading(came, places, *first) {
+            Some(place) => *first = place,
+            None => return came,
+        }
+    }
+    Came::Went
+}
+
+// Tries of a worker none of whose members has jobs to plan, at most sixteen for each member. Where nothing is pending or
+// planned each member has a try, and so hears that its jobs have ended.
+fn follows<B: Board, Y: Body, G: Gate>(
+    plant: &Plant<B>,
+    gate: &G,
+    members: &mut Vec<Member<B, Y>>,
+    places: &Places,
+    first: &mut usize,
+    halt: &mut Option<Halt>,
+) -> Came
+    requires sit { All (Sits Y.gives Y.stands plant.now) members.old.items }
+    requires clear { halt.old ≡ None }
+    ensures ran { Each (Ran Y.gives Y.stands plant.now) members.old.items members.new.items }
+    ensures met { IfStop result halt.new (λ h. MetIn Y.gives plant.now members.new.items h) }
+{
+    for _ in 0..TIMES_THROUGH {
+        match follow(plant, gate, members, places, first, halt) {
+            Came::Went => {}
+            Came::NoJob => return sweep(plant, gate, members, places, first, halt),
+            other => return other,
+        }
+    }
+    Came::Went
+}
+
+// Whether an eager member has jobs to plan.
+pub(crate) fn has_plans<B: Board, Y: Body>(members: &[Member<B, Y>]) -> bool {
+    members
+        .iter()
+        .any(|member| member.eager && member.planned < member.jobs)
+}
+
+// The tries of a worker in a round.
+fn part<B: Board, Y: Body, G: Gate>(
+    plant: &Plant<B>,
+    gate: &G,
+    members: &mut Vec<Member<B, Y>>,
+    places: &Places,
+    first: &mut usize,
+    halt: &mut Option<Halt>,
+) -> Came
+    requires sit { All (Sits Y.gives Y.stands plant.now) members.old.items }
+    requires clear { halt.old ≡ None }
+    ensures ran { Each (Ran Y.gives Y.stands plant.now) members.old.items members.new.items }
+    ensures met { IfStop result halt.new (λ h. MetIn Y.gives plant.now members.new.items h) }
+{
+    if has_plans(members.as_slice()) {
+        passes(plant, gate, members, places, first, halt)
+    } else {
+        follows(plant, gate, members, places, first, halt)
     }
 }
 
@@ -333,7 +506,13 @@ pub(crate) fn round<B: Board, Y: Body, G: Gate>(
     ensures ran { WorkerRan Y.gives Y.stands plant.now worker.old worker.new }
 {
     if worker.halt.is_none() {
-        worker.came = passes(plant, gate, &mut worker.members, &mut worker.first);
-        worker.halt = halt_of(worker.came);
+        worker.came = part(
+            plant,
+            gate,
+            &mut worker.members,
+            &worker.places,
+            &mut worker.first,
+            &mut worker.halt,
+        );
     }
 }

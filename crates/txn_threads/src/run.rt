@@ -9,7 +9,8 @@ ghost use Rattle.txn_threads.specs.Runs.{MayRun, HasRun, IsDone, Operated, GotMo
 
 use crate::gate::Gate;
 use crate::member::{Halt, Member, RunStop, Worker};
-use crate::round::{Came, place_of, round};
+use crate::places::Places;
+use crate::round::{Came, has_plans, round};
 use board::Board;
 use entry_out::{EntryOut, Stopped};
 use rt_base::TxId;
@@ -19,6 +20,9 @@ use std::thread;
 use std::thread::Threads;
 use step_journal::Entry;
 use step_script::Body;
+
+// How many workers go on one after another in a round in the caller's thread, at most.
+const PARTS: u32 = 64;
 
 // One round of all workers, in at most 64 threads.
 fn round_all<R: Threads + Sync, B: Board + Send, Y: Body + Send, G: Gate + Sync>(
@@ -56,24 +60,17 @@ fn round_at<B: Board, Y: Body, G: Gate>(
     round(plant, gate, worker);
 }
 
-// The place of the worker that has the member of a transaction. It looks at each member at most once.
+// The place of the worker that has the member of a transaction. One look for each worker.
 fn worker_of<B: Board, Y: Body>(workers: &[Worker<B, Y>], tx: TxId) -> Option<usize>
     ensures within { IfSome result (λ i. i < length workers.now) }
 {
     for i in 0..workers.len() {
         let worker = &workers[i];
-        if place_of(worker.members.as_slice(), tx).is_some() {
+        if worker.places.of(tx).is_some() {
             return Some(i);
         }
     }
     None
-}
-
-// Whether an eager member has jobs to plan.
-fn has_plans<B: Board, Y: Body>(members: &[Member<B, Y>]) -> bool {
-    members
-        .iter()
-        .any(|member| member.eager && member.planned < member.jobs)
 }
 
 // The worker that alone can go on after a round of all, as the first answer tells that a job runs. None where an eager
@@ -88,7 +85,7 @@ fn first_running<B: Board, Y: Body>(workers: &[Worker<B, Y>]) -> Option<usize>
             return None;
         }
         match worker.came {
-            Came::NotYet(tx) => running = running.or(Some(tx)),
+            Came::NotYet(tx) | Came::Waits(tx) => running = running.or(Some(tx)),
             _ => {}
         }
     }
@@ -102,13 +99,46 @@ fn next_running<B: Board, Y: Body>(workers: &[Worker<B, Y>], place: usize) -> Op
     ensures within { IfSome result (λ i. i < length workers.now) }
 {
     match workers[place].came {
-        Came::Went => Some(place),
-        Came::NotYet(tx) => worker_of(workers, tx),
+        Came::Went | Came::Idled | Came::Full => Some(place),
+        Came::NotYet(tx) | Came::Waits(tx) => worker_of(workers, tx),
         _ => None,
     }
 }
 
-// One round: of the worker that alone can go on, in the thread of the caller, or else of all workers. It gives the worker
+// Whether the part of a worker ended as the job of another worker's member runs.
+fn was_told<B: Board, Y: Body>(workers: &[Worker<B, Y>], place: usize) -> bool
+    requires place { place < length workers.now }
+{
+    matches!(workers[place].came, Came::NotYet(_) | Came::Waits(_))
+}
+
+// Parts in the thread of the caller, each of the worker that alone can go on: the one at a place, and then, up to 64 times,
+// the one whose job it was told to run. It gives the worker that alone can go on after them.
+fn chain<B: Board, Y: Body, G: Gate>(
+    plant: &Plant<B>,
+    workers: &mut [Worker<B, Y>],
+    place: usize,
+    gate: &G,
+) -> Option<usize>
+    requires sit { All (WorkerSits Y.gives Y.stands plant.now) workers.old }
+    requires place { place < length workers.old }
+    ensures ran { Each (WorkerRan Y.gives Y.stands plant.now) workers.old workers.new }
+    ensures within { IfSome result (λ i. i < length workers.new) }
+{
+    let mut at = place;
+    for _ in 0..PARTS {
+        round_at(plant, workers, at, gate);
+        let told = was_told(workers, at);
+        let next = next_running(workers, at)?;
+        if !told {
+            return Some(next);
+        }
+        at = next;
+    }
+    Some(at)
+}
+
+// One round: of the workers that alone can go on, in the thread of the caller, or else of all workers. It gives the worker
 // that alone can go on after it.
 fn round_of<R: Threads + Sync, B: Board + Send, Y: Body + Send, G: Gate + Sync>(
     rt: &R,
@@ -123,10 +153,7 @@ fn round_of<R: Threads + Sync, B: Board + Send, Y: Body + Send, G: Gate + Sync>(
     ensures within { IfSome result (λ i. i < length workers.new) }
 {
     match alone {
-        Some(place) => {
-            round_at(plant, workers, place, gate);
-            next_running(workers, place)
-        }
+        Some(place) => chain(plant, workers, place, gate),
         None => {
             round_all(rt, plant, workers, gate);
             first_running(workers)
@@ -233,12 +260,24 @@ fn clear_members<B: Board, Y: Body>(members: &mut Vec<Member<B, Y>>)
     }
 }
 
+// The places of members.
+fn places_of<B: Board, Y: Body>(members: &[Member<B, Y>]) -> Places {
+    let mut places = Places::none();
+    for i in 0..members.len() {
+        if let Some(tx) = members[i].seat.tx() {
+            places.put(tx, i);
+        }
+    }
+    places
+}
+
 // A worker as a run begins.
 fn clear_worker<B: Board, Y: Body>(worker: &mut Worker<B, Y>)
     ensures { WorkerCleared Y.gives Y.stands worker.old worker.new }
 {
     clear_members(&mut worker.members);
     worker.halt = None;
+    worker.places = places_of(worker.members.as_slice());
     worker.first = 0;
     worker.came = Came::NoJob;
 }
@@ -286,7 +325,7 @@ fn rounds<R: Threads + Wait + Sync, B: Board + Send, Y: Body + Send, G: Gate + S
     };
     let mut alone = None;
     for _ in rt.forever() {
-        if all_done(workers) {
+        if alone.is_none() && all_done(workers) {
             return Ok(());
         }
         alone = round_of(rt, plant, workers, alone, gate);
@@ -303,18 +342,22 @@ fn rounds<R: Threads + Wait + Sync, B: Board + Send, Y: Body + Send, G: Gate + S
 
 /// Runs all workers, each in a thread of its own where one can be made, in rounds, until of every member's transaction
 /// as many jobs have ended as it is to have. Before the first round and after each it drains the kept entries through
-/// `spare` to `out`. In a round a worker goes at most sixteen times through its members. Each time it begins with the
-/// member whose job runs, as far as the answers told, and makes at most one step try a member, a plan try for an eager
-/// one whose planned jobs have ended, and a try to idle where no member's job is pending. A try that finds the journal
-/// full ends the worker's part of the round, and is made again after the next drain. An answer that the job of another
-/// worker's member runs ends it too, as no try could go on, and so does a try to idle. A worker that meets a stop makes
-/// no further try. At its start it clears what workers and members keep from an earlier call. It takes no memory, and it
-/// may wait.
+/// `spare` to `out`. A worker that meets a stop makes no further try. At its start the call clears what workers and members
+/// keep from an earlier one. It takes no memory, and it may wait.
+///
+/// In a round a worker makes at most sixteen tries for each of its members: a step try of the member whose job runs, as far
+/// as the answers told, and where that job has ended or is not pending a try to idle, whose answer tells which job runs. Its
+/// part of the round ends where the journal is full, and that try is made again after the next drain; where the job of
+/// another worker's member runs; and where nothing is pending or planned, after a step try of each member. A worker that has
+/// eager members with jobs to plan goes at most sixteen times through its members instead. Each time it begins with the
+/// member whose job runs, as far as the answers told, and makes at most one step try a member, a plan try for an eager one
+/// whose planned jobs have ended, and a try to idle where no member's job is pending, which ends its part too.
 ///
 /// One job runs at a time. Where the answers of a round told whose, and no eager member has jobs to plan, the next round is
-/// of its worker alone, in the thread of the caller: the others could only be told to wait, and starting their threads
-/// costs more than many steps. After a try to idle the next round is of all workers again. One step costs about one try,
-/// with a look at each member where the job of another worker's member runs.
+/// of its worker alone, in the thread of the caller, and where its part ends as another's job runs, of that one after it, up
+/// to 64 parts: the others could only be told to wait, and starting their threads costs more than many steps. Where nothing
+/// is pending or planned the next round is of all workers again. One step costs about one try, with a look at each worker
+/// where the job of another's member runs.
 ///
 /// That no two members have the same transaction, and that a member's transaction has exactly `jobs` planned jobs, or
 /// none if it is eager, is left to the caller: no promise needs it. Where `spare` has reserved places for the board's

@@ -24,4 +24,4 @@ returns-in-Said-clause-met g c =
     let eager : m.eager ≡ true = search rules in
     let left : m.planned < m.jobs = search rules in
     let behind : m.planned ≤ m.ended = search rules in
-    unplanned_stop g.Y.Body.gives g.Y.Body.stands c.args.plant.now m _ c.in-Some.tx c.in-Said.reply c.came_of_plan.result c.requires.sits is c.in-Said.ensures.said refl refl c.planned_after-member.ensures eager left behind c.came_of_plan.ensures
+    unplanned_stop g.Y.Body.gives g.Y.Body.stands c.args.plant.now m _ c.in-Some.tx c.in-Said.reply c.came_of_plan.result c.came_of_plan.new.halt c.requires.sits is c.in-Said.ensures.said refl refl c.planned_after-member.ensures eager left behind c.came_of_plan.ensures

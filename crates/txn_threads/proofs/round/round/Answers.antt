@@ -1,4 +1,3 @@
-use Rattle.std.proofs.Common.{◌∙◌, sym}
 use Rattle.txn_threads.specs.Rounds.{MetIn}
 use Rattle.txn_threads.proofs.Rounding.{all_refl, stop_of_came}
 use Rattle.txn_threads.proofs.round.round.Goals as goal
@@ -6,8 +5,8 @@ use Rattle.txn_threads.proofs.round.round.Goals as goal
 pub returns-then-is_none : goal.returns-then-is_none
 returns-then-is_none g c = record {
   ran = (
-    c.passes-worker.ensures.ran,
-    λ h is. stop_of_came c.passes-worker.result (MetIn g.Y.Body.gives c.args.plant.now c.passes-worker.new.members.items) c.passes-worker.ensures.met h (sym c.halt_of-worker.ensures ∙ is),
+    c.part-worker.ensures.ran,
+    λ h is. stop_of_came c.part-worker.result c.part-worker.new.halt (MetIn g.Y.Body.gives c.args.plant.now c.part-worker.new.members.items) c.part-worker.ensures.met h is,
   );
 }
 

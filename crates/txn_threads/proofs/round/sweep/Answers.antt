@@ -1,17 +1,19 @@
 use Rattle.std.proofs.Common.{◌≡◌, length, arith, rules}
-use Rattle.txn_threads.proofs.Rounding.{all_refl, all_sit, all_trans}
+use Rattle.txn_threads.specs.Rounds.{MetIn}
+use Rattle.txn_threads.proofs.Rounding.{all_refl, all_sit, all_trans, none_kept}
 use Rattle.txn_threads.proofs.round.sweep.Goals as goal
 use Rattle.txn_threads.proofs.round.sweep.Goals.{then-first-len, else-first-len}
 
 pub loop-init : goal.loop-init
-loop-init g c = all_refl g.Y.Body.gives g.Y.Body.stands c.args.plant.now c.args.members.now.items c.requires.sit
+loop-init g c = (all_refl g.Y.Body.gives g.Y.Body.stands c.args.plant.now c.args.members.now.items c.requires.sit, c.requires.clear)
 
 pub turn_at-requires : goal.turn_at-requires
 turn_at-requires g c =
     let n : c.len-end.result ≡ length c.args.members.now.items = search rules in
     let m : c.len.result ≡ length c.loop.members.items = search rules in
-    let same = c.loop.invariant.0 in let left = c.loop-test.true in record {
-      sit = all_sit g.Y.Body.gives g.Y.Body.stands c.args.plant.now c.args.members.now.items c.loop.members.items c.loop.invariant;
+    let same = c.loop.invariant.0.0 in let left = c.loop-test.true in record {
+      sit = all_sit g.Y.Body.gives g.Y.Body.stands c.args.plant.now c.args.members.now.items c.loop.members.items c.loop.invariant.0;
+      clear = c.loop.invariant.1;
       place = elim c.if-first-len.branch [
         | then-first-len w ↦ let is = w.first-is in omega (arith, n, same, left, is)
         | else-first-len w ↦ let is = w.first-is in let low = w.if-first-len in omega (arith, m, is, low)
@@ -19,13 +21,22 @@ turn_at-requires g c =
     }
 
 pub loop-preserved : goal.loop-preserved
-loop-preserved g c = all_trans g.Y.Body.gives g.Y.Body.stands c.args.plant.now c.args.members.now.items c.loop.members.items c.turn_at.new.members.items c.loop.invariant c.turn_at.ensures.ran
+loop-preserved g c = (all_trans g.Y.Body.gives g.Y.Body.stands c.args.plant.now c.args.members.now.items c.loop.members.items c.turn_at.new.members.items c.loop.invariant.0 c.turn_at.ensures.ran, c.in-NoJob.ensures.met)
 
 pub returns-in-Some-clause-ran : goal.returns-in-Some-clause-ran
-returns-in-Some-clause-ran g c = all_trans g.Y.Body.gives g.Y.Body.stands c.args.plant.now c.args.members.now.items c.loop.members.items c.turn_at.new.members.items c.loop.invariant c.turn_at.ensures.ran
+returns-in-Some-clause-ran g c = all_trans g.Y.Body.gives g.Y.Body.stands c.args.plant.now c.args.members.now.items c.loop.members.items c.turn_at.new.members.items c.loop.invariant.0 c.turn_at.ensures.ran
 
 pub returns-in-None-clause-ran : goal.returns-in-None-clause-ran
-returns-in-None-clause-ran g c = all_trans g.Y.Body.gives g.Y.Body.stands c.args.plant.now c.args.members.now.items c.loop.members.items c.turn_at.new.members.items c.loop.invariant c.turn_at.ensures.ran
+returns-in-None-clause-ran g c = all_trans g.Y.Body.gives g.Y.Body.stands c.args.plant.now c.args.members.now.items c.loop.members.items c.turn_at.new.members.items c.loop.invariant.0 c.turn_at.ensures.ran
+
+pub returns-in-Full-clause-ran : goal.returns-in-Full-clause-ran
+returns-in-Full-clause-ran g c = all_trans g.Y.Body.gives g.Y.Body.stands c.args.plant.now c.args.members.now.items c.loop.members.items c.turn_at.new.members.items c.loop.invariant.0 c.turn_at.ensures.ran
+
+pub returns-in-Stop-clause-ran : goal.returns-in-Stop-clause-ran
+returns-in-Stop-clause-ran g c = all_trans g.Y.Body.gives g.Y.Body.stands c.args.plant.now c.args.members.now.items c.loop.members.items c.turn_at.new.members.items c.loop.invariant.0 c.turn_at.ensures.ran
 
 pub returns-in_default-clause-ran : goal.returns-in_default-clause-ran
-returns-in_default-clause-ran g c = all_trans g.Y.Body.gives g.Y.Body.stands c.args.plant.now c.args.members.now.items c.loop.members.items c.turn_at.new.members.items c.loop.invariant c.turn_at.ensures.ran
+returns-in_default-clause-ran g c = all_trans g.Y.Body.gives g.Y.Body.stands c.args.plant.now c.args.members.now.items c.loop.members.items c.turn_at.new.members.items c.loop.invariant.0 c.turn_at.ensures.ran
+
+pub returns-in_default-clause-met : goal.returns-in_default-clause-met
+returns-in_default-clause-met g c = none_kept c.turn_at.result c.turn_at.new.halt (MetIn g.Y.Body.gives c.args.plant.now c.turn_at.new.members.items) c.turn_at.ensures.met c.in_default.not-Stop

@@ -4,7 +4,7 @@ use Rattle.txn_threads.proofs.round.turn_at.Goals as goal
 
 pub turn-requires : goal.turn-requires
 turn-requires g c =
-    record { sits = at_place (Sits g.Y.Body.gives g.Y.Body.stands c.args.plant.now) c.args.members.now.items c.args.place c.index_mut-member.result.now c.requires.sit c.requires.place c.index_mut-member.ensures.value }
+    record { sits = at_place (Sits g.Y.Body.gives g.Y.Body.stands c.args.plant.now) c.args.members.now.items c.args.place c.index_mut-member.result.now c.requires.sit c.requires.place c.index_mut-member.ensures.value; clear = c.requires.clear }
 
 pub returns-clause-ran : goal.returns-clause-ran
 returns-clause-ran g c =
@@ -13,4 +13,4 @@ returns-clause-ran g c =
 
 pub returns-clause-met : goal.returns-clause-met
 returns-clause-met g c =
-    if_stop c.turn.result (λ h. Met g.Y.Body.gives c.args.plant.now h c.turn.new.member) _ (λ h met. met_at g.Y.Body.gives c.args.plant.now c.args.members.now.items c.args.place c.turn.new.member h c.requires.place met) c.turn.ensures.met
+    if_stop c.turn.result c.turn.new.halt (λ h. Met g.Y.Body.gives c.args.plant.now h c.turn.new.member) _ (λ h met. met_at g.Y.Body.gives c.args.plant.now c.args.members.now.items c.args.place c.turn.new.member h c.requires.place met) c.turn.ensures.met
