@@ -1,9 +1,9 @@
 mod Lines
-mod Forms
+pub mod Forms
 mod Jobs
-mod Every
-mod Fits
-mod Steps
+pub mod Every
+pub mod Fits
+pub mod Steps
 mod Entries
 mod Rows
 mod Declared
@@ -11,7 +11,7 @@ mod Sections
 mod Whole
 mod Parts
 mod Declarations
-mod Ages
+pub mod Ages
 mod Bodies
-mod Runs
+pub mod Runs
 mod Law
