@@ -1,5 +1,5 @@
 -- A step ends its job as stale or apart only where it commits.
-use Rattle.std.proofs.Common.{◌≡◌, ℕ, ◌+◌, Bool, true, false, List, [], ◌∷◌, ◌++◌, Option, Some, None, sym, ap, ◌∙◌, subst, inl, inr}
+use Rattle.std.proofs.Common.{◌≡◌, ℕ, ◌+◌, Bool, true, false, List, [], ◌∷◌, ◌++◌, Option, Some, None, refl, sym, ap, ◌∙◌, subst, inl, inr}
 use Rattle.rt_base.specs.declared.operation.Op.{Op}
 use Rattle.rt_base.specs.declared.operation.Op.TheVariants.{Read, Write, Compute, Commit, Quit}
 use Rattle.rt_base.specs.declared.operation.End.{End}
@@ -16,6 +16,7 @@ use Rattle.sim_run.proofs.Histories.{legal_parts}
 use Rattle.board.specs.Over.{over_of}
 use Rattle.board.proofs.Overs.{over_after}
 use Rattle.job_rows.proofs.Moved.{moves}
+use Rattle.report_sizes.specs.Lines.{NamesItems, OnlyCommitsNameItems}
 
 -- an end that names no item
 abbrev pub IsPlain : Option End → Type 0
@@ -26,6 +27,15 @@ IsPlain (Some end.Late) = Unit {0}
 IsPlain (Some (end.Stale item stamp)) = ⊥
 IsPlain (Some (end.Apart a b)) = ⊥
 IsPlain (Some end.Quit) = Unit {0}
+
+no_items : (over : Option End) → IsPlain over → NamesItems over → ⊥
+no_items None plain names = names
+no_items (Some end.Committed) plain names = names
+no_items (Some end.Overrun) plain names = names
+no_items (Some end.Late) plain names = names
+no_items (Some (end.Stale item stamp)) plain names = plain
+no_items (Some (end.Apart a b)) plain names = plain
+no_items (Some end.Quit) plain names = names
 
 abbrev pub EndsBy : Op → Option End → Type 0
 EndsBy (Read item) over = IsPlain over
@@ -63,6 +73,18 @@ ends_well set es (Step job op outcome over tick) ok legal next =
     subst (EndsBy op) after (ends_by set (row_after (state_of set es) m.row op) now op (is_due set now m.row))
 ends_well set es (Blocked job op by ceiling tick) ok legal next = tt
 ends_well set es (Idle from to) ok legal next = tt
+
+commits : (op : Op) (over : Option End) → EndsBy op over → NamesItems over → op ≡ Commit
+commits (Read item) over plain names = absurd (no_items over plain names)
+commits (Write item value) over plain names = absurd (no_items over plain names)
+commits Compute over plain names = absurd (no_items over plain names)
+commits Commit over plain names = refl
+commits Quit over plain names = absurd (no_items over plain names)
+
+pub only_commits : OnlyCommitsNameItems
+only_commits set entries job op outcome over tick ok legal names =
+    let parts = legal_parts set entries (Step job op outcome over tick) [] legal in
+    commits op over (ends_well set entries (Step job op outcome over tick) ok parts.0 parts.1) names
 
 -- ---- an entry of a history, with those before it
 

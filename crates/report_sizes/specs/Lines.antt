@@ -1,10 +1,17 @@
 -- How many bytes the lines of entries and of jobs have. A name has at most 32, and each number as many as its range allows.
-use Rattle.std.specs.Prelude.{ℕ, ◌^◌, ◌<◌, ◌≤◌, List, length}
+use Rattle.std.specs.Prelude.{◌≡◌, ℕ, ◌^◌, ◌<◌, ◌≤◌, List, [], ◌∷◌, ◌++◌, length, Option, Some, None}
 use Rattle.std.specs.List.{All}
 use Rattle.rt_base.specs.Names.{AreNames}
 use Rattle.rt_base.specs.declared.name.Names.{Names}
+use Rattle.rt_base.specs.declared.ids.JobId.{JobId}
+use Rattle.rt_base.specs.declared.operation.Op.{Op}
+use Rattle.rt_base.specs.declared.operation.Op.TheVariants.{Commit}
+use Rattle.rt_base.specs.declared.operation.Outcome.{Outcome}
+use Rattle.rt_base.specs.declared.operation.End.{End}
+use Rattle.rt_base.specs.declared.operation.End.TheVariants as end
 use Rattle.txn_set.specs.Set.{Set, IsCompiled}
 use Rattle.step_journal.specs.declared.entry.Entry.{Entry}
+use Rattle.step_journal.specs.declared.entry.Entry.TheVariants.{Step}
 use Rattle.step_journal.specs.History.{IsLegal}
 use Rattle.counting_laws.specs.Counting.{plan_count}
 use Rattle.job_rows.specs.Rows.{job_rows}
@@ -23,11 +30,27 @@ pub record IsNamedHistory (names : Names) (set : Set) (entries : List Entry) : T
   pub legal : IsLegal set entries
   pub types : HasTypes set entries
 
--- Each entry's line is short. A step ends its job as stale or apart only where it commits, and then it names no item itself.
+-- each entry's line is short
 abbrev pub EntryLinesAreShort : Type 0
 EntryLinesAreShort =
     (names : Names) (set : Set) (entries : List Entry) (place : ℕ) → IsNamedHistory names set entries
     → All (λ e. IsShort (whole_entry_line names place e)) entries
+
+-- an end that names items
+abbrev pub NamesItems : Option End → Type 0
+NamesItems None = ⊥
+NamesItems (Some end.Committed) = ⊥
+NamesItems (Some end.Overrun) = ⊥
+NamesItems (Some end.Late) = ⊥
+NamesItems (Some (end.Stale item stamp)) = Unit {0}
+NamesItems (Some (end.Apart a b)) = Unit {0}
+NamesItems (Some end.Quit) = ⊥
+
+-- A step ends its job so only where it commits, and then its operation names none.
+abbrev pub OnlyCommitsNameItems : Type 0
+OnlyCommitsNameItems =
+    (set : Set) (entries : List Entry) (job : JobId) (op : Op) (outcome : Outcome) (over : Option End) (tick : ℕ)
+    → IsCompiled set → IsLegal set (entries ++ Step job op outcome over tick ∷ []) → NamesItems over → op ≡ Commit
 
 -- Each job's line is nearly so, whatever the serials.
 abbrev pub JobLinesAreShort : Type 0

@@ -2,14 +2,16 @@
 //! definitions alone.
 #![tactic(auto)]
 
-ghost use Rattle.report_sizes.specs.Lines.{EntryLinesAreShort, JobLinesAreShort, FewJobsHaveShortLines};
+ghost use Rattle.report_sizes.specs.Lines.{EntryLinesAreShort, OnlyCommitsNameItems, JobLinesAreShort, FewJobsHaveShortLines};
 ghost use Rattle.report_sizes.specs.Runs.{RunLinesAreShort, RunIsReadWhole};
 
 use deadline_laws::response;
 
-/// In a legal history of a compiled set each entry's line has fewer than 200 bytes, its line end among them.
+/// In a legal history of a compiled set each entry's line has fewer than 200 bytes, its line end among them. A step whose end
+/// names items is a commit, and names none itself.
 pub fn entry_lines_are_short()
-    ensures { EntryLinesAreShort }
+    ensures short { EntryLinesAreShort }
+    ensures ends { OnlyCommitsNameItems }
 {}
 
 /// In a legal history of a compiled set each job's line has fewer than 210 bytes, its line end among them, and fewer than 200
