@@ -13,7 +13,7 @@ ghost use Rattle.durable_disk.specs.Device.{LeavesOnly};
 ghost use Rattle.durable_records.specs.Standing.{EachLeft};
 ghost use Rattle.durable_journal.specs.Format.{body_of as body_of_text};
 ghost use Rattle.durable_journal.specs.Log.{Fits, GoesOn, HasSome, IsBeforeOrAfter, IsLeft, IsMemoryOrFault, IsOkOrFault, StandsFor};
-ghost use Rattle.durable_journal.specs.Opened.{ClosesAt, IsEnd, IsJudged, IsOpened, IsRefused};
+ghost use Rattle.durable_journal.specs.Opened.{ClosesAt, IfFull, IsEnd, IsJudged, IsOpened, IsRefused};
 ghost use Rattle.durable_journal.specs.Texts.{ended, unended, texts_from};
 
 use crate::format::body_of;
@@ -115,6 +115,8 @@ impl<D: Disk> Log<D> {
         ensures later { IfOk result (λ r. D.faults disk ≤ D.faults r.0.disk) }
         ensures later_err { IfErr result (λ e. D.faults disk ≤ D.faults e.0) }
         ensures cause { IfErr result (λ e. e.1 ≡ LogError.DiskFault → Rose (D.faults disk) (D.faults e.0)) }
+        ensures full { IfErr result (λ e. IfFull e.1 (λ first. length first ≡ room)) }
+        ensures goes_err { IfErr result (λ e. e.1 ≡ LogError.Stopped → ⊥) }
     {
         found_as_read();
         lines_both_ways();
@@ -198,6 +200,7 @@ impl<D: Disk> Log<D> {
             → LeavesOnly D.moment D.left_since self.old.disk self.new.disk (HasSome names.now set.now before entries.now) }
         ensures goes { OnOk result (self.old.stopped ≡ false → self.new.stopped ≡ false) }
         ensures count { OnOk result (self.new.count ≡ self.old.count + length entries.now) }
+        ensures no_other { self.old.stopped ≡ false → OnErr result (IsErrOf result LogError.DiskFault) }
         ensures cause { IsErrOf result LogError.DiskFault → Rose (D.faults self.old.disk) (D.faults self.new.disk) }
         ensures later { D.faults self.old.disk ≤ D.faults self.new.disk }
         ensures told { IsSome (D.seen self.old.disk) ↔ IsSome (D.seen self.new.disk) }
@@ -259,6 +262,7 @@ fn judge(
 ) -> Result<Vec<Entry>, LogError>
     ensures good { IfOk result (λ v. (v.items ≡ entries.items) × IsLegal set.now entries.items × IsEnd stop) }
     ensures bad { IfErr result (λ e. IsJudged set.now room stop entries.items e) }
+    ensures full { (stop ≡ Stop.More → length entries.items ≡ room) → IfErr result (λ e. IfFull e (λ first. length first ≡ room)) }
 {
     match replay(alloc, set, &entries) {
         Err(ReplayError::NotLegal { index }) => {

@@ -51,6 +51,7 @@ fn read_entries<D: Disk>(
     requires few_txns { length names.now.txns < 2 ^ 32 }
     ensures texts { IfOk result (λ r. IfSome (D.seen disk.old) (λ file. texts_by r.1 r.0.items ≡ texts_from names.now 1 room [] file)) }
     ensures within { IfOk result (λ r. (length r.0.items ≤ room) × (length r.0.items ≤ 2 ^ 47)) }
+    ensures full { IfOk result (λ r. r.1 ≡ Stop.More → length r.0.items ≡ room) }
     ensures fit { IfOk result (λ r. AllByRecursion (Fits names.now) r.0.items) }
     ensures passes { Passes D.seen D.may_leave D.moment D.left_since disk.old disk.new }
     ensures headed { IsErrOf result ScanFault.NoHeader → ⊥ }
@@ -96,6 +97,7 @@ pub fn scan_disk<D: Disk>(
     requires few_txns { length names.now.txns < 2 ^ 32 }
     ensures scanned { IfOk result (λ r. IfSome (D.seen disk.old) (λ file. Scanned names.now room file r.1 r.0.items)) }
     ensures within { IfOk result (λ r. (length r.0.items ≤ room) × (length r.0.items ≤ 2 ^ 47)) }
+    ensures full { IfOk result (λ r. r.1 ≡ Stop.More → length r.0.items ≡ room) }
     ensures fit { IfOk result (λ r. AllByRecursion (Fits names.now) r.0.items) }
     ensures settled { OnOk result (Only (D.seen disk.new) (D.may_leave disk.new)) }
     ensures passes { Passes D.seen D.may_leave D.moment D.left_since disk.old disk.new }
