@@ -14,6 +14,11 @@ invariant_of-self-2 c =
       same = key_behind (λ k. k.items) c.args.name.now c.self.inside.numbers.keys c.insert.new.self.keys names
           c.in_ok-key.key c.self.invariant.same (c.in_ok-key.ensures.items ∙ c.as_slice.ensures.bytes) new
           c.in_ok-insert.ensures.keys ∙ sym behind;
-      few = omega (arith, ap length behind, length-append names (c.args.name.now ∷ []), ap length c.self.view_is,
-          c.requires.room);
+      few = omega (
+        arith,
+        ap length behind,
+        length-append names (c.args.name.now ∷ []),
+        ap length c.self.view_is,
+        c.requires.room,
+      );
     }
