@@ -1,5 +1,5 @@
 //! A report, written as its entries come.
-ghost use Rattle.std.specs.Prelude.{◌≡◌, ◌+◌, ◌≤◌, ◌++◌, ◌∷◌, [], List as Many, codes, length, is_some, IfSome, IfOk, OnOk, ◌^◌, ◌<◌, vec_len, vec_capacity};
+ghost use Rattle.std.specs.Prelude.{◌≡◌, ◌+◌, ◌≤◌, ◌++◌, ◌∷◌, [], List as Many, codes, length, is_some, IfSome, IfOk, OnErr, OnOk, ◌^◌, ◌<◌, vec_len, vec_capacity};
 ghost use Rattle.std.specs.List.{All};
 ghost use Rattle.txn_set.specs.Set.{Set};
 ghost use Rattle.step_journal.specs.declared.entry.Entry.{Entry as Noted};
@@ -86,7 +86,7 @@ fn add_closing(
 
 impl ReportWriter {
     /// Begins the report of a set: adds its declarations, ceilings and, where it is admitted, bounds, and takes memory for
-    /// the rows of so many planned jobs.
+    /// the rows of so many planned jobs. After Err the text is as it was.
     pub fn begin(
         alloc: Global,
         names: &Names,
@@ -98,10 +98,13 @@ impl ReportWriter {
         requires names { NamesSet names.now set.now }
         requires same { IfSome bounds (λ b. b.now ≡ set.now) }
         ensures text { OnOk result (into.new.items ≡ into.old.items ++ opening_text names.now set.now (is_some bounds.entry)) }
+        ensures unchanged { OnErr result (into.new.items ≡ into.old.items) }
         ensures rows { IfOk result (λ w. (w.room ≡ jobs) × Follows set.now w []) }
     {
-        add_opening(into, names, set, bounds)?;
+        let mut opening = Vec::new(alloc);
+        add_opening(&mut opening, names, set, bounds)?;
         let rows = JobRows::with_room(alloc, set, jobs)?;
+        into.append(&mut opening)?;
         Ok(ReportWriter { rows })
     }
 
@@ -127,13 +130,17 @@ impl ReportWriter {
         self.rows.places_left()
     }
 
-    /// Ends the report: adds the jobs, the last items and the last line.
+    /// Ends the report: adds the jobs, the last items and the last line. After Err the text is as it was.
     pub fn finish(self, names: &Names, items: &Items, into: &mut Vec<u8>) -> Result<(), OutOfMemory>
         requires { Closes names.now self items.now }
-        ensures { (set : Set) (story : Many Noted) → Follows set self story → OnOk result (into.new.items ≡ into.old.items ++ closing_text names.now (job_rows set story) items.now) }
+        ensures text { (set : Set) (story : Many Noted) → Follows set self story → OnOk result (into.new.items ≡ into.old.items ++ closing_text names.now (job_rows set story) items.now) }
+        ensures unchanged { OnErr result (into.new.items ≡ into.old.items) }
     {
         let ReportWriter { rows } = self;
         let rows = rows.into_rows();
-        add_closing(into, names, rows.as_slice(), items.as_slice())
+        let mut closing = Vec::new(*into.allocator());
+        add_closing(&mut closing, names, rows.as_slice(), items.as_slice())?;
+        into.append(&mut closing)?;
+        Ok(())
     }
 }
