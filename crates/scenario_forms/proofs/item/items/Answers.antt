@@ -1,7 +1,7 @@
-use Rattle.std.proofs.Common.{rules, ◌≡◌, ℕ, [], ◌∷◌, length, arith, length-append, ap, ◌∙◌}
+use Rattle.std.proofs.Common.{rules, ◌≡◌, [], ◌∷◌, length, arith, length-append, ap, ◌∙◌}
 use Rattle.std.proofs.lemmas.Result.{err_from_is_err_and}
 use Rattle.name_table.specs.Places.{place_in}
-use Rattle.scenario_forms.specs.Items.{item_at, item_step}
+use Rattle.scenario_forms.specs.Items.{item_step}
 use Rattle.scenario_forms.proofs.Folds.{goes_on_to, ends, is_done}
 use Rattle.scenario_forms.proofs.FreshNames.{HasFresh, holds_ok, item_fresh}
 use Rattle.scenario_forms.proofs.ItemSteps.{table, same_table, item_steps, item_fails}
