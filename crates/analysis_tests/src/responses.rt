@@ -1,77 +1,53 @@
-//! Responses of worked rows, and the first row without one.
-ghost use Rattle.std.specs.Prelude.{◌≡◌, length};
+//! The responses of worked rows.
+ghost use Rattle.std.specs.Prelude.{IfOk, IfSome};
+ghost use Rattle.std.specs.List.{All};
+ghost use Rattle.response_test.specs.Response.{HasGoodRanges};
 
-use response_test::{RespRow, ResponseError, responses};
-use rt_base::Tick;
+use crate::words::number;
+use response_test::{RespRow, responses};
+use rt_base::OutOfMemory;
+use std::alloc::Global;
 
-fn row(steps: u64, blocking: u64, period: Tick) -> RespRow
-    ensures { result ≡ record { steps = steps; blocking = blocking; period = period; deadline = period } }
+// A row of these steps, blocking and period, which is its deadline. None where one is out of range.
+fn row(text: &str) -> Option<RespRow>
+    ensures { IfSome result HasGoodRanges }
 {
-    RespRow {
+    let (steps, rest) = text.split_once(' ')?;
+    let (blocking, period) = rest.split_once(' ')?;
+    let (steps, blocking, period) = (number(steps)?, number(blocking)?, number(period)?);
+    if steps < 1 || steps > 10_000 || blocking > 9_999 || period < 1 || period > 1 << 30 {
+        return None;
+    }
+    Some(RespRow {
         steps,
         blocking,
         period,
         deadline: period,
+    })
+}
+
+// The rows between commas; one that is out of range counts as want of memory.
+fn rows(alloc: Global, text: &str) -> Result<Vec<RespRow>, OutOfMemory>
+    ensures { IfOk result (λ rows. All HasGoodRanges rows.items) }
+{
+    let mut rows = Vec::new(alloc);
+    for words in text.split(',') {
+        match row(words) {
+            Some(row) => rows.push(row)?,
+            None => return Err(OutOfMemory),
+        }
     }
+    Ok(rows)
 }
 
-// A plant of three transactions, and the same with a quiet step and with three steps quiet in the lowest one.
-#[test]
-fn responses_of_three(rt: HostRuntime) -> Result<(), ResponseError> {
-    let tight = responses(rt.alloc(), &[row(2, 5, 10), row(4, 5, 20), row(6, 0, 40)])?;
-    assert_eq!(rt; tight.as_slice(), [7, 13, 14].as_slice());
-    let quiet = responses(rt.alloc(), &[row(2, 3, 10), row(4, 2, 20), row(6, 0, 40)])?;
-    assert_eq!(rt; quiet.as_slice(), [5, 8, 14].as_slice());
-    Ok(())
-}
-
-// A deadline is met by a response that is as long, and is not met by one tick more; of two rows without a response the
-// first is named, and a row that is last is found.
-#[test]
-fn rows_without_one(rt: HostRuntime) -> Result<(), ResponseError> {
-    let full = responses(rt.alloc(), &[row(4, 0, 4)])?;
-    assert_eq!(rt; full.as_slice(), [4].as_slice());
-    let alone = responses(rt.alloc(), &[row(5, 0, 4)]);
-    assert_eq!(rt;
-        alone.err(),
-        Some(ResponseError::Unschedulable { row: 0, demand: 5 })
-    );
-    let both = responses(rt.alloc(), &[row(3, 8, 10), row(12, 8, 20), row(9, 0, 40)]);
-    assert_eq!(rt;
-        both.err(),
-        Some(ResponseError::Unschedulable { row: 0, demand: 11 })
-    );
-    let last = responses(rt.alloc(), &[row(2, 5, 10), row(4, 5, 20), row(26, 0, 40)]);
-    assert_eq!(rt;
-        last.err(),
-        Some(ResponseError::Unschedulable { row: 2, demand: 42 })
-    );
-    Ok(())
-}
-
-// Rows that use all of the processor or nearly all, above one whose least window is long or is past its deadline: a
-// few windows are tried, not one for each few ticks.
-#[test]
-fn rows_of_full_use(rt: HostRuntime) -> Result<(), ResponseError> {
-    let over = responses(rt.alloc(), &[row(2, 0, 2), row(5, 0, 1073741824)]);
-    assert_eq!(rt;
-        over.err(),
-        Some(ResponseError::Unschedulable {
-            row: 1,
-            demand: 1073741829
-        })
-    );
-    let long = responses(
-        rt.alloc(),
-        &[
-            row(1, 0, 2),
-            row(1, 0, 3),
-            row(1, 0, 7),
-            row(1, 0, 43),
-            row(1, 0, 1807),
-            row(1, 0, 1073741824),
-        ],
-    )?;
-    assert_eq!(rt; long.as_slice(), [1, 2, 6, 42, 1806, 3263442].as_slice());
-    Ok(())
+/// The responses of the rows between commas, 64 at most.
+pub fn responses_text(alloc: Global, text: &str) -> Option<String> {
+    let Ok(rows) = rows(alloc, text) else {
+        return None;
+    };
+    if rows.len() > 64 {
+        return None;
+    }
+    let found = responses(alloc, rows.as_slice());
+    format!(in alloc; "{found:?}").ok()
 }

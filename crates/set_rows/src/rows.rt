@@ -1,14 +1,10 @@
-//! Sets from tables of plain rows.
-ghost use Rattle.std.specs.Prelude.{◌≡◌, ◌&&◌, nat_lt};
-ghost use Rattle.std.specs.List.{list_all};
-
+//! Declarations as plain rows.
+use crate::range::compile_in_range;
 use item_model::{ItemDecl, ItemKind};
 use rt_base::{ItemId, List, OutOfMemory, Prio, Tick, TogetherDecl};
-use set_admission::AdmittedSet;
 use std::alloc::Global;
-use txn_compiler::{CompileError, compile};
+use txn_compiler::CompileError;
 use txn_set::{CompiledSet, TxnDecl};
-use update_rates::{RateError, plan_rates};
 
 /// A state item of the value 0.
 pub const STATE: ItemDecl = ItemDecl {
@@ -62,41 +58,8 @@ pub struct TogetherRow<'a> {
     pub within: Tick,
 }
 
-fn are_below(count: usize, items: &[ItemId]) -> bool
-    ensures { result ≡ list_all (λ i. nat_lt i.0 count) items.now }
-{
-    for item in items {
-        if item.0 as usize >= count {
-            return false;
-        }
-    }
-    true
-}
-
-fn txns_below(count: usize, txns: &[TxnDecl]) -> bool
-    ensures { let inside = list_all (λ i. nat_lt i.0 count) in
-        result ≡ list_all (λ t. inside t.reads && inside t.writes) txns.now }
-{
-    for txn in txns {
-        if !(are_below(count, txn.reads.as_slice()) && are_below(count, txn.writes.as_slice())) {
-            return false;
-        }
-    }
-    true
-}
-
-fn groups_below(count: usize, groups: &[TogetherDecl]) -> bool
-    ensures { result ≡ list_all (λ g. list_all (λ i. nat_lt i.0 count) g.items) groups.now }
-{
-    for group in groups {
-        if !are_below(count, group.items.as_slice()) {
-            return false;
-        }
-    }
-    true
-}
-
-fn list(alloc: Global, places: &[u32]) -> Result<List<ItemId>, OutOfMemory> {
+/// The items at these places.
+pub fn list(alloc: Global, places: &[u32]) -> Result<List<ItemId>, OutOfMemory> {
     let mut items = Vec::new(alloc);
     for place in places {
         items.push(ItemId(*place))?;
@@ -104,7 +67,7 @@ fn list(alloc: Global, places: &[u32]) -> Result<List<ItemId>, OutOfMemory> {
     Ok(List::of(items))
 }
 
-fn declared(alloc: Global, row: &TxnRow) -> Result<TxnDecl, OutOfMemory> {
+fn txn_of(alloc: Global, row: &TxnRow) -> Result<TxnDecl, OutOfMemory> {
     let reads = list(alloc, row.reads)?;
     let writes = list(alloc, row.writes)?;
     Ok(TxnDecl {
@@ -119,10 +82,11 @@ fn declared(alloc: Global, row: &TxnRow) -> Result<TxnDecl, OutOfMemory> {
     })
 }
 
-fn txns_of(alloc: Global, rows: &[TxnRow]) -> Result<Vec<TxnDecl>, OutOfMemory> {
+/// The transactions of these rows.
+pub fn txns_of(alloc: Global, rows: &[TxnRow]) -> Result<Vec<TxnDecl>, OutOfMemory> {
     let mut txns = Vec::new(alloc);
     for row in rows {
-        txns.push(declared(alloc, row)?)?;
+        txns.push(txn_of(alloc, row)?)?;
     }
     Ok(txns)
 }
@@ -146,43 +110,6 @@ pub fn judged(
     Ok(compile_in_range(alloc, items, txns, together))
 }
 
-fn compile_in_range(
-    alloc: Global,
-    items: Vec<ItemDecl>,
-    txns: Vec<TxnDecl>,
-    together: Vec<TogetherDecl>,
-) -> Option<Result<CompiledSet, CompileError>> {
-    if txns_below(items.len(), &txns) && groups_below(items.len(), &together) {
-        Some(compile(alloc, items, txns, together))
-    } else {
-        None
-    }
-}
-
-/// What planning the rates of these rows gives. None where an item is out of range.
-pub fn planned(
-    alloc: Global,
-    items: &[ItemDecl],
-    rows: &[TxnRow],
-) -> Result<Option<Result<AdmittedSet, RateError>>, OutOfMemory> {
-    let items = Vec::from_slice(alloc, items)?;
-    let txns = txns_of(alloc, rows)?;
-    Ok(plan_in_range(alloc, items, txns, Vec::new(alloc)))
-}
-
-fn plan_in_range(
-    alloc: Global,
-    items: Vec<ItemDecl>,
-    txns: Vec<TxnDecl>,
-    together: Vec<TogetherDecl>,
-) -> Option<Result<AdmittedSet, RateError>> {
-    if txns_below(items.len(), &txns) && groups_below(items.len(), &together) {
-        Some(plan_rates(alloc, items, txns, together))
-    } else {
-        None
-    }
-}
-
 /// The compiled set of these rows. None where they do not compile.
 pub fn compiled(
     alloc: Global,
@@ -190,8 +117,16 @@ pub fn compiled(
     rows: &[TxnRow],
     groups: &[TogetherRow],
 ) -> Result<Option<CompiledSet>, OutOfMemory> {
-    match judged(alloc, items, rows, groups)? {
+    unless_refused(judged(alloc, items, rows, groups)?)
+}
+
+/// The set. None where it is refused or out of range.
+pub fn unless_refused(
+    judged: Option<Result<CompiledSet, CompileError>>,
+) -> Result<Option<CompiledSet>, OutOfMemory> {
+    match judged {
         Some(Ok(set)) => Ok(Some(set)),
+        Some(Err(CompileError::OutOfMemory)) => Err(OutOfMemory),
         _ => Ok(None),
     }
 }
