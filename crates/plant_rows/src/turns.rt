@@ -1,28 +1,34 @@
 //! What each seat does on a thread of its own: a sampler, a controller and a logger run their scripts, and the operator
 //! drains. Each makes so many tries at most, so that it ends whatever the others do.
-ghost use Rattle.std.specs.Prelude.{◌≡◌, ◌<◌, ◌≤◌, ◌+◌, Some, None, length, vec_len, OnOk, IfOk, IfSome};
-ghost use Rattle.std.specs.List.{All};
-ghost use Rattle.shared_plant.specs.Seats.{IsOf, AreOf};
+ghost use Rattle.std.specs.Prelude.{◌≡◌, Some, None, IfSome};
+ghost use Rattle.shared_plant.specs.Seats.{IsOf};
 ghost use Rattle.rt_base.specs.declared.ids.TxId.{TxId as Transaction};
 
-use crate::tests::{CONTROL, SAMPLE, TEMP, drained, put, replied};
-use board::{IdleReply, StepReply};
+use crate::calls::{drained, idled, plan_each, replied};
+use crate::house::{House, PlainSeat, closed};
+use board::StepReply;
 use plain_core::PlainCore;
-use rt_base::{End, ItemId, JobId, Op, OutOfMemory, Outcome, Tick, TxId, Value};
-use shared_plant::{Plant, Seat, Tried};
+use rt_base::{End, ItemId, JobId, Op, Outcome, Tick, TxId, Value};
+use shared_plant::Plant;
+use std::alloc::Global;
 use std::thread;
-use std::thread::Threads;
+use std::thread::{Threads, join};
 use step_journal::Entry;
+
+const TEMP: ItemId = ItemId(0);
 
 const VALVE: ItemId = ItemId(1);
 
 const TRIES: u32 = 100_000;
 
+/// The releases of the sampler, the controller and the logger.
+pub const PLANS: [(u32, Tick); 7] = [(0, 0), (0, 10), (0, 20), (0, 30), (1, 0), (1, 20), (2, 0)];
+
 /// A seat with what its caller keeps: the entries that its calls appended, with 0 for the tick, or those that it drained.
 #[derive(Drop)]
-pub struct Caller {
-    pub seat: Seat<PlainCore>,
-    pub kept: Vec<Entry>,
+struct Caller {
+    seat: PlainSeat,
+    kept: Vec<Entry>,
 }
 
 /// How far the caller of a transaction is: the job, its next operation, and the value that it read last.
@@ -35,58 +41,32 @@ struct Progress {
 
 impl Progress {
     fn after(self, outcome: Outcome, over: Option<End>) -> Progress {
-        let read = match outcome {
-            Outcome::Got { value, stamp: _ } => value,
-            _ => self.read,
-        };
-        if over.is_some() {
-            Progress {
-                serial: self.serial.saturating_add(1),
-                at: 0,
-                read,
-            }
-        } else {
-            Progress {
-                serial: self.serial,
-                at: self.at.saturating_add(1),
-                read,
-            }
+        let mut next = self;
+        if let Outcome::Got { value, stamp: _ } = outcome {
+            next.read = value;
         }
+        if over.is_some() {
+            next.serial = next.serial.saturating_add(1);
+            next.at = 0;
+        } else {
+            next.at = next.at.saturating_add(1);
+        }
+        next
     }
 
     // The next operation of a transaction's script.
     fn op(self, tx: TxId) -> Op {
-        let sampled = Value::from(self.serial).saturating_mul(2).saturating_add(5);
-        let opened = self.read.saturating_add(100);
-        let ops = if tx == SAMPLE {
-            [
-                Op::Write(TEMP, sampled),
-                Op::Commit,
-                Op::Commit,
-                Op::Commit,
-                Op::Commit,
-            ]
-        } else if tx == CONTROL {
-            [
-                Op::Read(TEMP),
-                Op::Compute,
-                Op::Write(VALVE, opened),
-                Op::Commit,
-                Op::Commit,
-            ]
-        } else {
-            [
-                Op::Read(TEMP),
-                Op::Read(VALVE),
-                Op::Compute,
-                Op::Compute,
-                Op::Compute,
-            ]
-        };
-        ops.as_slice()
-            .get(self.at as usize)
-            .copied()
-            .unwrap_or(Op::Commit)
+        match (tx.0, self.at) {
+            (0, 0) => {
+                let sampled = Value::from(self.serial).saturating_mul(2).saturating_add(5);
+                Op::Write(TEMP, sampled)
+            }
+            (1, 0) | (2, 0) => Op::Read(TEMP),
+            (2, 1) => Op::Read(VALVE),
+            (1, 2) => Op::Write(VALVE, self.read.saturating_add(100)),
+            (1, 1) | (2, 2..=4) => Op::Compute,
+            _ => Op::Commit,
+        }
     }
 }
 
@@ -96,14 +76,43 @@ fn note(kept: &mut Vec<Entry>, entry: Entry) {
     }
 }
 
-// To which tick the time went on, if this call did it.
-fn idled(plant: &Plant<PlainCore>, seat: &mut Seat<PlainCore>) -> Option<Tick>
-    requires { IsOf plant.now seat.old }
-    ensures { (seat.new.plant ≡ seat.old.plant) × (seat.new.tx ≡ seat.old.tx) }
-{
-    match plant.try_idle(seat) {
-        Tried::Said(IdleReply::Advanced { to }) => Some(to),
-        _ => None,
+// Keeps the entry that a reply tells of, and says how far the caller is then.
+fn noted(
+    kept: &mut Vec<Entry>,
+    job: JobId,
+    op: Op,
+    reply: Option<StepReply>,
+    now: Progress,
+) -> Progress {
+    let tick = 0;
+    match reply {
+        Some(StepReply::Done { outcome, over }) => {
+            note(
+                kept,
+                Entry::Step {
+                    job,
+                    op,
+                    outcome,
+                    over,
+                    tick,
+                },
+            );
+            now.after(outcome, over)
+        }
+        Some(StepReply::Blocked { by, ceiling }) => {
+            note(
+                kept,
+                Entry::Blocked {
+                    job,
+                    op,
+                    by,
+                    ceiling,
+                    tick,
+                },
+            );
+            now
+        }
+        _ => now,
     }
 }
 
@@ -117,44 +126,17 @@ fn try_once(plant: &Plant<PlainCore>, caller: &mut Caller, tx: TxId, now: Progre
         tx,
         serial: now.serial,
     };
-    match replied(plant, &mut caller.seat, now.serial, op) {
-        Some(StepReply::Done { outcome, over }) => {
-            note(
-                &mut caller.kept,
-                Entry::Step {
-                    job,
-                    op,
-                    outcome,
-                    over,
-                    tick: 0,
-                },
-            );
-            now.after(outcome, over)
-        }
-        Some(StepReply::Blocked { by, ceiling }) => {
-            note(
-                &mut caller.kept,
-                Entry::Blocked {
-                    job,
-                    op,
-                    by,
-                    ceiling,
-                    tick: 0,
-                },
-            );
-            now
-        }
-        Some(StepReply::NoJob { ended: _, last: _ }) => {
+    let reply = replied(plant, &mut caller.seat, now.serial, op);
+    match reply {
+        Some(StepReply::NoJob { .. }) => {
             if let Some(to) = idled(plant, &mut caller.seat) {
                 note(&mut caller.kept, Entry::Idle { from: 0, to });
             }
-            now
         }
-        _ => {
-            thread::yield_now();
-            now
-        }
+        Some(StepReply::Done { .. }) | Some(StepReply::Blocked { .. }) => {}
+        _ => thread::yield_now(),
     }
+    noted(&mut caller.kept, job, op, reply, now)
 }
 
 fn make_steps(plant: &Plant<PlainCore>, caller: &mut Caller, tx: TxId)
@@ -181,59 +163,92 @@ fn drain_often(plant: &Plant<PlainCore>, caller: &mut Caller)
     }
 }
 
-fn take_turns(plant: &Plant<PlainCore>, caller: &mut Caller)
-    requires { IsOf plant.now caller.old.seat }
-    ensures { (caller.new.seat.plant ≡ caller.old.seat.plant) × (caller.new.seat.tx ≡ caller.old.seat.tx) }
+// A caller that takes its turns.
+fn after_turns(plant: &Plant<PlainCore>, mut caller: Caller) -> Caller
+    requires { IsOf plant.now caller.seat }
+    ensures { (result.seat.plant ≡ caller.seat.plant) × (result.seat.tx ≡ caller.seat.tx) }
 {
     match caller.seat.tx() {
-        Some(tx) => make_steps(plant, caller, tx),
-        None => drain_often(plant, caller),
+        Some(tx) => make_steps(plant, &mut caller, tx),
+        None => drain_often(plant, &mut caller),
+    }
+    caller
+}
+
+// Two callers at once.
+fn two_turns<R: Threads>(rt: &R, plant: &Plant<PlainCore>, a: Caller, b: Caller) -> (Caller, Caller)
+    requires { IsOf plant.now a.seat × IsOf plant.now b.seat }
+    ensures a { (result.0.seat.plant ≡ a.seat.plant) × (result.0.seat.tx ≡ a.seat.tx) }
+    ensures b { (result.1.seat.plant ≡ b.seat.plant) × (result.1.seat.tx ≡ b.seat.tx) }
+{
+    join(
+        rt,
+        || -> Caller
+            requires { IsOf plant.now a.seat }
+            ensures { (result.seat.plant ≡ a.seat.plant) × (result.seat.tx ≡ a.seat.tx) }
+        { after_turns(plant, a) },
+        || -> Caller
+            requires { IsOf plant.now b.seat }
+            ensures { (result.seat.plant ≡ b.seat.plant) × (result.seat.tx ≡ b.seat.tx) }
+        { after_turns(plant, b) },
+    )
+}
+
+fn new_caller(alloc: Global, seat: PlainSeat) -> Option<Caller>
+    ensures { IfSome result (λ c. c.seat ≡ seat) }
+{
+    match Vec::with_capacity(alloc, 4096) {
+        Ok(kept) => Some(Caller { seat, kept }),
+        Err(_) => None,
     }
 }
 
-/// All callers at once, each on a thread.
-pub fn take_all_turns<R: Threads + Sync>(rt: &R, plant: &Plant<PlainCore>, callers: &mut [Caller])
-    requires { All (λ c. IsOf plant.now c.seat) callers.old }
-    ensures { All (λ c. IsOf plant.now c.seat) callers.new }
-{
-    thread::for_each_mut(
+/// What was drained and what the three callers kept, and the board that was left.
+#[derive(Drop)]
+pub struct Turned {
+    pub drained: Vec<Entry>,
+    pub kept: [Vec<Entry>; 3],
+    pub board: PlainCore,
+}
+
+/// Plans the releases, and lets all callers take their turns at once.
+pub fn take_turns<R: Threads + Sync>(rt: &R, alloc: Global, house: House) -> Option<Turned> {
+    let House {
+        plant,
+        mut operator,
+        sample,
+        control,
+        logger,
+    } = house;
+    if !plan_each(&plant, &mut operator, &PLANS) {
+        return None;
+    }
+    let (o, s) = (new_caller(alloc, operator)?, new_caller(alloc, sample)?);
+    let (c, l) = (new_caller(alloc, control)?, new_caller(alloc, logger)?);
+    let ((o, s), (c, l)) = join(
         rt,
-        callers,
-        4,
-        &|_, caller: &mut Caller|
-            requires { IsOf plant.now caller.old.seat }
-            ensures { IsOf plant.entry.now caller.new.seat }
-        { take_turns(plant, caller) },
+        || -> (Caller, Caller)
+            requires { IsOf plant o.seat × IsOf plant s.seat }
+            ensures o { (result.0.seat.plant ≡ o.seat.plant) × (result.0.seat.tx ≡ o.seat.tx) }
+            ensures s { (result.1.seat.plant ≡ s.seat.plant) × (result.1.seat.tx ≡ s.seat.tx) }
+        { two_turns(rt, &plant, o, s) },
+        || -> (Caller, Caller)
+            requires { IsOf plant c.seat × IsOf plant l.seat }
+            ensures c { (result.0.seat.plant ≡ c.seat.plant) × (result.0.seat.tx ≡ c.seat.tx) }
+            ensures l { (result.1.seat.plant ≡ l.seat.plant) × (result.1.seat.tx ≡ l.seat.tx) }
+        { two_turns(rt, &plant, c, l) },
     );
+    let house = House {
+        plant,
+        operator: o.seat,
+        sample: s.seat,
+        control: c.seat,
+        logger: l.seat,
+    };
+    let (_, _, board) = closed(alloc, house)?;
+    Some(Turned {
+        drained: o.kept,
+        kept: [s.kept, c.kept, l.kept],
+        board,
+    })
 }
-
-/// A further caller, with this seat.
-pub fn join_in(
-    plant: &Plant<PlainCore>,
-    callers: &mut Vec<Caller>,
-    seat: Seat<PlainCore>,
-    kept: Vec<Entry>,
-) -> Result<(), OutOfMemory>
-    requires { All (λ c. IsOf plant.now c.seat) callers.old.items × IsOf plant.now seat }
-    ensures { OnOk result (All (λ c. IsOf plant.now c.seat) callers.new.items × (vec_len callers.new ≡ vec_len callers.old + 1)) }
-{
-    let _plant = plant;
-    callers.push(Caller { seat, kept })?;
-    Ok(())
-}
-
-/// The last caller leaves: what it kept, and its seat goes to the end of a list.
-pub fn leave(
-    plant: &Plant<PlainCore>,
-    callers: &mut Vec<Caller>,
-    seats: &mut Vec<Seat<PlainCore>>,
-) -> Result<Vec<Entry>, OutOfMemory>
-    requires { All (λ c. IsOf plant.now c.seat) callers.old.items × (0 < vec_len callers.old) × AreOf plant.now seats.old.items }
-    ensures { IfOk result (λ _. All (λ c. IsOf plant.now c.seat) callers.new.items × (vec_len callers.new + 1 ≡ vec_len callers.old) × AreOf plant.now seats.new.items × (vec_len seats.new ≡ vec_len seats.old + 1)) }
-{
-    let Caller { seat, kept } = callers.pop().unwrap();
-    put(plant, seats, seat)?;
-    Ok(kept)
-}
-
-mod tests;

@@ -1,6 +1,6 @@
 use Rattle.std.proofs.Common.{ap}
 use Rattle.shared_plant.specs.Seats.{SeatFacts}
-use Rattle.plant_rows.proofs.tests.replied.Goals as goal
+use Rattle.plant_rows.proofs.calls.replied.Goals as goal
 
 pub returns-in-Said : goal.returns-in-Said
 returns-in-Said c =

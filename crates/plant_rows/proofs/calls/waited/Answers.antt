@@ -1,6 +1,6 @@
 use Rattle.std.proofs.Common.{ap, ◌∙◌}
 use Rattle.shared_plant.specs.Seats.{SeatFacts}
-use Rattle.plant_rows.proofs.tests.waited.Goals as goal
+use Rattle.plant_rows.proofs.calls.waited.Goals as goal
 
 pub returns : goal.returns
 returns g c =

@@ -1,7 +1,7 @@
 use Rattle.std.proofs.Common.{◌++◌, ap, ◌∙◌}
 use Rattle.std.specs.Option.{option_to_list}
 use Rattle.plant_rows.proofs.Freshness.{fresh_last}
-use Rattle.plant_rows.proofs.workers.fresh_seat.Goals as goal
+use Rattle.plant_rows.proofs.house.fresh_seat.Goals as goal
 
 pub returns-in-Some : goal.returns-in-Some
 returns-in-Some c =

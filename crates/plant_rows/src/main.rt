@@ -1,0 +1,229 @@
+//! Drives plants over a plain core as standard input says, and prints what was told: at all four seats by one thread, to two
+//! threads that plan, to a thread for each seat, and by runs of workers. Empty lines and lines that begin with `#` are
+//! passed over.
+#![tactic(auto)]
+
+mod calls;
+mod house;
+mod pairs;
+mod told;
+mod turns;
+mod workers;
+
+use board::Board;
+use calls::Ask;
+use house::{House, closed, new_house};
+use pairs::planned_by_two;
+use rt_base::End;
+use set_rows::{Told, declared, entry_of};
+use std::alloc::Global;
+use std::io;
+use std::sync::Wait;
+use std::thread::Threads;
+use step_journal::Entry;
+use told::{has_told, history_of, is_legal};
+use turns::{Turned, take_turns};
+use workers::{case_of, counts, ran};
+
+// The set, the plant of the last line that made one, and the entries that were drained or that an out took.
+#[derive(Drop)]
+struct Scene {
+    head: String,
+    told: Option<Told>,
+    house: Option<House>,
+    entries: Vec<Entry>,
+}
+
+// A line of a declaration; the mode line is the last of them.
+fn declare(alloc: Global, scene: &mut Scene, line: &str) -> Option<String> {
+    scene.head.push_str(line).ok()?;
+    scene.head.push_str("\n").ok()?;
+    if line.starts_with("mode") {
+        scene.told = Some(declared(alloc, scene.head.as_str())?);
+    }
+    Some(String::new(alloc))
+}
+
+// What is asked at a seat by an entry's line, by `peek` or by `front`; `wait` and a line tries a step until it is answered.
+fn ask_of(told: &Told, words: &str) -> Option<Ask> {
+    let (waits, line) = match words.strip_prefix("wait ") {
+        Some(line) => (true, line),
+        None => (false, words),
+    };
+    match words {
+        "peek" => Some(Ask::Peek),
+        "front" => Some(Ask::Front),
+        _ => match entry_of(&told.names, line)? {
+            Entry::Planned { tx, tick } => Some(Ask::Plan(tx, tick)),
+            Entry::Step { job, op, .. } if waits => Some(Ask::Wait(job.serial, op)),
+            Entry::Step { job, op, .. } => Some(Ask::Step(job.serial, op)),
+            _ => None,
+        },
+    }
+}
+
+fn asked<R: Wait>(
+    rt: &R,
+    alloc: Global,
+    scene: &mut Scene,
+    seat: &str,
+    words: &str,
+) -> Option<String> {
+    let ask = match &scene.told {
+        Some(told) => ask_of(told, words)?,
+        None => return None,
+    };
+    scene.house.as_mut()?.ask(rt, alloc, seat, ask)
+}
+
+// Drains so many entries at most.
+fn drain(alloc: Global, scene: &mut Scene, most: usize) -> Option<String> {
+    let mut into = Vec::with_capacity(alloc, 16).ok()?;
+    let count = scene.house.as_mut()?.drain(most, &mut into);
+    let entries = into.as_slice();
+    format!(in alloc; "{count:?} {entries:?}").ok()
+}
+
+fn close(alloc: Global, house: House) -> Option<String> {
+    let (have, need, board) = closed(alloc, house)?;
+    let (first, left) = (board.first(), board.entries().len());
+    format!(in alloc;
+        "{have} seats where {need} are needed; then {first} entries gone, {left} left"
+    ).ok()
+}
+
+// Whether in the history stands once what each seat was told that it had appended, and nothing else but the seven plans.
+fn told_once(alloc: Global, history: &[Entry], kept: [Vec<Entry>; 3]) -> Option<[bool; 4]> {
+    let [sampled, controlled, logged] = kept;
+    let sample = has_told(alloc, history, 0, sampled.as_slice())?;
+    let control = has_told(alloc, history, 1, controlled.as_slice())?;
+    let logger = has_told(alloc, history, 2, logged.as_slice())?;
+    let calls = sampled.len().saturating_add(controlled.len());
+    let all = calls.saturating_add(logged.len()).saturating_add(7) == history.len();
+    Some([sample, control, logger, all])
+}
+
+// Whether what was drained and what was kept is one legal history, whatever the schedule was.
+fn told_each(alloc: Global, told: &Told, turned: Turned) -> Option<String> {
+    let Turned {
+        drained,
+        kept,
+        board,
+    } = turned;
+    let all_drained = board.first() == drained.len() as u64;
+    let history = history_of(drained, &board)?;
+    let legal = is_legal(alloc, &told.set, history.as_slice())?;
+    let once = told_once(alloc, history.as_slice(), kept)?;
+    format!(in alloc; "drained {all_drained}, legal {legal}, told once {once:?}").ok()
+}
+
+// A run of so many workers with an out that takes so many entries.
+fn run<R: Threads + Wait + Sync>(
+    rt: &R,
+    alloc: Global,
+    scene: &mut Scene,
+    words: &str,
+) -> Option<String> {
+    let (number, rest) = words.split_once(' ')?;
+    let (most, name) = rest.split_once(' ')?;
+    let number = number.parse::<u32>().ok()?;
+    let case = case_of(alloc, name, most.parse::<usize>().ok()?).ok()?;
+    let Some(told) = &scene.told else {
+        return None;
+    };
+    let house = new_house(alloc, &told.set)?;
+    let Ok((answer, entries)) = ran(rt, alloc, house, number, case) else {
+        return None;
+    };
+    scene.entries = entries;
+    format!(in alloc; "{answer:?}").ok()
+}
+
+// What the entries of the last run are: how many, the one at a place, or what became of a transaction's jobs.
+fn seen(alloc: Global, entries: &[Entry], word: &str, rest: &str) -> Option<String> {
+    match word {
+        "count" => {
+            let count = entries.len();
+            format!(in alloc; "{count}").ok()
+        }
+        "entry" => {
+            let entry = entries.get(rest.parse::<usize>().ok()?);
+            format!(in alloc; "{entry:?}").ok()
+        }
+        "committed" => jobs(alloc, entries, rest, End::Committed),
+        "overrun" => jobs(alloc, entries, rest, End::Overrun),
+        "quit" => jobs(alloc, entries, rest, End::Quit),
+        _ => None,
+    }
+}
+
+fn jobs(alloc: Global, entries: &[Entry], tx: &str, end: End) -> Option<String> {
+    let (ends, plans) = counts(entries, tx.parse::<u32>().ok()?, end);
+    format!(in alloc; "{ends} of {plans}").ok()
+}
+
+// A new plant, and what becomes of it.
+fn with_house<R: Threads + Wait + Sync>(
+    rt: &R,
+    alloc: Global,
+    scene: &mut Scene,
+    word: &str,
+) -> Option<String> {
+    let Some(told) = &scene.told else {
+        return None;
+    };
+    let house = new_house(alloc, &told.set)?;
+    match word {
+        "pair" => {
+            let said = planned_by_two(rt, alloc, house)?;
+            format!(in alloc; "{said:?}").ok()
+        }
+        "turns" => told_each(alloc, told, take_turns(rt, alloc, house)?),
+        _ => {
+            scene.house = Some(house);
+            Some(String::new(alloc))
+        }
+    }
+}
+
+// Does what a line says. Some tells what is to be printed, if anything.
+fn follow<R: Threads + Wait + Sync>(
+    rt: &R,
+    alloc: Global,
+    scene: &mut Scene,
+    line: &str,
+) -> Option<String> {
+    let (word, rest) = line.split_once(' ').unwrap_or((line, ""));
+    match word {
+        "rtdb" | "item" | "txn" | "mode" => declare(alloc, scene, line),
+        "plant" | "pair" | "turns" => with_house(rt, alloc, scene, word),
+        "drain" => drain(alloc, scene, rest.parse::<usize>().ok()?),
+        "close" => close(alloc, scene.house.take()?),
+        "run" => run(rt, alloc, scene, rest),
+        "operator" | "sample" | "control" | "logger" => asked(rt, alloc, scene, word, rest),
+        _ => seen(alloc, scene.entries.as_slice(), word, rest),
+    }
+}
+
+fn main(rt: HostRuntime) -> io::Result<()> {
+    let alloc = rt.alloc();
+    let mut scene = Scene {
+        head: String::new(alloc),
+        told: None,
+        house: None,
+        entries: Vec::new(alloc),
+    };
+    for line in rt.lines(alloc) {
+        let line = line?;
+        let line = line.as_str();
+        if line.is_empty() || line.starts_with('#') {
+            continue;
+        }
+        match follow(&rt, alloc, &mut scene, line) {
+            Some(said) if said.is_empty() => {}
+            Some(said) => println!(rt; "{line}: {said}")?,
+            None => println!(rt; "{line}: not read")?,
+        }
+    }
+    Ok(())
+}
