@@ -1,5 +1,5 @@
 -- One piece that is put to an out over a journal.
-use Rattle.std.proofs.Common.{◌≡◌, ℕ, ◌+◌, ◌-◌, min, List, [], ◌++◌, take, drop, length, Option, None, Some, false, refl, sym, ap, subst, ◌∙◌, arith, length-drop, ◌↔◌}
+use Rattle.std.proofs.Common.{◌≡◌, ℕ, ◌+◌, ◌-◌, min, List, [], ◌++◌, take, drop, length, Option, None, Some, false, refl, sym, ap, subst, ◌∙◌, arith, length-append, length-drop, ◌↔◌}
 use Rattle.std.specs.Prelude.{is_some, IsSome}
 use Rattle.std.proofs.lemmas.List.{length-take}
 use Rattle.std.proofs.Math.Seq.{take-length}
@@ -11,9 +11,9 @@ use Rattle.durable_records.specs.Standing.{RecordsSeen}
 use Rattle.durable_journal.specs.Log.{StandsFor, GoesOn}
 use Rattle.journal_out.specs.declared.standing.Standing.{Standing}
 use Rattle.journal_out.specs.declared.standing.Standing.TheVariants.{Going, Faulted, Other}
-use Rattle.journal_out.specs.Compared.{Begins, Agree, IsFirstOther, with_rest}
+use Rattle.journal_out.specs.Compared.{Begins, Agree, IsFirstOther, IsOtherRecord, with_rest}
 use Rattle.journal_out.specs.Outs.{Begun, IsOf, IsGoing, IsOtherIn, TakenAt, LostAt}
-use Rattle.journal_out.proofs.Joined.{agree_of, agree_on, rest_on, legal_on, other_behind}
+use Rattle.journal_out.proofs.Joined.{other_on, agree_of, agree_on, rest_on, legal_on, other_behind}
 
 -- an out that lost nothing goes on
 pub goes : (standing : Standing) (there kept : List Entry) → LostAt standing there kept [] → standing ≡ Going
@@ -116,3 +116,12 @@ module _ {D : Type 0} (seen : D → Option (List ℕ)) (may_leave : D → List �
     room_is = of.room_is;
     tells_is = same ∙ of.tells_is;
   }
+
+-- the first other entry of a piece is that of each history that goes on with it
+pub other_record : (there kept piece rest : List Entry) (place number : ℕ) → IsOtherIn there kept piece place → number ≡ place + 1
+    → IsOtherRecord there (kept ++ piece ++ rest) number
+other_record there kept piece rest place number h is = record {
+  place = place;
+  first = other_on there (kept ++ piece) rest place (omega (arith, h.in_piece, length-append kept piece)) h.first;
+  is = is;
+}

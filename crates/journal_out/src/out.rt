@@ -81,8 +81,9 @@ impl<'a, D: Disk, T: Journaled> JournalOut<'a, D, T> {
     /// Of an out that has stopped: the number of the record that has another entry, entries counted from 1; None where it
     /// did not stop for that.
     pub fn stopped_at(&self) -> Option<u64>
-        ensures other { (piece : Many Noted) → LostAt self.now.standing self.now.there.items self.now.kept.items piece
-            → IfSome result (IsOtherRecord self.now.there.items (self.now.kept.items ++ piece)) }
+        // It is the first other one of each history that goes on with what was got and what was lost.
+        ensures other { (piece rest : Many Noted) → LostAt self.now.standing self.now.there.items self.now.kept.items piece
+            → IfSome result (IsOtherRecord self.now.there.items (self.now.kept.items ++ piece ++ rest)) }
         ensures fault { result ≡ None → other_stops self.now.standing ≡ 0 }
     {
         match self.standing {
