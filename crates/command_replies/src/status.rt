@@ -1,6 +1,6 @@
 //! How a call of the program ended.
 
-/// How a call of the program ended. The numbers are the exit statuses, from 0 in this order.
+/// How a call of the program ended. The numbers are the exit statuses: from 0 in this order, and 9 and 10 for a journal.
 #[derive(Clone, Copy, Debug, PartialEq, Eq)]
 pub enum Status {
     /// The input was read to its end, and the whole text was written.
@@ -19,4 +19,8 @@ pub enum Status {
     TooLong,
     /// The report is not legal, and the verdict's line was written.
     NotLegal,
+    /// The disk of a journal failed in this call. Nothing was written.
+    DiskFault = 9,
+    /// A record of a journal is bad, or not the run's, and the line that names it was written.
+    BadJournal = 10,
 }

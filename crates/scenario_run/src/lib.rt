@@ -2,12 +2,13 @@
 #![tactic(auto)]
 
 mod loading;
-mod prepared;
+mod making;
 mod run;
 mod stop;
 mod ticks;
 mod written;
 
 pub use loading::load;
+pub use making::{BOARD_ROOM, Bodies, prepared};
 pub use run::run_scenario;
 pub use stop::Stop;

@@ -7,7 +7,7 @@ ghost use Rattle.plant_run.specs.Runs.{own_at};
 ghost use Rattle.scenario_run.specs.Runs.{IsReady, functions_of, IsSummaryBy};
 ghost use Rattle.scenario_run.specs.Replies.{LoadReply};
 
-use crate::prepared::{BOARD_ROOM, Bodies, prepared};
+use crate::making::{BOARD_ROOM, Bodies, prepared};
 use board::Board;
 use command_replies::{Reply, compiled, written};
 use lock_core::Core;

@@ -12,19 +12,19 @@ use step_script::Script;
 use txn_set::CompiledSet;
 
 /// How many entries the board of a run keeps at most.
-pub(crate) const BOARD_ROOM: usize = 4_096;
+pub const BOARD_ROOM: usize = 4_096;
 
 /// Of each transaction its script, its fixed ticks, and how many jobs it plans itself.
 #[derive(Drop)]
-pub(crate) struct Bodies {
-    pub(crate) scripts: Vec<Script>,
-    pub(crate) ticks: Vec<List<Tick>>,
-    pub(crate) own: Vec<u32>,
+pub struct Bodies {
+    pub scripts: Vec<Script>,
+    pub ticks: Vec<List<Tick>>,
+    pub own: Vec<u32>,
 }
 
 impl Bodies {
     /// How many jobs there are, eager ones too.
-    pub(crate) fn jobs(&self) -> usize
+    pub fn jobs(&self) -> usize
         requires fixed { sum (map length self.now.ticks.items) ≤ 65536 }
         requires eager { sum self.now.own.items ≤ 65536 }
         ensures { result ≡ sum (map length self.now.ticks.items) + sum self.now.own.items }
@@ -34,7 +34,7 @@ impl Bodies {
 }
 
 /// The scripts, the fixed ticks of the releases, and the eager jobs.
-pub(crate) fn prepared(
+pub fn prepared(
     alloc: Global,
     set: &CompiledSet,
     scripts: List<Script>,

@@ -13,7 +13,7 @@ ghost use Rattle.plant_run.specs.Runs.{own_at};
 ghost use Rattle.scenario_run.specs.Runs.{IsReady, functions_of};
 ghost use Rattle.scenario_run.specs.Replies.{RunReply, RunText};
 
-use crate::prepared::{BOARD_ROOM, Bodies, prepared};
+use crate::making::{BOARD_ROOM, Bodies, prepared};
 use crate::stop::Stop;
 use crate::written::write_on;
 use admitted_core::AdmittedCore;

@@ -15,7 +15,7 @@ ghost use Rattle.scenario_run.specs.declared.stop.Stop.TheVariants as stops;
 ghost use Rattle.plant_run.specs.Runs.{own_at};
 ghost use Rattle.scenario_run.specs.Runs.{IsReady, functions_of};
 
-use crate::prepared::Bodies;
+use crate::making::Bodies;
 use crate::stop::Stop;
 use crate::ticks::none_own;
 use board::Board;

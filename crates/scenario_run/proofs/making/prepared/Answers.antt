@@ -1,7 +1,7 @@
 use Rattle.std.proofs.Common.{rules, ◌≡◌, map}
 use Rattle.scenario.specs.Releases.{fixed_ticks, eager_of}
 use Rattle.scenario_run.proofs.Ready.{ready}
-use Rattle.scenario_run.proofs.prepared.prepared.Goals as goal
+use Rattle.scenario_run.proofs.making.prepared.Goals as goal
 
 pub returns-clause-ready : goal.returns-clause-ready
 returns-clause-ready c =
