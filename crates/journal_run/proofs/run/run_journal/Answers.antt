@@ -1,0 +1,26 @@
+use Rattle.std.proofs.Common.{ℕ, List}
+use Rattle.scenario.specs.Shown.{Shown, shown}
+use Rattle.command_replies.specs.declared.reply.Reply.{Reply}
+use Rattle.command_replies.proofs.Replying.{taken}
+use Rattle.scenario_run.proofs.Summaries.{refused_by}
+use Rattle.journal_run.proofs.Begun.{journal_reply, if_ok_map}
+use Rattle.journal_run.proofs.run.run_journal.Goals as goal
+
+pub run_over-requires-clause-begun : goal.run_over-requires-clause-begun
+run_over-requires-clause-begun g c =
+    let s : Shown = shown c.args.scenario in
+    (s, c.in-Ok.ensures.begun s (taken _ _ _ c.in-Ok-Ok.field-0-is c.in-Ok-Ok.ensures.plan))
+
+pub returns-in-Ok-clause-reply : goal.returns-in-Ok-clause-reply
+returns-in-Ok-clause-reply g c =
+    let s : Shown = shown c.args.scenario in
+    let begun = c.in-Ok.ensures.begun s (taken _ _ _ c.in-Ok-Ok.field-0-is c.in-Ok-Ok.ensures.plan) in
+    if_ok_map c.run_over.result.0 (λ (r : Reply) h. journal_reply s (g.D.Disk.seen c.args.disk) r.status r.text.items begun.calm h) (c.run_over.ensures.reply s begun)
+
+pub returns-in-Ok-clause-holds : goal.returns-in-Ok-clause-holds
+returns-in-Ok-clause-holds g c =
+    let s : Shown = shown c.args.scenario in
+    c.run_over.ensures.holds s (c.in-Ok.ensures.begun s (taken _ _ _ c.in-Ok-Ok.field-0-is c.in-Ok-Ok.ensures.plan))
+
+pub returns-in-Ok-Err-clause-reply : goal.returns-in-Ok-Err-clause-reply
+returns-in-Ok-Err-clause-reply g c = (refused_by _ _ _ c.in-Ok-Err.field-0-is c.in-Ok-Err.ensures.refused).1 (g.D.Disk.seen c.args.disk)

@@ -1,0 +1,6 @@
+pub mod Found
+pub mod Ready
+pub mod Ran
+pub mod Replies
+pub mod Plans
+pub mod Refused

@@ -1,0 +1,21 @@
+-- What is answered where a journal is not opened.
+use Rattle.std.specs.Prelude.{◌≡◌, ℕ, List}
+use Rattle.step_journal.specs.declared.entry.Entry.{Entry}
+use Rattle.sim_history.specs.Sim.{Workload}
+use Rattle.durable_journal.specs.declared.log.LogError.{LogError}
+use Rattle.durable_journal.specs.declared.log.LogError.TheVariants.{DiskFault, BadRecord, Full, Stopped, OutOfMemory}
+use Rattle.command_replies.specs.declared.status.Status.TheVariants as statuses
+use Rattle.command_replies.specs.Replies.{Reply}
+use Rattle.journal_run.specs.Ran.{HasOther}
+use Rattle.journal_run.specs.Replies.{bad_line}
+
+-- the number of the record that is named: the one that was refused, or the first that is not the run's
+abbrev pub NamesRecord : Workload → LogError → ℕ → Type 0
+NamesRecord w DiskFault number = ⊥
+NamesRecord w (BadRecord refused) number = number ≡ refused
+NamesRecord w (Full room first) number = HasOther w first number
+NamesRecord w Stopped number = ⊥
+NamesRecord w OutOfMemory number = ⊥
+
+abbrev pub IsNamed : Workload → LogError → Reply
+IsNamed w error status text = (number : ℕ) × (status ≡ statuses.BadJournal) × (text ≡ bad_line number) × NamesRecord w error number

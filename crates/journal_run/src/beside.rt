@@ -1,0 +1,39 @@
+//! A run beside more entries than it has.
+ghost use Rattle.std.specs.Prelude.{◌≡◌, ◌≤◌, ◌<◌, ℕ, [], map, length, vec_capacity};
+ghost use Rattle.std.specs.Prelude.{List as Many};
+ghost use Rattle.step_journal.specs.declared.entry.Entry.{Entry as Noted};
+ghost use Rattle.sim_history.specs.Sim.{IsSim};
+ghost use Rattle.sim_run.specs.Workloads.{workload};
+ghost use Rattle.journal_run.specs.Ready.{CanRun};
+ghost use Rattle.journal_run.specs.Ran.{HasOther};
+
+use crate::runner::Runner;
+use board::Board;
+use entry_out::KeptEntries;
+use journal_out::first_other;
+use step_journal::Entry;
+use step_script::Body;
+
+/// The number of the first of these entries, counted from 1, that is not the run's, which has fewer. The workload is run
+/// once, and `kept` is a place for its entries.
+pub(crate) fn number_beside<B: Board, Y: Body>(
+    runner: &mut Runner<B, Y>,
+    kept: KeptEntries,
+    there: &[Entry],
+) -> u64
+    requires ready { CanRun (B.stands runner.old.board) (workload (B.set runner.old.board) (map Y.gives runner.old.bodies.items) runner.old.ticks.items) (length runner.old.bodies.items) (length runner.old.serials.items) (B.room runner.old.board) runner.old.spare.items (vec_capacity runner.old.spare) }
+    requires empty { kept.kept ≡ [] }
+    requires places { (history : Many Noted) → IsSim (workload (B.set runner.old.board) (map Y.gives runner.old.bodies.items) runner.old.ticks.items) history → length history ≤ kept.room }
+    requires more { (history : Many Noted) → IsSim (workload (B.set runner.old.board) (map Y.gives runner.old.bodies.items) runner.old.ticks.items) history → length history < length there.now }
+    ensures { HasOther (workload (B.set runner.old.board) (map Y.gives runner.old.bodies.items) runner.old.ticks.items) there.now result }
+{
+    let mut kept = kept;
+    let Ok(()) = runner.run(&mut kept) else {
+        unreachable!()
+    };
+    let Some(place) = first_other(there, kept.as_slice()) else {
+        unreachable!()
+    };
+    let _count = there.len();
+    (place as u64).saturating_add(1)
+}

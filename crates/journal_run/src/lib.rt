@@ -1,0 +1,15 @@
+//! The run of a scenario over a journal on a disk, and its report.
+#![tactic(auto)]
+
+mod beside;
+mod opening;
+mod over;
+mod plan;
+mod refusals;
+mod report;
+mod run;
+mod runner;
+mod stop;
+
+pub use run::run_journal;
+pub use stop::JournalStop;

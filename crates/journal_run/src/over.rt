@@ -1,0 +1,108 @@
+//! A run whose entries go to a log.
+ghost use Rattle.std.specs.Prelude.{◌≡◌, ◌≤◌, ◌+◌, ◌↔◌, ℕ, [], map, length, vec_capacity, false, is_some, IfOk, IfErr, IsSome, OnErr};
+ghost use Rattle.std.specs.Prelude.{List as Many};
+ghost use Rattle.io_edge.specs.Causes.{HasCause};
+ghost use Rattle.step_journal.specs.declared.entry.Entry.{Entry as Noted};
+ghost use Rattle.sim_history.specs.Sim.{IsSim};
+ghost use Rattle.sim_run.specs.Workloads.{workload};
+ghost use Rattle.rt_base.specs.Names.{AreNames};
+ghost use Rattle.report_lines.specs.Texts.{NamesSet};
+ghost use Rattle.durable_journal.specs.Log.{StandsFor};
+ghost use Rattle.journal_out.specs.declared.standing.Standing.TheVariants.{Going};
+ghost use Rattle.journal_out.specs.Outs.{IsGoing, other_stops};
+ghost use Rattle.journal_run.specs.Ready.{CanRun};
+ghost use Rattle.journal_run.specs.Ran.{HaltedBy, IsGot, IsHalted, IsKept};
+
+use crate::runner::Runner;
+use board::Board;
+use durable_disk::Disk;
+use durable_journal::Log;
+use entry_out::Stopped;
+use journal_out::{JournalOut, Journaled};
+use rt_base::Names;
+use std::marker::Brand;
+use step_journal::Entry;
+use step_script::Body;
+use txn_set::CompiledSet;
+
+/// Why a run over a log was not kept.
+#[derive(Clone, Copy, Debug, PartialEq, Eq)]
+pub(crate) enum Halt {
+    /// The record of this number, entries counted from 1, is not the run's.
+    Other { number: u64 },
+    /// A call of the disk failed, and was counted.
+    Fault,
+}
+
+// Runs a workload over an out that has taken nothing yet.
+fn run_out<B: Board, Y: Body, D: Disk, T: Journaled>(
+    runner: &mut Runner<B, Y>,
+    out: &mut JournalOut<D, T>,
+) -> Result<(), Stopped>
+    requires ready { CanRun (B.stands runner.old.board) (workload (B.set runner.old.board) (map Y.gives runner.old.bodies.items) runner.old.ticks.items) (length runner.old.bodies.items) (length runner.old.serials.items) (B.room runner.old.board) runner.old.spare.items (vec_capacity runner.old.spare) }
+    requires begun { T.begun ≡ record { names = out.old.names.now; set = B.set runner.old.board; there = out.old.there.items; room = out.old.room; tells = is_some (D.seen out.old.log.disk) } }
+    requires same { out.old.set.now ≡ B.set runner.old.board }
+    requires fresh { (out.old.standing ≡ Going) × (out.old.kept.items ≡ []) }
+    requires going { IsGoing D.seen D.may_leave out.old.names.now out.old.set.now out.old.log out.old.there.items [] }
+    requires places { (history : Many Noted) → IsSim (workload (B.set runner.old.board) (map Y.gives runner.old.bodies.items) runner.old.ticks.items) history → length history ≤ out.old.room }
+    ensures got { IfOk result (λ _. IsGot (workload (B.set runner.old.board) (map Y.gives runner.old.bodies.items) runner.old.ticks.items) (B.stands runner.new.board) D.seen D.may_leave out.old.names.now out.new.log out.new.there.items out.new.kept.items) }
+    ensures halted { OnErr result (IsHalted (workload (B.set runner.old.board) (map Y.gives runner.old.bodies.items) runner.old.ticks.items) out.new.standing out.new.there.items out.new.kept.items) }
+    ensures there { out.new.there.items ≡ out.old.there.items }
+    ensures tells { is_some (D.seen out.new.log.disk) ≡ is_some (D.seen out.old.log.disk) }
+    ensures cause { HasCause (D.faults out.old.log.disk) (D.faults out.new.log.disk + other_stops out.new.standing) result }
+    ensures set { B.set runner.new.board ≡ B.set runner.old.board }
+{
+    runner.run(out)
+}
+
+/// Runs a workload, once, over a log that stands for the entries that its disk has. The history, which the disk holds then,
+/// or why it was not kept. `kept` is a place for `room` entries. The disk is handed back.
+pub(crate) fn run_log<B: Board, Y: Body, D: Disk>(
+    runner: &mut Runner<B, Y>,
+    names: &Names,
+    set: &CompiledSet,
+    found: (Log<D>, Vec<Entry>),
+    kept: Vec<Entry>,
+    room: usize,
+) -> (Result<Vec<Entry>, Halt>, D)
+    requires ready { CanRun (B.stands runner.old.board) (workload (B.set runner.old.board) (map Y.gives runner.old.bodies.items) runner.old.ticks.items) (length runner.old.bodies.items) (length runner.old.serials.items) (B.room runner.old.board) runner.old.spare.items (vec_capacity runner.old.spare) }
+    requires same { set.now ≡ B.set runner.old.board }
+    requires names { AreNames names.now.items × AreNames names.now.txns }
+    requires one_each { NamesSet names.now set.now }
+    requires stands { StandsFor D.seen D.may_leave names.now set.now found.0 found.1.items }
+    requires goes { found.0.stopped ≡ false }
+    requires kept { (kept.items ≡ []) × (room ≤ vec_capacity kept) }
+    requires places { (history : Many Noted) → IsSim (workload (B.set runner.old.board) (map Y.gives runner.old.bodies.items) runner.old.ticks.items) history → length history ≤ room }
+    ensures kept { IfOk result.0 (λ es. IsKept (workload (B.set runner.old.board) (map Y.gives runner.old.bodies.items) runner.old.ticks.items) (B.stands runner.new.board) names.now (D.seen result.1) (D.may_leave result.1) found.1.items es.items) }
+    ensures halted { IfErr result.0 (HaltedBy (workload (B.set runner.old.board) (map Y.gives runner.old.bodies.items) runner.old.ticks.items) found.1.items (D.faults found.0.disk) (D.faults result.1)) }
+    ensures told { IsSome (D.seen found.0.disk) ↔ IsSome (D.seen result.1) }
+    ensures set { B.set runner.new.board ≡ B.set runner.old.board }
+{
+    let (log, there) = found;
+    let mut out: JournalOut<D, Brand> = JournalOut::new(names, set, log, there, kept, room);
+    let ran = run_out::<B, Y, D, Brand>(runner, &mut out);
+    let behind = out.left_over();
+    let at = out.stopped_at();
+    let JournalOut {
+        names: _,
+        set: _,
+        log,
+        there: _,
+        kept,
+        room: _,
+        standing: _,
+        of: _,
+    } = out;
+    log.after_crash();
+    let disk = log.into_disk();
+    match ran {
+        Ok(()) => match behind {
+            None => (Ok(kept), disk),
+            Some(number) => (Err(Halt::Other { number }), disk),
+        },
+        Err(_) => match at {
+            None => (Err(Halt::Fault), disk),
+            Some(number) => (Err(Halt::Other { number }), disk),
+        },
+    }
+}

@@ -1,0 +1,217 @@
+//! The run of a scenario over a journal.
+ghost use Rattle.std.specs.Prelude.{◌≡◌, ◌≤◌, ◌<◌, ◌↔◌, ℕ, [], map, length, true, vec_capacity, IfOk, IsSome, IsErrOf};
+ghost use Rattle.std.specs.Prelude.{List as Many};
+ghost use Rattle.io_edge.specs.Causes.{Rose};
+ghost use Rattle.step_journal.specs.declared.entry.Entry.{Entry as Noted};
+ghost use Rattle.step_journal.specs.History.{IsLegal};
+ghost use Rattle.step_script.specs.Scripts.{program_of, next_of};
+ghost use Rattle.scenario.specs.Shown.{Shown, shown};
+ghost use Rattle.scenario.specs.Scenarios.{IsScenario};
+ghost use Rattle.sim_history.specs.Sim.{IsSim};
+ghost use Rattle.sim_run.specs.Workloads.{workload};
+ghost use Rattle.job_rows.specs.Upkeep.{Follows, planned_jobs};
+ghost use Rattle.report_lines.specs.Texts.{NamesSet};
+ghost use Rattle.run_report.specs.Report.{opening_text, report_of};
+ghost use Rattle.lock_core.specs.Stands.{Stands};
+ghost use Rattle.durable_journal.specs.Opened.{IfFull};
+ghost use Rattle.journal_run.specs.Ready.{CanRun};
+ghost use Rattle.journal_run.specs.Plans.{IsPlanOf, IsBegunOf};
+ghost use Rattle.journal_run.specs.Replies.{JournalReply, Journaled, HoldsRun, bad_line};
+ghost use Rattle.journal_run.specs.Refused.{IsNamed};
+
+use crate::beside::number_beside;
+use crate::opening::opened;
+use crate::over::{Halt, run_log};
+use crate::plan::{Plan, planned};
+use crate::refusals::bad_record;
+use crate::report::ended_report;
+use crate::runner::Runner;
+use crate::stop::JournalStop;
+use admitted_core::AdmittedCore;
+use board::Board;
+use command_replies::{Reply, Status, written};
+use durable_disk::Disk;
+use durable_journal::LogError;
+use entry_out::KeptEntries;
+use rt_base::{Names, OutOfMemory};
+use run_report::ReportWriter;
+use scenario::Scenario;
+use scenario_run::{BOARD_ROOM, Bodies};
+use std::alloc::Global;
+use step_journal::Entry;
+use step_script::{Body, Script};
+use txn_set::CompiledSet;
+
+// What the run of a scenario has beside its board, bodies and ticks: the head of its report, and a place for its entries.
+#[derive(Drop)]
+struct Begun {
+    names: Names,
+    set: CompiledSet,
+    report: (ReportWriter, Vec<u8>),
+    kept: Vec<Entry>,
+    room: usize,
+}
+
+// All that a run needs, taken before it begins.
+fn equipped(alloc: Global, plan: Plan) -> Result<(Begun, Runner<AdmittedCore, Script>), OutOfMemory>
+    requires { (s : Shown) × IsPlanOf s plan.names plan.set plan.bodies.scripts.items plan.bodies.ticks.items plan.bodies.own.items plan.room }
+    ensures begun { (s : Shown) → IsPlanOf s plan.names plan.set plan.bodies.scripts.items plan.bodies.ticks.items plan.bodies.own.items plan.room
+        → IfOk result (λ r. IsBegunOf s (workload r.1.board.board.set (map (λ y. next_of (program_of y)) r.1.bodies.items) r.1.ticks.items) r.0.names r.0.set r.0.report.0 r.0.report.1.items r.0.kept.items (vec_capacity r.0.kept) r.0.room) }
+    ensures ready { IfOk result (λ r. CanRun (Stands r.1.board.board) (workload r.1.board.board.set (map (λ y. next_of (program_of y)) r.1.bodies.items) r.1.ticks.items) (length r.1.bodies.items) (length r.1.serials.items) r.1.board.board.journal.room r.1.spare.items (vec_capacity r.1.spare)) }
+{
+    let Plan {
+        names,
+        set,
+        bodies,
+        room,
+    } = plan;
+    let jobs = bodies.jobs();
+    let copy = set.set().copy(alloc)?;
+    let mut head = Vec::new(alloc);
+    let writer = ReportWriter::begin(alloc, &names, set.set(), Some(&set), jobs, &mut head)?;
+    let Bodies {
+        scripts,
+        ticks,
+        own: _,
+    } = bodies;
+    let serials = vec![in alloc; 0; scripts.len()]?;
+    let spare = Vec::with_capacity(alloc, BOARD_ROOM)?;
+    let kept = Vec::with_capacity(alloc, room)?;
+    let Ok(board) = AdmittedCore::new(alloc, set, BOARD_ROOM) else {
+        return Err(OutOfMemory);
+    };
+    let runner = Runner {
+        board,
+        bodies: scripts,
+        ticks,
+        serials,
+        spare,
+    };
+    let begun = Begun {
+        names,
+        set: copy,
+        report: (writer, head),
+        kept,
+        room,
+    };
+    Ok((begun, runner))
+}
+
+// The reply that names a bad record.
+fn bad(alloc: Global, number: u64) -> Result<Reply, JournalStop>
+    ensures reply { IfOk result (λ r. (r.status ≡ Status.BadJournal) × (r.text.items ≡ bad_line number)) }
+    ensures memory { IsErrOf result JournalStop.Disk → ⊥ }
+{
+    Ok(bad_record(alloc, number)?)
+}
+
+// The report of a run that the disk holds.
+fn reported<B: Board>(
+    board: B,
+    names: &Names,
+    set: &CompiledSet,
+    report: (ReportWriter, Vec<u8>),
+    history: &[Entry],
+) -> Result<Reply, JournalStop>
+    requires names { NamesSet names.now set.now }
+    requires rows { Follows set.now report.0 [] }
+    requires head { report.1.items ≡ opening_text names.now set.now true }
+    requires legal { IsLegal set.now history.now }
+    requires places { planned_jobs history.now ≤ report.0.room }
+    requires stood { B.stands board history.now }
+    requires same { B.set board ≡ set.now }
+    ensures reply { IfOk result (λ r. (r.status ≡ Status.Ok) × (r.text.items ≡ report_of names.now set.now true history.now)) }
+    ensures memory { IsErrOf result JournalStop.Disk → ⊥ }
+{
+    let (items, _) = board.into_parts();
+    Ok(written(ended_report(names, set, report, history, &items)?))
+}
+
+// What is answered where a journal is not opened: the reply names the record that was refused, or the first of those that
+// Full hands out that is not the run's.
+fn unopened<B: Board, Y: Body>(
+    alloc: Global,
+    runner: &mut Runner<B, Y>,
+    room: usize,
+    error: LogError,
+) -> Result<Reply, JournalStop>
+    requires ready { CanRun (B.stands runner.old.board) (workload (B.set runner.old.board) (map Y.gives runner.old.bodies.items) runner.old.ticks.items) (length runner.old.bodies.items) (length runner.old.serials.items) (B.room runner.old.board) runner.old.spare.items (vec_capacity runner.old.spare) }
+    requires places { (history : Many Noted) → IsSim (workload (B.set runner.old.board) (map Y.gives runner.old.bodies.items) runner.old.ticks.items) history → length history < room }
+    requires full { IfFull error (λ first. length first ≡ room) }
+    ensures reply { IfOk result (λ r. IsNamed (workload (B.set runner.old.board) (map Y.gives runner.old.bodies.items) runner.old.ticks.items) error r.status r.text.items) }
+    ensures fault { IsErrOf result JournalStop.Disk → error ≡ LogError.DiskFault }
+{
+    match error {
+        LogError::DiskFault => Err(JournalStop::Disk),
+        LogError::BadRecord { number } => bad(alloc, number),
+        LogError::Full { first, .. } => {
+            let kept = KeptEntries::with_room(alloc, room)?;
+            bad(alloc, number_beside(runner, kept, first.as_slice()))
+        }
+        LogError::Stopped | LogError::OutOfMemory => Err(JournalStop::Memory),
+    }
+}
+
+fn run_over<B: Board + Drop, Y: Body + Drop, D: Disk>(
+    alloc: Global,
+    begun: Begun,
+    runner: Runner<B, Y>,
+    disk: D,
+) -> (Result<Reply, JournalStop>, D)
+    requires ready { CanRun (B.stands runner.board) (workload (B.set runner.board) (map Y.gives runner.bodies.items) runner.ticks.items) (length runner.bodies.items) (length runner.serials.items) (B.room runner.board) runner.spare.items (vec_capacity runner.spare) }
+    requires begun { (s : Shown) × IsBegunOf s (workload (B.set runner.board) (map Y.gives runner.bodies.items) runner.ticks.items) begun.names begun.set begun.report.0 begun.report.1.items begun.kept.items (vec_capacity begun.kept) begun.room }
+    ensures reply { (s : Shown) → IsBegunOf s (workload (B.set runner.board) (map Y.gives runner.bodies.items) runner.ticks.items) begun.names begun.set begun.report.0 begun.report.1.items begun.kept.items (vec_capacity begun.kept) begun.room
+        → IfOk result.0 (λ r. Journaled s (D.seen disk) r.status r.text.items) }
+    ensures holds { (s : Shown) → IsBegunOf s (workload (B.set runner.board) (map Y.gives runner.bodies.items) runner.ticks.items) begun.names begun.set begun.report.0 begun.report.1.items begun.kept.items (vec_capacity begun.kept) begun.room
+        → IfOk result.0 (λ r. r.status ≡ Status.Ok → HoldsRun s (D.seen result.1) (D.may_leave result.1)) }
+    ensures fault { IsErrOf result.0 JournalStop.Disk → Rose (D.faults disk) (D.faults result.1) }
+    ensures told { IfOk result.0 (λ r. r.status ≡ Status.Ok → (IsSome (D.seen disk) ↔ IsSome (D.seen result.1))) }
+{
+    let Begun {
+        names,
+        set,
+        report,
+        kept,
+        room,
+    } = begun;
+    let mut runner = runner;
+    let found = match opened(alloc, disk, &names, &set, room) {
+        Ok(found) => found,
+        Err((disk, error)) => return (unopened(alloc, &mut runner, room, error), disk),
+    };
+    let (ran, disk) = run_log(&mut runner, &names, &set, found, kept, room);
+    match ran {
+        Ok(history) => {
+            let Runner { board, .. } = runner;
+            (reported(board, &names, &set, report, &history), disk)
+        }
+        Err(Halt::Other { number }) => (bad(alloc, number), disk),
+        Err(Halt::Fault) => (Err(JournalStop::Disk), disk),
+    }
+}
+
+/// Runs a scenario over the journal on a disk, which is made where the disk reads as empty. The scenario is compiled and
+/// admitted, and has to have no eager transaction. Each entry of the run is compared with the one that the disk has in its
+/// place, or added where there is none. The reply is the report of the run, which the disk holds then; the line of a
+/// refusal; or the line that names the first record that is not the run's. The disk is handed back. It always returns.
+pub fn run_journal<D: Disk>(
+    alloc: Global,
+    scenario: Scenario,
+    disk: D,
+) -> (Result<Reply, JournalStop>, D)
+    requires { IsScenario (shown scenario) }
+    ensures reply { IfOk result.0 (λ r. JournalReply (shown scenario) (D.seen disk) r.status r.text.items) }
+    ensures holds { IfOk result.0 (λ r. r.status ≡ Status.Ok → HoldsRun (shown scenario) (D.seen result.1) (D.may_leave result.1)) }
+    // The disk's fault is told only where it counted one.
+    ensures fault { IsErrOf result.0 JournalStop.Disk → Rose (D.faults disk) (D.faults result.1) }
+    ensures told { IfOk result.0 (λ r. r.status ≡ Status.Ok → (IsSome (D.seen disk) ↔ IsSome (D.seen result.1))) }
+{
+    match planned(alloc, scenario) {
+        Ok(Ok(plan)) => match equipped(alloc, plan) {
+            Ok((begun, runner)) => run_over(alloc, begun, runner, disk),
+            Err(_) => (Err(JournalStop::Memory), disk),
+        },
+        Ok(Err(reply)) => (Ok(reply), disk),
+        Err(_) => (Err(JournalStop::Memory), disk),
+    }
+}
