@@ -152,3 +152,5 @@ complete command old new taken taken' statuses.WriteFault R W a r w good no_r no
 complete command old new taken taken' statuses.OutOfMemory R W a r w good no_r no_w = inr refl
 complete command old new taken taken' statuses.TooLong R W a r w good no_r no_w = inl (good_ok command old new statuses.TooLong a.text good a.is)
 complete command old new taken taken' statuses.NotLegal R W a r w good no_r no_w = inl (good_ok command old new statuses.NotLegal a.text good a.is)
+complete command old new taken taken' statuses.DiskFault R W a r w good no_r no_w = inl (good_ok command old new statuses.DiskFault a.text good a.is)
+complete command old new taken taken' statuses.BadJournal R W a r w good no_r no_w = inl (good_ok command old new statuses.BadJournal a.text good a.is)

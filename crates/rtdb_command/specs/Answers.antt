@@ -101,6 +101,8 @@ AnswersBy command answer taken taken' statuses.WriteFault = CutShort answer take
 AnswersBy command answer taken taken' statuses.ReadFault = Keeps taken taken'
 AnswersBy command answer taken taken' statuses.OutOfMemory = RanOut command answer taken taken'
 AnswersBy command answer taken taken' statuses.NotLegal = Told answer taken taken' statuses.NotLegal
+AnswersBy command answer taken taken' statuses.DiskFault = Told answer taken taken' statuses.DiskFault
+AnswersBy command answer taken taken' statuses.BadJournal = Told answer taken taken' statuses.BadJournal
 
 -- what a command did to a source and a sink, and the status that it answered
 abbrev pub Answers : Option Command → Option (List ℕ) → Option (List ℕ) → Option (List ℕ) → Option (List ℕ) → Status → Type 0

@@ -42,6 +42,8 @@ is_ok statuses.WriteFault = false
 is_ok statuses.OutOfMemory = false
 is_ok statuses.TooLong = false
 is_ok statuses.NotLegal = false
+is_ok statuses.DiskFault = false
+is_ok statuses.BadJournal = false
 
 -- the picture of a legal report; of any other input the verdict's line
 abbrev pub DrawnReply : Bool → Wanted → List ℕ → Reply
@@ -101,6 +103,8 @@ AnswersBy answer taken taken' statuses.WriteFault = CutShort answer taken taken'
 AnswersBy answer taken taken' statuses.OutOfMemory = Keeps taken taken'
 AnswersBy answer taken taken' statuses.TooLong = Told answer taken taken' statuses.TooLong
 AnswersBy answer taken taken' statuses.NotLegal = Told answer taken taken' statuses.NotLegal
+AnswersBy answer taken taken' statuses.DiskFault = Told answer taken taken' statuses.DiskFault
+AnswersBy answer taken taken' statuses.BadJournal = Told answer taken taken' statuses.BadJournal
 
 -- what was done to a source and a sink, and the status that was answered
 abbrev pub Answers : Option Wanted → Option (List ℕ) → Option (List ℕ) → Option (List ℕ) → Option (List ℕ) → Status → Type 0

@@ -56,7 +56,7 @@ returns c =
     let lines : List ℕ = entries_text c.args.names.now c.args.entries.now in
     let rows = job_rows c.args.set.now c.args.entries.now in
     let follows = subst (Follows c.args.set.now c.loop-i.writer) (take_all c.loop-i.i c.args.entries.now c.loop-i-test.false) c.loop-i.invariant.follows in
-    c.in_ok-finish.ensures c.args.set.now c.args.entries.now follows
+    c.in_ok-finish.ensures.text c.args.set.now c.args.entries.now follows
     ∙ ap (λ (t : List ℕ). t ++ closing_text c.args.names.now rows c.args.items.now) (all_rows (whole_entry_line c.args.names.now) _ _ c.args.entries.now c.loop-i.i c.loop-i-test.false c.loop-i.invariant.so_far)
     ∙ ap (λ (i : List Stored). (opening ++ lines) ++ closing_text c.args.names.now rows i) c.requires.last
     ∙ append_assoc opening lines (closing_text c.args.names.now rows (state_of c.args.set.now c.args.entries.now).items)
