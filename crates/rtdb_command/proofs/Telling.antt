@@ -36,7 +36,7 @@ within : (goes : Reply) (limit : ℕ) (input : List ℕ) (status : Status) (text
 within goes limit input status text short h = subst (λ (b : Bool). InputReply goes b status text) (sym (le-ltb limit (length input) short)) h
 
 -- the reply to the scenario that was read is the answer
-from_read : (goes : Shown → Reply) (old new : Option (List ℕ)) (s : Shown) (status : Status) (text : List ℕ) → IsReadFrom old new s → goes s status text
+pub from_read : (goes : Shown → Reply) (old new : Option (List ℕ)) (s : Shown) (status : Status) (text : List ℕ) → IsReadFrom old new s → goes s status text
     → Judged (TakesAll scenario_limit old new) (AskedReply goes) status text
 from_read goes old new s status text r h = record {
   input = r.input;
@@ -90,7 +90,7 @@ read_ok goes input status text r short h =
     compiling_goes (goes r.scenario) r.scenario.names (compile_refusal (set_of r.scenario)) status text r.compiles
     (asked_goes (λ s. Compiling (goes s) s.names (compile_refusal (set_of s))) input r.scenario status text short r.read h)
 
-admitted_ok : (goes : Shown → Reply) (input : List ℕ) (status : Status) (text : List ℕ) (a : IsReadAdmitted input) → length input ≤ scenario_limit
+pub admitted_ok : (goes : Shown → Reply) (input : List ℕ) (status : Status) (text : List ℕ) (a : IsReadAdmitted input) → length input ≤ scenario_limit
     → AskedReply (λ s. Compiling (Admitting (goes s) s.names (refusal (set_of s))) s.names (compile_refusal (set_of s))) input status text → goes a.is_read.scenario status text
 admitted_ok goes input status text a short h =
     admitting_goes (goes a.is_read.scenario) a.is_read.scenario.names (refusal (set_of a.is_read.scenario)) status text a.admitted
@@ -117,7 +117,7 @@ all_taken limit told input (Some rest) short took =
     let fits : length input ≤ limit = omega (arith, short, ap (λ (l : List ℕ). length l) took.0, length-append input rest) in
     sym (append-nil input) ∙ (ap (λ (l : List ℕ). input ++ l) (sym (took.1 fits)) ∙ sym took.0)
 
-asked_of_all : (goes : Shown → Reply) (told : List ℕ) (new : Option (List ℕ)) (status : Status) (text : List ℕ) → length told ≤ scenario_limit
+pub asked_of_all : (goes : Shown → Reply) (told : List ℕ) (new : Option (List ℕ)) (status : Status) (text : List ℕ) → length told ≤ scenario_limit
     → Judged (TakesAll scenario_limit (Some told) new) (AskedReply goes) status text → AskedReply goes told status text
 asked_of_all goes told new status text short j = subst (λ (i : List ℕ). AskedReply goes i status text) (all_taken scenario_limit told j.input new short j.took) j.reply
 

@@ -62,7 +62,7 @@ abbrev pub generated_text : ℕ → List ℕ
 generated_text n = compact_text (canonical (generated_of n)) ++ codes "\n"
 
 abbrev pub usage_text : List ℕ
-usage_text = codes "usage: rtdb ceilings | admit | run [--trial] [--workers N] | replay | gen N | load N [--workers K] | rates | margin\n"
+usage_text = codes "usage: rtdb ceilings | admit | run [--trial] [--workers N] | replay | gen N | load N [--workers K] | rates | margin | journal PATH\n"
 
 -- The number of workers changes no reply.
 abbrev pub Replies : Option Command → List ℕ → Reply

@@ -1,8 +1,10 @@
 //! What a command answers: from words, a source of bytes and a sink to a status.
 #![tactic(auto)]
 
+mod journal;
 mod top;
 
 pub use command_replies::Status;
 pub use command_words::Word;
+pub use journal::{is_journal, rtdb_journal};
 pub use top::{rtdb, rtdb_plain};

@@ -32,7 +32,7 @@ use txn_threads::Gate;
 const SCENARIO_LIMIT: usize = 4_194_304;
 
 const USAGE: &[u8] =
-    b"usage: rtdb ceilings | admit | run [--trial] [--workers N] | replay | gen N | load N [--workers K] | rates | margin\n";
+    b"usage: rtdb ceilings | admit | run [--trial] [--workers N] | replay | gen N | load N [--workers K] | rates | margin | journal PATH\n";
 
 // The names that a text's forms declare, for the line of a refusal.
 fn names(alloc: Global, input: &[u8]) -> Result<Names, OutOfMemory>
@@ -91,7 +91,10 @@ fn judged(alloc: Global, input: &[u8]) -> Result<Result<Scenario, Reply>, OutOfM
 }
 
 // The scenario that is read, or the reply that says why there is none.
-fn scenario_from<S: Source>(alloc: Global, source: &mut S) -> Result<Result<Scenario, Reply>, Stop>
+pub(crate) fn scenario_from<S: Source>(
+    alloc: Global,
+    source: &mut S,
+) -> Result<Result<Scenario, Reply>, Stop>
     ensures scenario { IfOk result (λ r. IfOk r (λ s. IsReadFrom (S.left source.old) (S.left source.new) (shown s))) }
     ensures refused { IfOk result (λ r. IfErr r (λ p. IsRefusedFrom (S.left source.old) (S.left source.new) p.status p.text.items)) }
     ensures read { IsErrOf result Stop.Reading → Rose (S.faults source.old) (S.faults source.new) }
@@ -215,8 +218,9 @@ fn answer_plain<S: Source, K: Sink>(
     }
 }
 
-fn answer_no_command<K: Sink>(sink: &mut K) -> Status
+pub(crate) fn answer_no_command<K: Sink>(sink: &mut K) -> Status
     ensures answer { (left : Maybe (Many ℕ)) → Answers None left left (K.taken sink.old) (K.taken sink.new) result }
+    ensures which { (result ≡ Status.Usage) ⊎ (result ≡ Status.WriteFault) }
     ensures read { result ≡ Status.ReadFault → ⊥ }
     ensures write { result ≡ Status.WriteFault → Rose (K.faults sink.old) (K.faults sink.new) }
 {
