@@ -1,9 +1,11 @@
 //! The program: a real-time database for plant control, run from a scenario.
 #![tactic(auto)]
 
+use durable_disk::FileDisk;
 use io_edge::{StdSink, StdSource};
-use rtdb_command::{Status, Word, rtdb};
+use rtdb_command::{Status, Word, is_journal, rtdb, rtdb_journal};
 use std::alloc::Global;
+use std::convert::AsStr;
 use std::env;
 use std::env::Env;
 use std::process::ExitCode;
@@ -22,12 +24,34 @@ fn words<R: Env + Alloc<A = Global>>(rt: &R) -> Option<Vec<Word>> {
     Some(words)
 }
 
+// Whether the first word is `journal`.
+fn asks_for_journal(words: &[Word]) -> bool {
+    match words {
+        [first, ..] => first.as_slice() == b"journal".as_slice(),
+        [] => false,
+    }
+}
+
+// The path of the journal, where the words are `journal PATH`.
+fn path(words: &[Word]) -> Option<&str> {
+    match words {
+        [_, path] if is_journal(words) => Some(path.as_str()),
+        _ => None,
+    }
+}
+
 fn main(rt: HostRuntime) -> ExitCode {
     let Some(words) = words(&rt) else {
         return ExitCode::from(Status::OutOfMemory as u8);
     };
     let mut source = StdSource::new(rt.stdin());
     let mut sink = StdSink::new(rt.stdout());
-    let status = rtdb(&rt, rt.alloc(), &words, &mut source, &mut sink, &NoGate);
+    let status = if asks_for_journal(&words) {
+        let disk = FileDisk::open(&rt, path(&words));
+        let (status, _) = rtdb_journal(rt.alloc(), &words, &mut source, &mut sink, disk);
+        status
+    } else {
+        rtdb(&rt, rt.alloc(), &words, &mut source, &mut sink, &NoGate)
+    };
     ExitCode::from(status as u8)
 }
