@@ -1,0 +1,119 @@
+//! BASE, and its run over a journal.
+use durable_disk::MemDisk;
+use io_edge::{MemSink, MemSource};
+use rtdb_command::{Status, Word, rtdb_journal};
+use std::alloc::Global;
+
+/// How many bytes BASE's journal has: the header's record, 32 entries, and a closed gate.
+pub const BYTES: usize = 256 * 33 + 1;
+
+/// How many calls its first run makes: a read, six that make the journal, and four for each entry.
+pub const CALLS: u64 = 1 + 6 + 4 * 32;
+
+/// A scenario, and the report of its run.
+#[derive(Drop)]
+pub struct Base {
+    pub alloc: Global,
+    pub scenario: Vec<u8>,
+    pub report: Vec<u8>,
+}
+
+/// What a run came to.
+#[derive(Drop)]
+pub struct Ran {
+    pub status: Status,
+    pub text: Vec<u8>,
+    pub disk: MemDisk,
+}
+
+impl Ran {
+    /// Whether the whole report was written, and the disk has the whole journal.
+    pub fn is_whole(&self, base: &Base) -> bool {
+        self.status == Status::Ok && self.text == base.report && self.disk.bytes().len() == BYTES
+    }
+
+    /// Whether the disk's fault was told, and nothing was written.
+    pub fn is_fault(&self) -> bool {
+        self.status == Status::DiskFault && self.text.is_empty()
+    }
+}
+
+impl Base {
+    /// An empty disk; the calls of these numbers fail.
+    pub fn disk(&self, failing: &[u64]) -> Option<MemDisk> {
+        let failing = failing.to_vec(self.alloc).ok()?;
+        MemDisk::new(self.alloc, 20_000, 1_000, failing).ok()
+    }
+
+    /// What these words answer to a scenario over a disk.
+    pub fn answer(&self, words: &[&str], scenario: &[u8], disk: MemDisk) -> Option<Ran> {
+        let mut list = Vec::new(self.alloc);
+        for word in words {
+            list.push(Word::new(self.alloc, word).ok()?).ok()?;
+        }
+        let input = scenario.to_vec(self.alloc).ok()?;
+        let mut source = MemSource::new(input, Vec::new(self.alloc));
+        let mut sink = MemSink::new(self.alloc, 10_000, 1_000, Vec::new(self.alloc)).ok()?;
+        let (status, disk) = rtdb_journal(self.alloc, &list, &mut source, &mut sink, disk);
+        Some(Ran {
+            status,
+            text: sink.bytes().to_vec(self.alloc).ok()?,
+            disk,
+        })
+    }
+
+    /// A run of BASE over a disk.
+    pub fn run(&self, disk: MemDisk) -> Option<Ran> {
+        self.answer(&["journal", "base.journal"], &self.scenario, disk)
+    }
+
+    /// The disk after a whole run, with one byte of it changed.
+    pub fn changed(&self, at: usize, byte: u8) -> Option<MemDisk> {
+        let Ran { disk, .. } = self.run(self.disk(&[])?)?;
+        let mut bytes = disk.bytes().to_vec(self.alloc).ok()?;
+        if at < bytes.len() {
+            bytes[at] = byte;
+        }
+        self.holding(&bytes)
+    }
+
+    /// A disk that has these bytes and behind them the records of these lines.
+    pub fn with_lines(&self, bytes: &[u8], lines: &[String]) -> Option<MemDisk> {
+        let mut bytes = bytes.to_vec(self.alloc).ok()?;
+        for line in lines {
+            add_record(&mut bytes, line.as_str())?;
+        }
+        bytes.push(0).ok()?;
+        self.holding(&bytes)
+    }
+
+    /// A disk that reads as these bytes.
+    pub fn holding(&self, bytes: &[u8]) -> Option<MemDisk> {
+        let mut disk = self.disk(&[])?;
+        let mut at = 0;
+        for piece in bytes.chunks(512) {
+            write(&mut disk, at, piece)?;
+            at = at.saturating_add(512);
+        }
+        Some(disk)
+    }
+}
+
+// An open gate, the length of the text, the text and zeros.
+fn add_record(bytes: &mut Vec<u8>, text: &str) -> Option<()> {
+    let text = text.as_bytes();
+    if text.len() > 254 {
+        return None;
+    }
+    let mut record = [0; 256];
+    record[0] = 1;
+    record[1] = text.len() as u8;
+    record[2..2 + text.len()].copy_from_slice(text);
+    bytes.extend_from_slice(&record).ok()
+}
+
+fn write(disk: &mut MemDisk, at: u64, bytes: &[u8]) -> Option<()> {
+    use durable_disk::Disk;
+    disk.write_at(at, bytes).ok()?;
+    disk.sync().ok()
+}
