@@ -92,7 +92,7 @@ fn again(base: &Base) -> Option<bool> {
 // Each call behind those that make the journal fails in turn, and the crash leaves more or less of what was not synced.
 fn crash(base: &Base) -> Option<bool> {
     for call in 7..CALLS {
-        for kept in (0..9_000usize).step_by(2_047) {
+        for kept in (0..9_000usize).step_by(509) {
             let Ran {
                 status,
                 mut disk,
@@ -112,9 +112,9 @@ fn crash(base: &Base) -> Option<bool> {
 
 // Stopped within the third append, and then at each call of the second run, if that has so many.
 fn crash_twice(base: &Base) -> Option<bool> {
-    for first in [16u64, 18] {
+    for first in 15u64..19 {
         for second in first + 1..first + CALLS + 10 {
-            for kept in [769, 10_000] {
+            for kept in [0, 769, 1_024, 1_025, 10_000] {
                 let mut ran = base.run(base.disk(&[first, second])?)?;
                 for _ in 0..2 {
                     if ran.status == Status::DiskFault {
