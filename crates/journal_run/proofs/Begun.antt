@@ -98,7 +98,7 @@ module _ (s : Shown) (w : Workload) (names : Names) (set : Set) (rows : RowsSeen
   -- the text of a run
   pub text_of : (history : List Entry) (text : List ℕ) → IsSim w history → text ≡ report_of names set true history → IsRunText false s text
   text_of history text h is =
-      run_text false s text compiled b.calm.admits (record {
+      run_text false s text b.calm.is compiled b.calm.admits (record {
         history = history;
         run = sim_is_run (workload_of s) (own_of s) history none_own (sim_of history h);
         written = is ∙ (ap (λ (n : Names). report_of n set true history) b.names_are ∙ ap (λ (q : Set). report_of s.names q true history) b.set_is);

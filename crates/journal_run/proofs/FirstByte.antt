@@ -1,5 +1,5 @@
 -- A read of one byte at the beginning of a disk.
-use Rattle.std.proofs.Common.{◌≡◌, ℕ, ◌+◌, ◌≤◌, List, [], ◌∷◌, take, drop, length, Option, None, Some, Bool, true, false, refl, sym, ap, ◌∙◌, arith, ◌↔◌}
+use Rattle.std.proofs.Common.{◌≡◌, ℕ, ◌≤◌, List, [], ◌∷◌, take, drop, length, Option, None, Some, Bool, true, refl, ap, ◌∙◌, arith, ◌↔◌}
 use Rattle.std.specs.Prelude.{IfSome, IsTrue}
 use Rattle.std.proofs.lemmas.List.{length-take}
 use Rattle.durable_disk.specs.Device.{IsRead}

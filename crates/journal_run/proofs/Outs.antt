@@ -1,26 +1,25 @@
 -- A run whose entries go to an out over a journal.
-use Rattle.std.proofs.Common.{◌≡◌, ℕ, ◌+◌, ◌<◌, ◌≤◌, min, List, [], ◌++◌, take, drop, length, Option, None, Some, Result, Ok, Err, IfOk, OnErr, Bool, false, ◌⊎◌, inl, inr, refl, sym, ap, subst, ◌∙◌, arith, append_assoc, append-nil, length-append}
+use Rattle.std.proofs.Common.{◌≡◌, ℕ, ◌+◌, ◌<◌, ◌≤◌, List, [], ◌++◌, take, drop, length, Option, None, Some, Bool, false, inl, inr, refl, sym, ap, subst, ◌∙◌, arith, append_assoc, append-nil, length-append}
 use Rattle.std.specs.Prelude.{is_some, IfSome}
 use Rattle.std.proofs.lemmas.List.{take-append-drop, length-take}
 use Rattle.std.proofs.Math.ListN.{drop_of_length-le}
-use Rattle.io_edge.specs.Causes.{HasCause, Rose}
+use Rattle.io_edge.specs.Causes.{Rose}
 use Rattle.rt_base.specs.Names.{AreNames}
 use Rattle.rt_base.specs.declared.name.Names.{Names}
 use Rattle.txn_set.specs.Set.{Set}
 use Rattle.step_journal.specs.declared.entry.Entry.{Entry}
 use Rattle.step_journal.specs.History.{IsLegal}
-use Rattle.report_lines.specs.Texts.{NamesSet}
 use Rattle.report_out.proofs.Texts.{legal_front}
 use Rattle.sim_history.specs.Sim.{Workload, IsSim}
-use Rattle.sim_run.specs.Handed.{CanAppend, CanTake}
-use Rattle.sim_run.specs.Runs.{IsWhole, IsStopped}
+use Rattle.sim_run.specs.Handed.{CanTake}
+use Rattle.sim_run.specs.Runs.{IsStopped}
 use Rattle.durable_records.specs.Standing.{RecordsSeen, EachLeft}
 use Rattle.durable_journal.specs.Log.{StandsFor, OpensAs, IsLeft}
 use Rattle.journal_out.specs.declared.standing.Standing.{Standing}
 use Rattle.journal_out.specs.declared.standing.Standing.TheVariants.{Going}
-use Rattle.journal_out.specs.Compared.{Begins, Agree, IsFirstOther, IsOtherRecord, with_rest}
-use Rattle.journal_out.specs.Outs.{Begun, IsOf, IsGoing, TakenAt, LostAt, other_stops}
-use Rattle.journal_out.proofs.Putting.{goes, taken_at}
+use Rattle.journal_out.specs.Compared.{Begins, IsFirstOther, with_rest}
+use Rattle.journal_out.specs.Outs.{Begun, IsOf, IsGoing, TakenAt, LostAt}
+use Rattle.journal_out.proofs.Putting.{taken_at}
 use Rattle.journal_run.specs.Found.{Holds}
 use Rattle.journal_run.specs.Ran.{IsGot, IsHalted, IsKept, HasOther}
 

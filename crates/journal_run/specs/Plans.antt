@@ -1,5 +1,5 @@
 -- What is made of a scenario before its run over a journal.
-use Rattle.std.specs.Prelude.{◌≡◌, ℕ, ◌<◌, ◌≤◌, List, [], map, length, true, None}
+use Rattle.std.specs.Prelude.{◌≡◌, ℕ, ◌≤◌, List, [], true, None}
 use Rattle.txn_compiler.specs.Refusal.{compile_refusal}
 use Rattle.set_admission.specs.Admission.{refusal}
 use Rattle.rt_base.specs.declared.name.Names.{Names}
@@ -11,7 +11,7 @@ use Rattle.scenario.specs.Scenarios.{IsScenario}
 use Rattle.job_rows.specs.Upkeep.{RowsSeen, Follows, planned_jobs}
 use Rattle.run_report.specs.Report.{opening_text}
 use Rattle.workload_laws.specs.Runs.{workload_of}
-use Rattle.scenario_run.specs.Runs.{Declares, IsReady, functions_of}
+use Rattle.scenario_run.specs.Runs.{IsReady, functions_of}
 use Rattle.step_script.specs.declared.script.Script.{Script}
 use Rattle.sim_run.specs.Workloads.{workload}
 use Rattle.journal_run.specs.Replies.{first_eager}

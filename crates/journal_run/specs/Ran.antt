@@ -2,7 +2,6 @@
 use Rattle.std.specs.Prelude.{◌≡◌, ℕ, List, ◌++◌, Option}
 use Rattle.io_edge.specs.Causes.{Rose}
 use Rattle.rt_base.specs.declared.name.Names.{Names}
-use Rattle.txn_set.specs.Set.{Set}
 use Rattle.step_journal.specs.declared.entry.Entry.{Entry}
 use Rattle.sim_history.specs.Sim.{Workload, IsSim}
 use Rattle.durable_records.specs.Standing.{RecordsSeen}

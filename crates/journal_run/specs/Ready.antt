@@ -1,6 +1,5 @@
 -- What a run has before it begins.
-use Rattle.std.specs.Prelude.{◌≡◌, ℕ, ◌<◌, ◌≤◌, List, [], map, length, None}
-use Rattle.txn_set.specs.Set.{Set}
+use Rattle.std.specs.Prelude.{◌≡◌, ℕ, ◌<◌, ◌≤◌, List, [], length}
 use Rattle.step_journal.specs.declared.entry.Entry.{Entry}
 use Rattle.sim_history.specs.Sim.{Workload}
 use Rattle.sim_run.specs.Workloads.{AreAccepted, IsObedient}

@@ -1,6 +1,5 @@
 -- What is answered where a journal is not opened.
-use Rattle.std.specs.Prelude.{◌≡◌, ℕ, List}
-use Rattle.step_journal.specs.declared.entry.Entry.{Entry}
+use Rattle.std.specs.Prelude.{◌≡◌, ℕ}
 use Rattle.sim_history.specs.Sim.{Workload}
 use Rattle.durable_journal.specs.declared.log.LogError.{LogError}
 use Rattle.durable_journal.specs.declared.log.LogError.TheVariants.{DiskFault, BadRecord, Full, Stopped, OutOfMemory}

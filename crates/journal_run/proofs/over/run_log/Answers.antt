@@ -1,4 +1,4 @@
-use Rattle.std.proofs.Common.{◌≡◌, List, map, subst, ◌∙◌}
+use Rattle.std.proofs.Common.{List, map, subst, ◌∙◌}
 use Rattle.rt_base.specs.declared.name.Names.{Names}
 use Rattle.step_journal.specs.declared.entry.Entry.{Entry}
 use Rattle.sim_history.specs.Sim.{Workload}

@@ -1,12 +1,9 @@
-use Rattle.std.proofs.Common.{◌≡◌, ◌+◌, ◌≤◌, List, [], map, length, sym, ap, ◌∙◌, arith, ℕ}
+use Rattle.std.proofs.Common.{◌≡◌, [], map, sym, ap, ◌∙◌, arith}
 use Rattle.std.specs.Prelude.{is_some}
-use Rattle.rt_base.specs.declared.name.Names.{Names}
 use Rattle.txn_set.specs.Set.{Set}
-use Rattle.step_journal.specs.declared.entry.Entry.{Entry}
 use Rattle.sim_history.specs.Sim.{Workload}
 use Rattle.sim_run.specs.Workloads.{workload}
-use Rattle.journal_out.specs.Outs.{Begun, LostAt, IsOf}
-use Rattle.journal_out.proofs.Putting.{taken_at}
+use Rattle.journal_out.specs.Outs.{Begun}
 use Rattle.written_run.proofs.Handing.{on_err}
 use Rattle.journal_run.proofs.Outs.{Got, made, none_got, can_take, got_front}
 use Rattle.journal_run.proofs.over.run_out.Goals as goal

@@ -1,17 +1,15 @@
-use Rattle.std.proofs.Common.{rules, ◌≡◌, ◌+◌, ◌≤◌, ◌<◌, List, [], map, length, true, sym, ap, subst, ◌∙◌, arith, ℕ}
+use Rattle.std.proofs.Common.{rules, ◌≡◌, ◌+◌, List, [], map, length, true, sym, ap, subst, ◌∙◌, arith, ℕ}
 use Rattle.std.specs.List.{sum}
 use Rattle.txn_set.specs.Set.{Set}
-use Rattle.step_journal.specs.declared.entry.Entry.{Entry}
-use Rattle.sim_history.specs.Sim.{Body, Workload, IsSim}
+use Rattle.sim_history.specs.Sim.{Body}
 use Rattle.sim_run.specs.Workloads.{workload, AreAccepted, IsObedient}
 use Rattle.step_script.specs.Scripts.{program_of, next_of}
 use Rattle.step_script.specs.declared.script.Script.{Script}
-use Rattle.job_rows.specs.Upkeep.{Follows, planned_jobs}
+use Rattle.job_rows.specs.Upkeep.{Follows}
 use Rattle.run_report.specs.Report.{opening_text}
 use Rattle.written_run.proofs.Plans.{planned_sim}
 use Rattle.scenario_run.specs.Runs.{functions_of}
 use Rattle.scenario_run.proofs.Ready.{own_few, functions_same}
-use Rattle.journal_run.specs.Plans.{IsPlanOf}
 use Rattle.journal_run.proofs.run.equipped.Goals as goal
 
 pub jobs-jobs-requires-clause-eager : goal.jobs-jobs-requires-clause-eager

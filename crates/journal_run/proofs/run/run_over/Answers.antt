@@ -1,10 +1,9 @@
-use Rattle.std.proofs.Common.{rules, ◌≡◌, ◌≤◌, ◌<◌, ℕ, Err, List, map, length, true, ap, ◌∙◌, arith}
+use Rattle.std.proofs.Common.{rules, ◌≡◌, ◌<◌, ℕ, Err, map, length, true, ap, ◌∙◌, arith}
 use Rattle.sim_history.specs.Sim.{Workload}
 use Rattle.sim_run.specs.Workloads.{workload}
 use Rattle.run_report.specs.Report.{report_of}
 use Rattle.journal_run.specs.declared.over.Halt.TheVariants.{Other}
 use Rattle.journal_run.specs.Ran.{HaltedBy, HasOther}
-use Rattle.step_journal.specs.declared.entry.Entry.{Entry}
 use Rattle.command_replies.specs.declared.reply.Reply.{Reply}
 use Rattle.command_replies.proofs.Replying.{taken}
 use Rattle.scenario_run.proofs.Summaries.{refused_by}
