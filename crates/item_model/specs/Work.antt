@@ -1,6 +1,6 @@
 -- The rules on one job: what it has read from outside and written (own reads, private writes), the verdict of its commit
 -- (staleness, relative validity), and the items after it (install, stamps).
-use Rattle.std.specs.Prelude.{ℕ, ◌-◌, ◌==◌, nat_lt, Bool, false, not, ◌||◌, if◌then◌else◌, ℤ, pos, List, [], ◌∷◌, Option, None, Some, is_some, slice_set, slice_index_or}
+use Rattle.std.specs.Prelude.{ℕ, ◌-◌, ◌==◌, nat_lt, Bool, false, not, ◌||◌, if◌then◌else◌, ℤ, pos, List, [], ◌∷◌, Option, None, Some, is_some, map, slice_set, slice_index_or}
 use Rattle.std.specs.List.{find, filter, filter_map, list_all, fold}
 use Rattle.std.specs.Option.{option_map_or}
 use Rattle.rt_base.specs.declared.ids.ItemId.{ItemId}
@@ -24,6 +24,20 @@ pub record Work : Type 0 where
 
 abbrev pub no_work : Work
 no_work = record { reads = []; writes = [] }
+
+-- the items of reads, and of writes
+abbrev pub read_items : List OutsideRead → List ℕ
+read_items reads = map (λ r. r.item.0) reads
+
+abbrev pub write_items : List OwnWrite → List ℕ
+write_items writes = map (λ w. w.item.0) writes
+
+-- the work of a job that read and wrote these, and of one that read these and wrote nothing
+abbrev pub of_notes : List OutsideRead → List OwnWrite → Work
+of_notes reads writes = record { reads = reads; writes = writes }
+
+abbrev pub of_reads : List OutsideRead → Work
+of_reads reads = of_notes reads []
 
 abbrev pub stored_of : List Stored → ℕ → Stored
 stored_of items item = slice_index_or items item (record { value = pos 0; stamp = 0 })

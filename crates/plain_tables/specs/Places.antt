@@ -3,15 +3,10 @@ use Rattle.std.specs.Prelude.{◌≡◌, ℕ, ◌<◌, ◌≤◌, true, List, ma
 use Rattle.std.specs.List.{IsDistinct, list_any}
 use Rattle.item_model.specs.declared.stored.OutsideRead.{OutsideRead}
 use Rattle.item_model.specs.declared.stored.OwnWrite.{OwnWrite}
+use Rattle.item_model.specs.Work.{read_items, write_items}
 
 abbrev pub most_items : ℕ
 most_items = 256
-
-abbrev pub read_items : List OutsideRead → List ℕ
-read_items reads = map (λ r. r.item.0) reads
-
-abbrev pub write_items : List OwnWrite → List ℕ
-write_items writes = map (λ w. w.item.0) writes
 
 -- items of a set, each once
 pub record AreFew (items : List ℕ) : Type 0 where

@@ -12,7 +12,7 @@ mod verdict;
 mod work;
 
 pub use arrive::{deadline_of, is_due, next_tick, prio_of};
-pub use install::{dated, outcome};
+pub use install::outcome;
 pub use slot::{Head, Slot};
 pub use tables::{Tables, job_at, plans_at, tally_at};
 pub use tally::Tally;

@@ -6,7 +6,9 @@ ghost use Rattle.plain_tables.specs.Places.{most_items};
 ghost use Rattle.plain_tables.specs.Effects.{IsLow};
 
 use crate::install::stored_at;
-use item_model::{OutsideRead, OwnWrite, Stored};
+use item_model::{
+    OutsideRead, OwnWrite, Stored, find_read, find_write, has_read, has_write, replace_write,
+};
 use rt_base::{ItemId, Op, OutOfMemory, Tick, Value};
 use std::alloc::Global;
 use std::marker::Model;
@@ -94,7 +96,7 @@ impl Work {
         ensures { self.new ≡ record self.old { writes = with_write self.old.writes write.item write.value } }
     {
         if has_write(self.writes.as_slice(), write.item) {
-            replace(&mut self.writes, write);
+            replace_write(&mut self.writes, write);
         } else {
             self.writes.push_reserved(write);
         }
@@ -115,54 +117,6 @@ impl Work {
             Op::Compute => {}
             Op::Commit => {}
             Op::Quit => {}
-        }
-    }
-}
-
-fn find_read(reads: &[OutsideRead], item: ItemId) -> Option<OutsideRead>
-    ensures { result ≡ find (λ r. r.item.0 == item.0) reads.now }
-{
-    for r in reads {
-        if r.item == item {
-            return Some(*r);
-        }
-    }
-    None
-}
-
-fn has_read(reads: &[OutsideRead], item: ItemId) -> bool
-    ensures { result ≡ is_some (find (λ r. r.item.0 == item.0) reads.now) }
-{
-    find_read(reads, item).is_some()
-}
-
-fn has_write(writes: &[OwnWrite], item: ItemId) -> bool
-    ensures { result ≡ is_some (find (λ w. w.item.0 == item.0) writes.now) }
-{
-    find_write(writes, item).is_some()
-}
-
-fn find_write(writes: &[OwnWrite], item: ItemId) -> Option<OwnWrite>
-    ensures { result ≡ find (λ w. w.item.0 == item.0) writes.now }
-{
-    for w in writes {
-        if w.item == item {
-            return Some(*w);
-        }
-    }
-    None
-}
-
-/// Replaces the write of this item.
-fn replace(writes: &mut Vec<OwnWrite>, write: OwnWrite)
-    requires { is_some (find (λ w. w.item.0 == write.item.0) writes.old.items) ≡ true }
-    ensures items { writes.new.items ≡ with_write writes.old.items write.item write.value }
-    ensures places { vec_capacity writes.new ≡ vec_capacity writes.old }
-{
-    for i in 0..writes.len() {
-        if writes[i].item.0 == write.item.0 {
-            writes[i] = write;
-            return;
         }
     }
 }

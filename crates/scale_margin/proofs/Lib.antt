@@ -4,4 +4,3 @@ pub mod Compiles
 pub mod Percents
 pub mod Looks
 pub mod Found
-pub mod TestSets

@@ -6,4 +6,3 @@ pub mod AgeRows
 pub mod Admitted
 pub mod Kept
 pub mod Agree
-pub mod TestSets

@@ -2,4 +2,3 @@ pub mod Bounds
 pub mod Admission
 pub mod Rows
 pub mod Laws
-pub mod Named

@@ -10,11 +10,12 @@ ghost use Rattle.set_admission.specs.Bounds.{age_of, MeetsAdmission, AreResponse
 ghost use Rattle.set_admission.specs.Admission.{refusal, Refuses};
 ghost use Rattle.set_admission.specs.declared.error.AdmitError.TheVariants.{OutOfMemory as WantOfMemory};
 
-use crate::age::{ages_of, is_dated};
+use crate::age::ages_of;
 use crate::error::AdmitError;
 use crate::order::{blocking_of, in_falling_priority};
 use crate::refuse::{first_too_apart, first_too_old};
 use crate::schedule::responses_of;
+use item_model::is_dated;
 use rt_base::{ItemId, Tick, TxId};
 use std::alloc::Global;
 use std::marker::Model;
@@ -117,7 +118,7 @@ impl AdmittedSet {
         requires { item.0 < length self.now.items }
         ensures { result ≡ (if dated self.now.items item.0 then Some (age_of self.now item.0) else None) }
     {
-        if is_dated(&self.set, item) {
+        if is_dated(self.set.items(), item) {
             Some(self.ages[item.0 as usize])
         } else {
             None

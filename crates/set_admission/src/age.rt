@@ -2,63 +2,17 @@
 
 ghost use Rattle.std.specs.Prelude.{◌≡◌, ◌<◌, length, map, IfOk, IfSome, IfNone};
 ghost use Rattle.std.specs.List.{All, filter};
-ghost use Rattle.item_model.specs.Kinds.{is_dated as dated, is_derived as derived, validity_of as validity};
-ghost use Rattle.txn_set.specs.Set.{IsCompiled, txn_of, names_item};
+ghost use Rattle.item_model.specs.Kinds.{is_dated as dated};
+ghost use Rattle.txn_set.specs.Set.{IsCompiled, txn_of};
 ghost use Rattle.fresh_laws.specs.Ages.{writer_of};
 ghost use Rattle.set_admission.specs.Bounds.{AreResponsesOf, AreAgesOf};
 ghost use Rattle.set_admission.specs.Rows.{age_row, age_rows};
 
 use age_bounds::{AgeRow, ages};
-use item_model::ItemKind;
+use item_model::{is_dated, is_derived};
 use rt_base::{ItemId, List, OutOfMemory, Tick, TxId};
 use std::alloc::Global;
-use txn_set::CompiledSet;
-
-/// The validity of a sensor or derived item, in ticks.
-pub fn validity_of(set: &CompiledSet, item: ItemId) -> Option<Tick>
-    ensures { result ≡ validity set.now.items item.0 }
-{
-    match set.items().get(item.0 as usize) {
-        None => None,
-        Some(decl) => match decl.kind {
-            ItemKind::Sensor { validity } => Some(validity),
-            ItemKind::Derived { validity } => Some(validity),
-            ItemKind::State => None,
-        },
-    }
-}
-
-/// Whether it is a sensor or derived item.
-pub fn is_dated(set: &CompiledSet, item: ItemId) -> bool
-    ensures { result ≡ dated set.now.items item.0 }
-{
-    validity_of(set, item).is_some()
-}
-
-fn is_derived(set: &CompiledSet, item: ItemId) -> bool
-    ensures { result ≡ derived set.now.items item.0 }
-{
-    match set.items().get(item.0 as usize) {
-        None => false,
-        Some(decl) => match decl.kind {
-            ItemKind::Sensor { validity: _ } => false,
-            ItemKind::Derived { validity: _ } => true,
-            ItemKind::State => false,
-        },
-    }
-}
-
-/// Whether the list has this item.
-pub fn has_item(items: &[ItemId], item: ItemId) -> bool
-    ensures { result ≡ names_item items.now item.0 }
-{
-    for i in items {
-        if *i == item {
-            return true;
-        }
-    }
-    false
-}
+use txn_set::{CompiledSet, names_item};
 
 // The place of the first transaction that may write an item; the number of transactions where none may.
 fn writer_at(set: &CompiledSet, item: ItemId) -> usize
@@ -66,7 +20,7 @@ fn writer_at(set: &CompiledSet, item: ItemId) -> usize
 {
     let txns = set.txns();
     for (place, txn) in txns.iter().enumerate() {
-        if has_item(txn.writes.as_slice(), item) {
+        if names_item(txn.writes.as_slice(), item) {
             return place;
         }
     }
@@ -82,7 +36,7 @@ fn dated_reads_of(
 {
     let mut items = Vec::new(alloc);
     for item in reads {
-        if is_dated(set, *item) {
+        if is_dated(set.items(), *item) {
             items.push(item.0 as usize)?;
         }
     }
@@ -99,7 +53,7 @@ fn age_row_of(
     requires responses { AreResponsesOf set.now responses.now }
     ensures { IfOk result (λ row. row ≡ age_row set.now item.0) }
 {
-    let derived = is_derived(set, item);
+    let derived = is_derived(set.items(), item);
     let writer = writer_at(set, item);
     if writer < set.txns().len() {
         let txn = set.txn(TxId(writer as u32));

@@ -2,25 +2,15 @@
 
 ghost use Rattle.std.specs.Prelude.{◌≡◌, ◌<◌, length};
 ghost use Rattle.std.specs.List.{All, filter};
-ghost use Rattle.item_model.specs.Work.{is_above as above};
 ghost use Rattle.txn_set.specs.Set.{IsCompiled, txn_of, may_read};
 ghost use Rattle.set_admission.specs.Bounds.{age_of, AreAgesOf};
 ghost use Rattle.set_admission.specs.Admission.{first_refusal, too_old, too_apart, greatest_age, apart_age};
 ghost use Rattle.set_admission.specs.Admission.{is_apart as apart};
 
-use crate::age::{has_item, validity_of};
 use crate::error::AdmitError;
+use item_model::{is_above, validity};
 use rt_base::{ItemId, Tick, TogetherDecl, TxId};
-use txn_set::CompiledSet;
-
-fn is_above(age: Tick, validity: Option<Tick>) -> bool
-    ensures { result ≡ above age validity }
-{
-    match validity {
-        None => false,
-        Some(validity) => validity < age,
-    }
-}
+use txn_set::{CompiledSet, names_item};
 
 fn age_at(set: &CompiledSet, ages: &[Tick], item: ItemId) -> Tick
     requires ages { AreAgesOf set.now ages.now }
@@ -47,7 +37,7 @@ fn too_old_of(set: &CompiledSet, ages: &[Tick], tx: TxId) -> Option<AdmitError>
 {
     for item in reads_of(set, tx) {
         let age = age_at(set, ages, *item);
-        if is_above(age, validity_of(set, *item)) {
+        if is_above(age, validity(set.items(), *item)) {
             return Some(AdmitError::TooOld {
                 tx,
                 item: *item,
@@ -84,7 +74,7 @@ fn read_among(set: &CompiledSet, ages: &[Tick], tx: TxId, items: &[ItemId]) -> (
     let mut count = 0;
     let mut greatest = 0;
     for item in items {
-        if has_item(reads, *item) {
+        if names_item(reads, *item) {
             count += 1;
             let age = age_at(set, ages, *item);
             if greatest < age {

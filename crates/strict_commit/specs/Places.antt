@@ -5,16 +5,11 @@ use Rattle.std.specs.List.{IsDistinct, list_any}
 use Rattle.rt_base.specs.declared.ids.ItemId.{ItemId}
 use Rattle.item_model.specs.declared.stored.OutsideRead.{OutsideRead}
 use Rattle.item_model.specs.declared.stored.OwnWrite.{OwnWrite}
+use Rattle.item_model.specs.Work.{read_items, write_items}
 use Rattle.strict_commit.specs.Jobs.{AreInItemOrder}
 
 abbrev pub items_of : List ItemId → List ℕ
 items_of items = map (λ i. i.0) items
-
-abbrev pub read_items : List OutsideRead → List ℕ
-read_items reads = map (λ r. r.item.0) reads
-
-abbrev pub write_items : List OwnWrite → List ℕ
-write_items writes = map (λ w. w.item.0) writes
 
 -- items that are declared, each once
 pub record AreDeclared (declared : List ItemId) (items : List ℕ) : Type 0 where

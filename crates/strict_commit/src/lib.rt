@@ -3,7 +3,6 @@
 //! Ramamritham's (1993).
 #![tactic(auto)]
 
-mod install;
 mod verdict;
 mod work;
 

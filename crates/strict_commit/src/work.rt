@@ -6,9 +6,11 @@ ghost use Rattle.item_model.specs.Work.{no_work, with_read, with_write, read_of,
 ghost use Rattle.strict_commit.specs.Jobs.{unwritten_of, is_unwritten, IsLeastOf, AreInItemOrder};
 ghost use Rattle.strict_commit.specs.Ends.{end_of, NamesFirst};
 
-use crate::install::{install_all, is_dated};
 use crate::verdict::{CommitRefused, judge};
-use item_model::{ItemDecl, Items, OutsideRead, OwnWrite};
+use item_model::{
+    ItemDecl, Items, OutsideRead, OwnWrite, find_read, find_write, has_read, has_write,
+    install_writes, is_dated, replace_write,
+};
 use rt_base::{ItemId, OutOfMemory, Tick, TogetherDecl, Value};
 use std::alloc::Global;
 use std::marker::Model;
@@ -129,7 +131,7 @@ impl Work {
         ensures unchanged { OnErr result (items.new ≡ items.old) }
     {
         judge(decls, together, self, at)?;
-        install_all(items, decls, self, release);
+        install_writes(items, decls, self.reads(), release, self.writes());
         Ok(())
     }
 
@@ -139,7 +141,7 @@ impl Work {
         ensures { self.new ≡ record self.old { work = record self.old.work { writes = with_write self.old.work.writes write.item write.value } } }
     {
         if has_write(self.writes.as_slice(), write.item) {
-            replace(&mut self.writes, write);
+            replace_write(&mut self.writes, write);
         } else {
             self.writes.push_reserved(write);
         }
@@ -172,60 +174,5 @@ impl Work {
         ensures { result.now ≡ self.now.work.writes }
     {
         self.writes.as_slice()
-    }
-
-    /// The outside read of an item.
-    pub(crate) fn read_of(&self, item: ItemId) -> Option<OutsideRead>
-        ensures { result ≡ read_of self.now.work item.0 }
-    {
-        find_read(self.reads.as_slice(), item)
-    }
-}
-
-fn find_read(reads: &[OutsideRead], item: ItemId) -> Option<OutsideRead>
-    ensures { result ≡ find (λ r. r.item.0 == item.0) reads.now }
-{
-    for r in reads {
-        if r.item == item {
-            return Some(*r);
-        }
-    }
-    None
-}
-
-fn has_read(reads: &[OutsideRead], item: ItemId) -> bool
-    ensures { result ≡ is_some (find (λ r. r.item.0 == item.0) reads.now) }
-{
-    find_read(reads, item).is_some()
-}
-
-fn find_write(writes: &[OwnWrite], item: ItemId) -> Option<OwnWrite>
-    ensures { result ≡ find (λ w. w.item.0 == item.0) writes.now }
-{
-    for w in writes {
-        if w.item == item {
-            return Some(*w);
-        }
-    }
-    None
-}
-
-fn has_write(writes: &[OwnWrite], item: ItemId) -> bool
-    ensures { result ≡ is_some (find (λ w. w.item.0 == item.0) writes.now) }
-{
-    find_write(writes, item).is_some()
-}
-
-/// Replaces the write of this item.
-fn replace(writes: &mut Vec<OwnWrite>, write: OwnWrite)
-    requires { is_some (find (λ w. w.item.0 == write.item.0) writes.old.items) ≡ true }
-    ensures items { writes.new.items ≡ with_write writes.old.items write.item write.value }
-    ensures places { vec_capacity writes.new ≡ vec_capacity writes.old }
-{
-    for i in 0..writes.len() {
-        if writes[i].item.0 == write.item.0 {
-            writes[i] = write;
-            return;
-        }
     }
 }

@@ -9,8 +9,7 @@ ghost use Rattle.txn_compiler.specs.Refusal.{cyclic_at as cyclic_at_item, cyclic
 
 use crate::error::CompileError;
 use crate::graph::Graph;
-use crate::judge::is_dated;
-use item_model::ItemDecl;
+use item_model::{ItemDecl, is_dated};
 use rt_base::ItemId;
 use std::alloc::{AllocError, Global};
 

@@ -7,9 +7,8 @@ ghost use Rattle.std.specs.List.{All};
 ghost use Rattle.txn_compiler.specs.Graph.{writers_of};
 
 use crate::error::CompileError;
-use crate::judge::{is_dated, is_derived};
 use crate::writing::{Writers, writers_by_item};
-use item_model::ItemDecl;
+use item_model::{ItemDecl, is_dated, is_derived};
 use rt_base::ItemId;
 use std::alloc::{AllocError, Global};
 use std::marker::Model;

@@ -1,7 +1,7 @@
 //! The rules that need no table: the limits, distinct priorities, time ranges, and relative sets.
 ghost use Rattle.std.specs.Prelude.{◌≡◌, ◌≤◌, ◌<◌, length};
 ghost use Rattle.std.specs.List.{All, list_all};
-ghost use Rattle.item_model.specs.Kinds.{is_dated as is_dated_item, is_derived as is_derived_item};
+ghost use Rattle.item_model.specs.Kinds.{is_dated as is_dated_item};
 ghost use Rattle.txn_compiler.specs.Refusal.{is_within as is_number_within, first_with as first_place_with};
 ghost use Rattle.txn_compiler.specs.Refusal.{bad_time as bad_time_of, is_bad_group as is_bad};
 ghost use Rattle.txn_compiler.specs.Refusal.{same_prio as same_prio_of, bad_times as bad_times_of};
@@ -9,7 +9,7 @@ ghost use Rattle.txn_compiler.specs.Refusal.{bad_together as bad_together_of, to
 ghost use Rattle.txn_compiler.specs.Refusal.{too_many_txns as too_many_txns_of, too_many_sets as too_many_sets_of};
 
 use crate::error::{CompileError, Which};
-use item_model::{ItemDecl, ItemKind};
+use item_model::{ItemDecl, is_dated};
 use rt_base::{ItemId, Prio, TogetherDecl, TxId};
 use txn_set::TxnDecl;
 
@@ -18,33 +18,6 @@ const MOST_ITEMS: usize = 256;
 const MOST_TXNS: usize = 64;
 
 const MOST_SETS: usize = 64;
-
-// Whether it is a sensor or derived item.
-pub fn is_dated(items: &[ItemDecl], item: ItemId) -> bool
-    ensures { result ≡ is_dated_item items.now item.0 }
-{
-    match items.get(item.0 as usize) {
-        None => false,
-        Some(decl) => match decl.kind {
-            ItemKind::Sensor { validity: _ } => true,
-            ItemKind::Derived { validity: _ } => true,
-            ItemKind::State => false,
-        },
-    }
-}
-
-pub fn is_derived(items: &[ItemDecl], item: ItemId) -> bool
-    ensures { result ≡ is_derived_item items.now item.0 }
-{
-    match items.get(item.0 as usize) {
-        None => false,
-        Some(decl) => match decl.kind {
-            ItemKind::Sensor { validity: _ } => false,
-            ItemKind::Derived { validity: _ } => true,
-            ItemKind::State => false,
-        },
-    }
-}
 
 pub fn too_many_items(items: &[ItemDecl]) -> Option<CompileError>
     ensures { result ≡ too_many_items_of items.now }

@@ -1,4 +1,7 @@
 //! Declarations of transactions, and the ceilings of an item.
+ghost use Rattle.std.specs.Prelude.{◌≡◌};
+ghost use Rattle.txn_set.specs.Set.{names_item};
+
 use rt_base::{ItemId, List, Prio, Tick};
 
 /// A transaction as declared: its priority (a greater number is a higher one), its period, offset and deadline in
@@ -22,4 +25,16 @@ pub struct TxnDecl {
 pub struct Ceilings {
     pub write: Prio,
     pub absolute: Prio,
+}
+
+/// Whether an item is among these, by a scan.
+pub fn names_item(items: &[ItemId], item: ItemId) -> bool
+    ensures { result ≡ names_item items.now item.0 }
+{
+    for i in items {
+        if *i == item {
+            return true;
+        }
+    }
+    false
 }

@@ -5,4 +5,4 @@ mod compiled_set;
 mod decl;
 
 pub use compiled_set::CompiledSet;
-pub use decl::{Ceilings, TxnDecl};
+pub use decl::{Ceilings, TxnDecl, names_item};

@@ -11,4 +11,3 @@ pub mod Declared
 pub mod Unblocked
 pub mod Admitting
 pub mod Planned
-pub mod TestSets

@@ -2,7 +2,8 @@ use Rattle.std.proofs.Common.{◌≡◌, ◌==◌, List, false, true, sym, ap, �
 use Rattle.std.specs.List.{find}
 use Rattle.item_model.specs.declared.stored.OutsideRead.{OutsideRead}
 use Rattle.item_model.specs.Work.{Work, with_read}
-use Rattle.plain_tables.proofs.Fews.{read_new, read_old, read_place, places_read}
+use Rattle.item_model.proofs.Noting.{read_new, read_old}
+use Rattle.plain_tables.proofs.Fews.{read_place, places_read}
 use Rattle.plain_tables.proofs.work.Work.note_read.Goals as goal
 
 absent : (reads now : List OutsideRead) (n : _) (r : _) → r ≡ is_some (find (λ x. x.item.0 == n) now) → now ≡ reads → r ≡ false → is_some (find (λ x. x.item.0 == n) reads) ≡ false

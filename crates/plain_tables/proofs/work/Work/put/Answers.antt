@@ -2,7 +2,8 @@ use Rattle.std.proofs.Common.{◌≡◌, ◌==◌, List, false, true, sym, ap, �
 use Rattle.std.specs.List.{find}
 use Rattle.item_model.specs.declared.stored.OwnWrite.{OwnWrite}
 use Rattle.item_model.specs.Work.{Work, with_write}
-use Rattle.plain_tables.proofs.Fews.{write_new, write_place, places_write, places_rewritten}
+use Rattle.item_model.proofs.Noting.{write_new}
+use Rattle.plain_tables.proofs.Fews.{write_place, places_write, places_rewritten}
 use Rattle.plain_tables.proofs.work.Work.put.Goals as goal
 
 told : (writes now : List OwnWrite) (n : _) (r b : _) → r ≡ is_some (find (λ x. x.item.0 == n) now) → now ≡ writes → r ≡ b → is_some (find (λ x. x.item.0 == n) writes) ≡ b
@@ -11,7 +12,7 @@ told writes now n r b e same f = ap (λ (l : List OwnWrite). is_some (find (λ x
 pub invariant_of-self : goal.invariant_of-self
 invariant_of-self c =
     let yes = told _ _ c.args.write.item.0 _ true c.has_write.ensures c.as_slice.ensures.value c.if-has_write.true in
-    rw (c.replace.ensures.items, c.replace.ensures.places) (places_rewritten _ _ _ _ c.args.write.item c.args.write.value c.self.invariant yes)
+    rw (c.replace_write.ensures.items, c.replace_write.ensures.places) (places_rewritten _ _ _ _ c.args.write.item c.args.write.value c.self.invariant yes)
 
 pub push_reserved-requires : goal.push_reserved-requires
 push_reserved-requires c =

@@ -3,7 +3,8 @@ use Rattle.std.specs.List.{find, list_any}
 use Rattle.item_model.specs.declared.stored.OutsideRead.{OutsideRead}
 use Rattle.item_model.specs.Work.{with_read}
 use Rattle.strict_commit.specs.Jobs.{Job}
-use Rattle.strict_commit.proofs.Fews.{read_new, read_old, read_place, places_read}
+use Rattle.item_model.proofs.Noting.{read_new, read_old}
+use Rattle.strict_commit.proofs.Fews.{read_place, places_read}
 use Rattle.strict_commit.proofs.work.Work.note_read.Goals as goal
 
 absent : (reads now : List OutsideRead) (n : _) (r : _) → r ≡ is_some (find (λ x. x.item.0 == n) now) → now ≡ reads → r ≡ false → is_some (find (λ x. x.item.0 == n) reads) ≡ false

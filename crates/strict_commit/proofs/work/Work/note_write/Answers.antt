@@ -3,7 +3,8 @@ use Rattle.std.specs.List.{find, list_any}
 use Rattle.item_model.specs.declared.stored.OwnWrite.{OwnWrite}
 use Rattle.item_model.specs.Work.{with_write}
 use Rattle.strict_commit.specs.Jobs.{Job}
-use Rattle.strict_commit.proofs.Fews.{write_new, write_place, places_write, places_rewritten}
+use Rattle.item_model.proofs.Noting.{write_new}
+use Rattle.strict_commit.proofs.Fews.{write_place, places_write, places_rewritten}
 use Rattle.strict_commit.proofs.work.Work.note_write.Goals as goal
 
 told : (writes now : List OwnWrite) (n : _) (r b : _) → r ≡ is_some (find (λ x. x.item.0 == n) now) → now ≡ writes → r ≡ b → is_some (find (λ x. x.item.0 == n) writes) ≡ b
@@ -15,7 +16,7 @@ declared n same h = subst (λ (q : Job). IsTrue (list_any (λ i. i.0 == n) q.may
 pub invariant_of-self : goal.invariant_of-self
 invariant_of-self c =
     let yes = told _ _ c.args.write.item.0 _ true c.has_write.ensures c.as_slice.ensures.value c.if-has_write.true in
-    rw (c.replace.ensures.items, c.replace.ensures.places) (places_rewritten _ _ _ _ c.args.write.item c.args.write.value c.self.invariant yes)
+    rw (c.replace_write.ensures.items, c.replace_write.ensures.places) (places_rewritten _ _ _ _ c.args.write.item c.args.write.value c.self.invariant yes)
 
 pub push_reserved-requires : goal.push_reserved-requires
 push_reserved-requires c =

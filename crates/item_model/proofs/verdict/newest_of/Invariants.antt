@@ -1,0 +1,6 @@
+use Rattle.std.proofs.Common.{◌≡◌, drop}
+use Rattle.item_model.specs.Work.{of_reads, newest, reads_of}
+use Rattle.item_model.proofs.verdict.newest_of.Given as goal
+
+abbrev pub invariant-loop-i : goal.invariant-loop-i
+invariant-loop-i l = l.best ≡ newest (reads_of (of_reads l.reads) (drop l.i l.items))

@@ -1,6 +1,0 @@
-use Rattle.std.proofs.Common.{◌≡◌, drop}
-use Rattle.item_model.specs.Work.{oldest, reads_of}
-use Rattle.plain_tables.proofs.verdict.oldest_of.Given as goal
-
-abbrev pub invariant-loop-i : goal.invariant-loop-i
-invariant-loop-i l = l.best ≡ oldest (reads_of l.work (drop l.i l.items))
