@@ -26,7 +26,7 @@ use io_edge::Failed;
 use journal_text::{lines_both_ways, write_entry};
 use rt_base::{List, Names};
 use run_report::legal_has_lines;
-use serial_replay::{ReplayError, replay};
+use serial_replay::{ReplayError, last_items};
 use std::alloc::Global;
 use std::marker::Model;
 use step_journal::Entry;
@@ -264,7 +264,7 @@ fn judge(
     ensures bad { IfErr result (λ e. IsJudged set.now room stop entries.items e) }
     ensures full { (stop ≡ Stop.More → length entries.items ≡ room) → IfErr result (λ e. IfFull e (λ first. length first ≡ room)) }
 {
-    match replay(alloc, set, &entries) {
+    match last_items(alloc, set, &entries) {
         Err(ReplayError::NotLegal { index }) => {
             return Err(LogError::BadRecord {
                 number: index as u64 + 1,

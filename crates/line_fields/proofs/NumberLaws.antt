@@ -1,16 +1,18 @@
 -- Numbers in decimal digits.
-use Rattle.std.proofs.Common.{◌≡◌, ℕ, zero, suc, ℤ, pos, negsuc, ◌^◌, ◌<◌, ◌&&◌, Bool, true, false, cond, ltb, nat_eq, List, [], ◌∷◌, length, Option, Some, None, Result, Ok, Err, decimal, refl, sym, ap, subst, ◌∙◌, arith, rules}
+use Rattle.std.proofs.Common.{◌≡◌, ℕ, zero, suc, ℤ, pos, negsuc, ◌^◌, ◌<◌, ◌&&◌, ◌||◌, Bool, true, false, cond, ltb, nat_eq, List, [], ◌∷◌, length, drop, get_or, Option, Some, None, Result, Ok, Err, decimal, refl, sym, ap, subst, ◌∙◌, arith, rules}
+use Rattle.std.specs.Char.{digit_value}
 use Rattle.std.specs.Fmt.{signed_decimal}
+use Rattle.std.specs.Prelude.{IfSome}
 use Rattle.std.specs.Int.{IsInRange}
 use Rattle.std.specs.Str.{IsUtf8, bytes_eq}
 use Rattle.std.specs.Str.Parse.{digits_value, IsNumeral, without_leading_plus, AllDigits}
 use Rattle.std.proofs.lemmas.Str.Parse.{IsNumeralModel, numerals_by_value, not_in_digits}
 use Rattle.std.proofs.lemmas.Str.{IsUtf8-from_ascii}
-use Rattle.std.proofs.lemmas.Fmt.{IsAscii-decimal, digits_value-decimal, digits_decimal, parse-decimal, decimal_nonempty}
+use Rattle.std.proofs.lemmas.Fmt.{IsAscii-decimal, digits_value-decimal, digits_decimal, parse-decimal, decimal_nonempty, decimal-digits_value, decimal_digit, first_decimal}
 use Rattle.std.proofs.lemmas.Slice.Eq.{bytes_eq-Decides}
-use Rattle.std.proofs.lemmas.Bool.{ltb-true, lt-ltb, ne_eqb, eqb-true}
+use Rattle.std.proofs.lemmas.Bool.{ltb-true, lt-ltb, ne_eqb, eq-eqb, eqb-true}
 use Rattle.line_fields.specs.Cuts.{◌>>=◌, Lacks}
-use Rattle.line_fields.specs.Numbers.{unsigned_of, short_of, below_zero, signed_of, IsI64}
+use Rattle.line_fields.specs.Numbers.{IsRead, is_led, unsigned_of, short_of, below_zero, signed_of, IsI64}
 use Rattle.line_fields.proofs.CutLaws.{some_is, none_some, bind_some, both_true, chosen, Takes}
 
 pub own : IsNumeralModel (AllDigits 10) (digits_value 10)
@@ -20,25 +22,69 @@ pub decimal_is_utf8 : (n : ℕ) → n < 2 ^ 64 → IsUtf8 (decimal n)
 decimal_is_utf8 n lt = IsUtf8-from_ascii (decimal n) (IsAscii-decimal n lt)
 
 -- what parsing a text of 64 bits asks
-abbrev pub IsRead : List ℕ → Type 0
-IsRead bs = IsNumeral 10 (without_leading_plus bs) × (digits_value 10 (without_leading_plus bs) < 2 ^ 64)
+abbrev pub MayBeRead : List ℕ → Type 0
+MayBeRead bs = IsNumeral 10 (without_leading_plus bs) × (digits_value 10 (without_leading_plus bs) < 2 ^ 64)
 
 abbrev Read : Type 0
 Read = Result ℕ (Unit {0})
 
 pub number_ok : (n m : ℕ) (bs : List ℕ) → n < 2 ^ 64 → decimal n ≡ bs
-    → IsRead bs × (m ≡ digits_value 10 (without_leading_plus bs)) → Some m ≡ Some n
+    → MayBeRead bs × (m ≡ digits_value 10 (without_leading_plus bs)) → Some m ≡ Some n
 number_ok n m bs lt e read =
     let r : Read = Ok m in
     let same : r ≡ Ok n = parse-decimal 64 n bs r lt lt (sym e) read in
     let is : m ≡ n = cc in
     ap (λ (k : ℕ). Some k) is
 
-pub number_err : (n : ℕ) (bs : List ℕ) → n < 2 ^ 64 → decimal n ≡ bs → ¬ IsRead bs → ⊥
+pub number_err : (n : ℕ) (bs : List ℕ) → n < 2 ^ 64 → decimal n ≡ bs → ¬ MayBeRead bs → ⊥
 number_err n bs lt e read =
     let r : Read = Err tt in
     let same : r ≡ Ok n = parse-decimal 64 n bs r lt lt (sym e) read in
     absurd cc
+
+-- ---- what stands at the front of a number
+
+first_is_digit : (n b : ℕ) (bs : List ℕ) → n < 2 ^ 64 → decimal n ≡ b ∷ bs → nat_eq b 43 ≡ false
+first_is_digit n b bs lt e =
+    let digits : AllDigits 10 (b ∷ bs) = subst (AllDigits 10) e (digits_decimal own n lt) in
+    ne_eqb b 43 (λ same. let k : digit_value 43 < 10 = subst (λ (x : ℕ). digit_value x < 10) same digits.0 in omega arith)
+
+first_is_no_zero : (n b c : ℕ) (bs : List ℕ) → n < 2 ^ 64 → decimal n ≡ b ∷ c ∷ bs → nat_eq b 48 ≡ false
+first_is_no_zero zero b c bs lt e =
+    let lengths : 1 ≡ suc (suc (length bs)) = ap length (sym (decimal_digit 0 (omega arith)) ∙ e) in
+    absurd (omega (arith, lengths))
+first_is_no_zero (suc n) b c bs lt e =
+    let above : 48 < b = subst (λ (w : List ℕ). 48 < get_or w 0 0) e (first_decimal (suc n) (omega arith) lt) in
+    ne_eqb b 48 (λ same. omega (arith, same))
+
+pub not_led : (w : List ℕ) (n : ℕ) → n < 2 ^ 64 → decimal n ≡ w → is_led w ≡ false
+not_led [] n lt e = refl
+not_led (b ∷ []) n lt e = first_is_digit n b [] lt e
+not_led (b ∷ c ∷ bs) n lt e = rw (first_is_digit n b (c ∷ bs) lt e, first_is_no_zero n b c bs lt e) refl
+
+written : (ds : List ℕ) (n : ℕ) → (get_or ds 0 0 ≡ 48 → length ds ≡ 1) → IsNumeral 10 ds → n ≡ digits_value 10 ds → n < 2 ^ 64 → decimal n ≡ ds
+written ds n lead is value lt =
+    let below : digits_value 10 ds < 2 ^ 64 = subst (λ (k : ℕ). k < 2 ^ 64) value lt in
+    ap decimal value ∙ decimal-digits_value own ds is.1 is.0 lead below
+
+no_plus : (b : ℕ) (bs : List ℕ) (n : ℕ) → nat_eq b 43 ≡ false → IsRead (b ∷ bs) n → IsNumeral 10 (b ∷ bs) × (n ≡ digits_value 10 (b ∷ bs))
+no_plus b bs n other read =
+    subst (λ (t : Bool). IsNumeral 10 (drop (cond t 1 0) (b ∷ bs)) × (n ≡ digits_value 10 (drop (cond t 1 0) (b ∷ bs)))) other (read.0, read.1)
+
+neither : (a b : Bool) → (a || b) ≡ false → (a ≡ false) × (b ≡ false)
+neither false b e = (refl, e)
+neither true b e = absurd cc
+
+-- a word that is not led and is parsed is written so
+pub as_written : (w : List ℕ) (n : ℕ) → is_led w ≡ false → IsRead w n → decimal n ≡ w
+as_written [] n led read = absurd (omega (arith, read.0.0))
+as_written (b ∷ []) n led read =
+    let here = no_plus b [] n led read in
+    written (b ∷ []) n (λ _. refl) here.0 here.1 read.2
+as_written (b ∷ c ∷ bs) n led read =
+    let parts = neither (nat_eq b 43) (nat_eq b 48) led in
+    let here = no_plus b (c ∷ bs) n parts.0 read in
+    written (b ∷ c ∷ bs) n (λ same. let is : nat_eq b 48 ≡ true = eq-eqb b 48 same in absurd cc) here.0 here.1 read.2
 
 -- ---- unsigned numbers
 
@@ -70,6 +116,14 @@ none_unless w (Some n) e never = let t = unsigned_takes w n e in absurd (never n
 
 pub unsigned_none : (w : List ℕ) → ((n : ℕ) → n < 2 ^ 64 → decimal n ≡ w → ⊥) → None ≡ unsigned_of w
 unsigned_none w never = sym (none_unless w (unsigned_of w) refl never)
+
+pub led_is_none : (w : List ℕ) → is_led w ≡ true → None ≡ unsigned_of w
+led_is_none w led = unsigned_none w (λ n lt e. let no : is_led w ≡ false = not_led w n lt e in absurd cc)
+
+-- what parsing a word that is not led finds
+pub read_is_unsigned : (w : List ℕ) (found : Option ℕ) → is_led w ≡ false → ((n : ℕ) → n < 2 ^ 64 → decimal n ≡ w → found ≡ Some n) → IfSome found (IsRead w) → found ≡ unsigned_of w
+read_is_unsigned w None led finds read = unsigned_none w (λ n lt e. absurd (none_some n (finds n lt e)))
+read_is_unsigned w (Some n) led finds read = unsigned_found w n read.2 (as_written w n led read)
 
 -- ---- numbers of 32 bits
 

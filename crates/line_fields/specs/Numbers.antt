@@ -1,13 +1,23 @@
 -- Numbers in decimal digits, without leading zeros.
-use Rattle.std.specs.Prelude.{ℕ, zero, suc, ℤ, pos, negsuc, ◌^◌, ◌<◌, ◌&&◌, ◌==◌, List, [], ◌∷◌, Option, Some, None, option_and_then, nat_lt, if◌then◌else◌, decimal}
+use Rattle.std.specs.Prelude.{ℕ, zero, suc, ℤ, pos, negsuc, ◌^◌, ◌<◌, ◌≡◌, ◌&&◌, ◌||◌, ◌==◌, Bool, false, List, [], ◌∷◌, Option, Some, None, option_and_then, nat_lt, if◌then◌else◌, decimal}
 use Rattle.std.specs.Str.{bytes_eq}
-use Rattle.std.specs.Str.Parse.{digits_value}
+use Rattle.std.specs.Str.Parse.{digits_value, IsNumeral, without_leading_plus}
 use Rattle.line_fields.specs.Cuts.{◌>>=◌}
 
 -- the number of 64 bits whose decimal digits these are
 unfoldable pub unsigned_of : List ℕ → Option ℕ
 unsigned_of w =
     if bytes_eq (decimal (digits_value 10 w)) w && nat_lt (digits_value 10 w) (2 ^ 64) then Some (digits_value 10 w) else None
+
+-- whether a word has a plus, or a zero before something else, at its front
+abbrev pub is_led : List ℕ → Bool
+is_led [] = false
+is_led (b ∷ []) = b == 43
+is_led (b ∷ c ∷ bs) = (b == 43) || (b == 48)
+
+-- what a text tells that was parsed as this number of 64 bits
+abbrev pub IsRead : List ℕ → ℕ → Type 0
+IsRead bs n = IsNumeral 10 (without_leading_plus bs) × (n ≡ digits_value 10 (without_leading_plus bs)) × (n < 2 ^ 64)
 
 -- the same of 32 bits
 unfoldable pub short_of : List ℕ → Option ℕ

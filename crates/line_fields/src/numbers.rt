@@ -1,14 +1,14 @@
 //! Numbers in decimal digits, without leading zeros.
-ghost use Rattle.std.specs.Prelude.{◌≡◌, ℕ, ◌^◌, ◌<◌, Some, decimal, pos, nat_lt, option_map, if◌then◌else◌};
+ghost use Rattle.std.specs.Prelude.{◌≡◌, ℕ, ◌^◌, ◌<◌, Some, decimal, pos, nat_lt, option_map, if◌then◌else◌, IfSome};
 ghost use Rattle.line_fields.specs.Cuts.{next};
-ghost use Rattle.line_fields.specs.Numbers.{unsigned_of, short_of, below_zero, signed_of};
+ghost use Rattle.line_fields.specs.Numbers.{IsRead, is_led, unsigned_of, short_of, below_zero, signed_of};
 
 use crate::cuts::field;
-use itoa::Buffer;
 use std::str;
 
 fn number_in(text: &str) -> Option<u64>
-    ensures { (n : ℕ) → n < 2 ^ 64 → decimal n ≡ text.now → result ≡ Some n }
+    ensures found { (n : ℕ) → n < 2 ^ 64 → decimal n ≡ text.now → result ≡ Some n }
+    ensures read { IfSome result (IsRead text.now) }
 {
     match text.parse::<u64>() {
         Ok(n) => Some(n),
@@ -17,11 +17,22 @@ fn number_in(text: &str) -> Option<u64>
 }
 
 fn parsed(word: &[u8]) -> Option<u64>
-    ensures { (n : ℕ) → n < 2 ^ 64 → decimal n ≡ word.now → result ≡ Some n }
+    ensures found { (n : ℕ) → n < 2 ^ 64 → decimal n ≡ word.now → result ≡ Some n }
+    ensures read { IfSome result (IsRead word.now) }
 {
     match str::from_utf8(word) {
         Ok(text) => number_in(text),
         Err(_) => None,
+    }
+}
+
+fn is_led(word: &[u8]) -> bool
+    ensures { result ≡ is_led word.now }
+{
+    match word {
+        [] => false,
+        [first] => *first == b'+',
+        [first, ..] => *first == b'+' || *first == b'0',
     }
 }
 
@@ -30,14 +41,10 @@ fn parsed(word: &[u8]) -> Option<u64>
 pub fn unsigned(word: &[u8]) -> Option<u64>
     ensures { result ≡ unsigned_of word.now }
 {
-    let Some(n) = parsed(word) else {
+    if is_led(word) {
         return None;
-    };
-    if Buffer::new().format(n).as_bytes() == word {
-        Some(n)
-    } else {
-        None
     }
+    parsed(word)
 }
 
 /// The same below 2^32.

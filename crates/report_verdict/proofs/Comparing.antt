@@ -1,6 +1,7 @@
 -- Two texts, line after line.
-use Rattle.std.proofs.Common.{◌≡◌, ℕ, ◌+◌, Bool, true, false, List, [], ◌∷◌, Some, None, sym, ap, ◌∙◌}
+use Rattle.std.proofs.Common.{◌≡◌, ℕ, ◌+◌, Bool, true, false, List, [], ◌∷◌, Some, None, refl, sym, ap, subst, ◌∙◌}
 use Rattle.std.specs.Str.{bytes_eq}
+use Rattle.std.proofs.lemmas.Slice.Eq.{bytes_eq-Decides}
 use Rattle.rt_base.specs.declared.name.Names.{Names}
 use Rattle.line_fields.specs.Cuts.{cut_at}
 use Rattle.report_reader.specs.Document.{lines_of}
@@ -54,3 +55,14 @@ over_some names n r other after two = sym (ap (λ (rs : List (List ℕ)). compar
 
 pub over_none : (names : Names) (n : ℕ) (r : List ℕ) → None ≡ cut_at 10 r → Legal ≡ compared names n [] (lines_of r).0
 over_none names n r two = sym (ap (λ (rs : List (List ℕ)). compared names n [] rs) (no_line r two))
+
+-- ---- a text beside itself
+
+alike : (names : Names) (n : ℕ) (ls : List (List ℕ)) → compared names n ls ls ≡ Legal
+alike names n [] = refl
+alike names n (l ∷ ls) =
+    ap (λ (b : Bool). either b (compared names (n + 1) ls ls) (wrong names n l l)) ((bytes_eq-Decides l l).1 refl) ∙ alike names (n + 1) ls
+
+pub same_text : (names : Names) (d r : List ℕ) → bytes_eq d r ≡ true → Legal ≡ from_line names 1 d r
+same_text names d r e =
+    subst (λ (t : List ℕ). Legal ≡ from_line names 1 d t) ((bytes_eq-Decides d r).0 e) (sym (alike names 1 (lines_of d).0))

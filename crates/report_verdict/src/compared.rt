@@ -63,13 +63,16 @@ fn over(n: usize, report: &[u8]) -> Verdict
     }
 }
 
-/// How the lines of a document differ from those of a report; Legal where they do not. It goes once over both, and takes no
-/// memory.
+/// How the lines of a document differ from those of a report; Legal where they do not. It compares the bytes, and goes over the
+/// lines of both where these differ. It takes no memory.
 pub(crate) fn compared(names: &Names, document: &[u8], report: &[u8]) -> Verdict
     requires items { length names.now.items < 2 ^ 32 }
     requires few { length document.now < 2 ^ 32 }
     ensures { result ≡ compared_of names.now 1 (lines_of document.now).0 (lines_of report.now).0 }
 {
+    if document == report {
+        return Verdict::Legal;
+    }
     let mut left = document;
     let mut right = report;
     let mut n = 1;

@@ -14,7 +14,7 @@ use crate::compared::compared;
 use report_reader::{Document, DocumentError, read_document};
 use rt_base::{Name, Names, OutOfMemory};
 use run_report::{compile_head, report_with_items};
-use serial_replay::{ReplayError, replay};
+use serial_replay::{ReplayError, last_items};
 use set_admission::{AdmitError, AdmittedSet, admit, admitted_unless_refused};
 use std::alloc::Global;
 use step_journal::Entry;
@@ -88,11 +88,11 @@ fn judge_entries(
     ensures { IfOk result (IsVerdict bytes.now) }
 {
     set.is_compiled();
-    match replay(alloc, set, entries) {
+    match last_items(alloc, set, entries) {
         Err(ReplayError::OutOfMemory) => Err(OutOfMemory),
         Err(ReplayError::NotLegal { index }) => Ok(Verdict::NotALegalStep { n: first + index }),
-        Ok(replayed) => {
-            let text = report_with_items(alloc, names, set, bounds, entries, &replayed.items)?;
+        Ok(items) => {
+            let text = report_with_items(alloc, names, set, bounds, entries, &items)?;
             Ok(compared(names, bytes, &text))
         }
     }

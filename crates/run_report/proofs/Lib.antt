@@ -1,5 +1,4 @@
 pub mod BoundLines
-pub mod Fronts
 pub mod HeadSets
 pub mod Instants
 pub mod LegalLines

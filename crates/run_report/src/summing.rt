@@ -1,14 +1,12 @@
 //! The summary of a history.
 ghost use Rattle.std.specs.Prelude.{◌≡◌, ◌+◌, ◌≤◌, ◌++◌, length, vec_len, vec_capacity, codes, IfOk, OnOk};
 ghost use Rattle.step_journal.specs.History.{IsLegal};
-ghost use Rattle.job_rows.specs.Rows.{job_rows};
 ghost use Rattle.run_report.specs.Summary.{counted, jobs_line, entries_line, last_line, summary_of};
 
 use crate::counts::{Ends, Kinds, count_ends, count_kinds, last_instant, longest_delay};
-use crate::whole::planned;
-use job_rows::{JobRow, JobRows};
+use job_rows::rows_of;
 use line_fields::{put, put_field, put_unsigned};
-use rt_base::{List, OutOfMemory, Tick};
+use rt_base::{OutOfMemory, Tick};
 use std::alloc::Global;
 use step_journal::Entry;
 use txn_set::CompiledSet;
@@ -62,18 +60,6 @@ fn add_last(into: &mut Vec<u8>, now: Tick, longest: Tick) -> Result<(), OutOfMem
     put_count(into, b"longest-delay", longest);
     put(into, b"\n");
     Ok(())
-}
-
-// The rows of the jobs of a legal history.
-fn rows_of(alloc: Global, set: &CompiledSet, entries: &[Entry]) -> Result<List<JobRow>, OutOfMemory>
-    requires { IsLegal set.now entries.now }
-    ensures { IfOk result (λ rows. rows ≡ job_rows set.now entries.now) }
-{
-    let mut rows = JobRows::with_room(alloc, set, planned(entries))?;
-    for i in 0..entries.len() {
-        rows.push(entries[i]);
-    }
-    Ok(rows.into_rows())
 }
 
 /// The summary of a legal history: how many jobs ended and how, how many entries of each kind there are, the last instant,

@@ -3,31 +3,19 @@ ghost use Rattle.std.specs.Prelude.{◌≡◌, ◌≤◌, ◌++◌, ◌∷◌, [
 ghost use Rattle.txn_set.specs.Set.{Set};
 ghost use Rattle.step_journal.specs.declared.entry.Entry.{Entry as Noted};
 ghost use Rattle.step_journal.specs.History.{IsLegal, state_of};
-ghost use Rattle.job_rows.specs.Upkeep.{Follows, planned_jobs};
+ghost use Rattle.job_rows.specs.Upkeep.{Follows};
 ghost use Rattle.report_lines.specs.Texts.{NamesSet, whole_entry_line};
 ghost use Rattle.run_report.specs.Report.{Writes, report_of};
 
 use crate::writer::ReportWriter;
 use item_model::Items;
+use job_rows::planned;
 use rt_base::{Names, OutOfMemory};
-use serial_replay::{ReplayError, replay};
+use serial_replay::{ReplayError, last_items};
 use set_admission::AdmittedSet;
 use std::alloc::Global;
 use step_journal::Entry;
 use txn_set::CompiledSet;
-
-/// How many jobs the entries plan.
-pub fn planned(entries: &[Entry]) -> usize
-    ensures { result ≡ planned_jobs entries.now }
-{
-    let mut count = 0;
-    for entry in entries {
-        if let Entry::Planned { .. } = *entry {
-            count += 1;
-        }
-    }
-    count
-}
 
 fn add_next(
     writer: &mut ReportWriter,
@@ -59,8 +47,8 @@ pub fn report(
     requires legal { IsLegal set.now entries.now }
     ensures { IfOk result (λ text. text.items ≡ report_of names.now set.now (is_some bounds.entry) entries.now) }
 {
-    match replay(alloc, set, entries) {
-        Ok(replayed) => { report_with_items(alloc, names, set, bounds, entries, &replayed.items) }
+    match last_items(alloc, set, entries) {
+        Ok(items) => report_with_items(alloc, names, set, bounds, entries, &items),
         Err(ReplayError::OutOfMemory) => Err(OutOfMemory),
         Err(ReplayError::NotLegal { .. }) => unreachable!(),
     }

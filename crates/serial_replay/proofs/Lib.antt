@@ -3,4 +3,4 @@ mod Same
 mod Agains
 mod Replayed
 mod Spans
-mod Released
+pub mod Released

@@ -51,7 +51,7 @@ use Rattle.job_rows.proofs.Going.{next_legal, state_next}
 use Rattle.job_rows.specs.declared.row.Delay.{Delay}
 use Rattle.job_rows.specs.Rows.{delay_by, delay_of}
 use Rattle.serial_replay.specs.Spans.{ticks_of, release_in, ends_at, ends_of, end_in, delay_between, AreEarly}
-use Rattle.serial_replay.proofs.Agains.{front_legal}
+use Rattle.job_rows.proofs.Fronts.{front_legal}
 
 -- places of longer lists
 

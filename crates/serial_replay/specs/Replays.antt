@@ -16,7 +16,6 @@ use Rattle.fresh_laws.specs.Ages.{IsAdmitted, age_bound}
 use Rattle.fresh_laws.specs.Freshness.{EndsAreFresh}
 use Rattle.job_rows.specs.declared.row.JobRow.{JobRow}
 use Rattle.job_rows.specs.Rows.{job_rows}
-use Rattle.job_rows.specs.Upkeep.{RowsSeen, Follows}
 use Rattle.serial_replay.specs.declared.serial.ReplayError.{ReplayError}
 use Rattle.serial_replay.specs.declared.serial.ReplayError.TheVariants.{NotLegal, OutOfMemory}
 
@@ -28,10 +27,10 @@ pub record IsFirstIllegal (set : Set) (entries : List Entry) (index : ℕ) : Typ
   pub not_with : ¬ IsLegal set (take index entries ++ entry ∷ [])
   pub not_all : ¬ IsLegal set entries
 
--- A board stands for the entries, and the rows are theirs.
-pub record HasReplayed (set : Set) (stands : List Entry → Type 0) (rows : RowsSeen) (entries : List Entry) : Type 0 where
+-- The entries are a legal history, and a board stands for them.
+pub record HasReplayed (set : Set) (stands : List Entry → Type 0) (entries : List Entry) : Type 0 where
   pub board : stands entries
-  pub follows : Follows set rows entries
+  pub legal : IsLegal set entries
 
 -- The entries are a legal history. Its replies and items are those of its ended jobs run alone in order of ending, and a
 -- pending job has the replies that it gets alone on the present items. One lower job at most delays a job, for no more than

@@ -1,14 +1,12 @@
 //! The calls of a history made again on a board.
-ghost use Rattle.std.specs.Prelude.{◌≡◌, ◌<◌, ◌≤◌, [], ℕ, List as Many, length, nat_lt, Some, IsTrue, ◌↔◌, MatchOption, vec_capacity};
+ghost use Rattle.std.specs.Prelude.{◌≡◌, ◌<◌, [], ℕ, List as Many, length, nat_lt, Some, IsTrue, ◌↔◌, MatchOption, vec_capacity};
 ghost use Rattle.step_journal.specs.declared.entry.Entry.{Entry as Noted};
 ghost use Rattle.step_journal.specs.Step.{plan as planning, ask as asking, idle as idling, step};
 ghost use Rattle.step_journal.specs.History.{event_of, entry_given, state_of};
 ghost use Rattle.board.specs.Stories.{noted, now_of, step_entry};
-ghost use Rattle.job_rows.specs.Upkeep.{Follows, planned_jobs};
 ghost use Rattle.serial_replay.specs.Replays.{IsFirstIllegal, HasReplayed};
 
 use board::{Board, IdleReply, StepReply, answers_are_steps};
-use job_rows::JobRows;
 use rt_base::{JobId, Op, Tick, TxId};
 use step_journal::Entry;
 
@@ -116,41 +114,20 @@ fn is_this(made: Option<Entry>, entry: Entry) -> bool
     made == Some(entry)
 }
 
-/// How many jobs the entries plan.
-pub fn planned(entries: &[Entry]) -> usize
-    ensures { result ≡ planned_jobs entries.now }
-{
-    let mut count = 0;
-    for entry in entries {
-        if let Entry::Planned { .. } = *entry {
-            count += 1;
-        }
-    }
-    count
-}
-
-/// Makes the call of each entry again on a new board, and keeps the rows up. The answer is the index of the first entry
-/// that the board does not make so, if there is one. The board keeps one entry at a time.
-pub fn again<B: Board>(
-    board: &mut B,
-    rows: &mut JobRows,
-    entries: &[Entry],
-    spare: &mut Vec<Entry>,
-) -> Option<usize>
+/// Makes the call of each entry again on a new board. The answer is the index of the first entry that the board does not make
+/// so, if there is one. The board keeps one entry at a time.
+pub fn again<B: Board>(board: &mut B, entries: &[Entry], spare: &mut Vec<Entry>) -> Option<usize>
     requires stands { B.stands board.old [] }
     requires room { 0 < B.room board.old }
-    requires rows { Follows (B.set board.old) rows.old [] }
-    requires places { planned_jobs entries.now ≤ rows.old.room }
     requires spare { 0 < vec_capacity spare.old }
     ensures set { B.set board.new ≡ B.set board.old }
-    ensures answer { MatchOption result (HasReplayed (B.set board.old) (B.stands board.new) rows.new entries.now) (IsFirstIllegal (B.set board.old) entries.now) }
+    ensures answer { MatchOption result (HasReplayed (B.set board.old) (B.stands board.new) entries.now) (IsFirstIllegal (B.set board.old) entries.now) }
 {
     spare.clear();
     for (i, entry) in entries.iter().enumerate() {
         if !is_this(made(board, *entry), *entry) {
             return Some(i);
         }
-        rows.push(*entry);
         board.drain(1, spare);
         spare.clear();
     }

@@ -8,7 +8,4 @@ mod serial;
 
 pub use job_rows::{Delay, JobRow};
 pub use one_job::delay;
-pub use serial::{ReplayError, SerialResult, replay};
-
-#[cfg(test)]
-mod tests;
+pub use serial::{ReplayError, SerialResult, last_items, replay};

@@ -1,14 +1,15 @@
 //! Replay: whether entries are a legal history, and what its jobs come to.
 ghost use Rattle.std.specs.Prelude.{◌≡◌, ◌<◌, [], IfOk, IfErr, vec_capacity};
+ghost use Rattle.step_journal.specs.History.{IsLegal, state_of};
 ghost use Rattle.lock_core.specs.Stands.{Stands};
 ghost use Rattle.serial_replay.specs.Replays.{IsReplayed, Explains};
 
-use crate::again::{again, planned};
+use crate::again::again;
 use board::Board;
 use fresh_laws::freshness;
 use history_laws::{one_delay, pending_replies, serial_replies};
 use item_model::Items;
-use job_rows::{JobRow, JobRows};
+use job_rows::{JobRow, rows_of};
 use lock_core::Core;
 use rt_base::{List, OutOfMemory};
 use std::alloc::Global;
@@ -43,8 +44,27 @@ impl From<OutOfMemory> for ReplayError {
     }
 }
 
-/// Replays entries, any: it makes each call again on a board of its own, so that it costs what the run did. Ok comes exactly
-/// where they are a legal history of the set, but for want of memory.
+/// The items after entries, any, which are those of the ended jobs run alone in order of ending: it makes each call again on a
+/// board of its own, so that it costs what the run did. Ok comes exactly where the entries are a legal history of the set, but
+/// for want of memory.
+pub fn last_items(alloc: Global, set: &CompiledSet, entries: &[Entry]) -> Result<Items, ReplayError>
+    ensures legal { IfOk result (λ _. IsLegal set.now entries.now) }
+    ensures items { IfOk result (λ items. items ≡ (state_of set.now entries.now).items) }
+    ensures err { IfErr result (Explains set.now entries.now) }
+{
+    let mut spare = one_place(alloc)?;
+    let mut board = new_board(alloc, set)?;
+    match again(&mut board, entries, &mut spare) {
+        Some(index) => Err(ReplayError::NotLegal { index }),
+        None => {
+            let (items, _) = board.into_parts();
+            Ok(items)
+        }
+    }
+}
+
+/// Replays entries, any: what `last_items` does, and then the rows of the jobs. Ok comes exactly where the entries are a legal
+/// history of the set, but for want of memory.
 pub fn replay(
     alloc: Global,
     set: &CompiledSet,
@@ -54,23 +74,13 @@ pub fn replay(
     ensures err { IfErr result (Explains set.now entries.now) }
 {
     set.is_compiled();
-    let mut rows = JobRows::with_room(alloc, set, planned(entries))?;
-    let mut spare = one_place(alloc)?;
-    let mut board = new_board(alloc, set)?;
-    match again(&mut board, &mut rows, entries, &mut spare) {
-        Some(index) => Err(ReplayError::NotLegal { index }),
-        None => {
-            serial_replies();
-            pending_replies();
-            one_delay();
-            freshness();
-            let (items, _) = board.into_parts();
-            Ok(SerialResult {
-                items,
-                jobs: rows.into_rows(),
-            })
-        }
-    }
+    serial_replies();
+    pending_replies();
+    one_delay();
+    freshness();
+    let items = last_items(alloc, set, entries)?;
+    let jobs = rows_of(alloc, set, entries)?;
+    Ok(SerialResult { items, jobs })
 }
 
 // A board of the set at the opening state.

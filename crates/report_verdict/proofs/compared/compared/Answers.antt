@@ -1,8 +1,11 @@
 use Rattle.std.proofs.Common.{◌≡◌, ◌∙◌, ◌+◌, ◌≤◌, length, Some, sym, rules, arith}
 use Rattle.line_fields.specs.Cuts.{cut_at}
 use Rattle.report_head.proofs.PieceLaws.{shorter}
-use Rattle.report_verdict.proofs.Comparing.{from_line, goes_on, differs, report_over, document_over}
+use Rattle.report_verdict.proofs.Comparing.{from_line, goes_on, differs, report_over, document_over, same_text}
 use Rattle.report_verdict.proofs.compared.compared.Goals as goal
+
+pub returns-then-eq : goal.returns-then-eq
+returns-then-eq c = same_text c.args.names.now c.args.document.now c.args.report.now (search rules)
 
 pub returns-in_default-cut : goal.returns-in_default-cut
 returns-in_default-cut c =

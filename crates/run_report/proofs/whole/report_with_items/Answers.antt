@@ -10,7 +10,7 @@ use Rattle.job_rows.specs.Upkeep.{Follows}
 use Rattle.report_lines.specs.Texts.{whole_entry_line, entries_text}
 use Rattle.report_lines.proofs.RowLaws.{next_row, all_rows}
 use Rattle.run_report.specs.Report.{opening_text, closing_text}
-use Rattle.run_report.proofs.Fronts.{next_legal, next_fits}
+use Rattle.job_rows.proofs.Fronts.{next_legal, next_fits}
 use Rattle.run_report.proofs.whole.report_with_items.Goals as goal
 
 abbrev filler : Entry

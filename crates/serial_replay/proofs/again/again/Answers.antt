@@ -6,8 +6,7 @@ use Rattle.step_journal.specs.declared.entry.Entry.TheVariants.{Planned}
 use Rattle.step_journal.specs.Step.{step}
 use Rattle.step_journal.specs.History.{event_of, entry_given, IsLegal, state_of}
 use Rattle.board.specs.Stories.{noted}
-use Rattle.job_rows.specs.Upkeep.{Follows}
-use Rattle.serial_replay.proofs.Agains.{first_illegal, planned_fit, drained}
+use Rattle.serial_replay.proofs.Agains.{first_illegal, drained}
 use Rattle.serial_replay.proofs.again.again.Goals as goal
 
 abbrev filler : Entry
@@ -27,22 +26,6 @@ returns-then-not-is_this-clause-answer g c =
     first_illegal (g.B.Board.set c.args.board.now) c.args.entries.now c.loop-i.i filler c.loop-i-test.true legal
     (λ so. clash c.is_this.result (c.is_this.ensures.1 (made ∙ so)) c.if-not-is_this.true)
 
-pub push-requires : goal.push-requires
-push-requires g c =
-    let inv = c.loop-i.invariant in
-    let story : List Entry = take c.loop-i.i c.args.entries.now in
-    let e : Entry = get_or c.args.entries.now c.loop-i.i filler in
-    let made : c.made.result ≡ Some e = c.is_this.ensures.0 c.if-not-is_this.false in
-    let stands = subst (λ (o : Option Entry). g.B.Board.stands c.made.new.board (noted story o)) made (c.made.ensures.after story inv.stands) in
-    let is = g.met.B.Board.is_story c.made.new.board (story ++ e ∷ []) stands in
-    record {
-      set = g.B.Board.set c.args.board.now;
-      story = story;
-      follows = inv.rows;
-      legal = subst (λ (s : Set). IsLegal s (story ++ e ∷ [])) (c.made.ensures.fixed.0 ∙ inv.set) is.legal;
-      fits = omega (arith, planned_fit c.args.entries.now c.loop-i.i filler c.args.rows.now.room c.loop-i-test.true c.requires.places, inv.places);
-    }
-
 pub loop-i-preserved : goal.loop-i-preserved
 loop-i-preserved g c =
     let inv = c.loop-i.invariant in
@@ -53,7 +36,6 @@ loop-i-preserved g c =
     let stands = subst (λ (o : Option Entry). g.B.Board.stands c.made.new.board (noted story o)) made (c.made.ensures.after story inv.stands) in
     let was = g.met.B.Board.is_story c.loop-i.board story inv.stands in
     let is = g.met.B.Board.is_story c.made.new.board (story ++ e ∷ []) stands in
-    let legal = subst (λ (s : Set). IsLegal s (story ++ e ∷ [])) (c.made.ensures.fixed.0 ∙ inv.set) is.legal in
     let one : length (g.B.Board.kept c.made.new.board) ≡ 1 = omega (arith, was.counted, is.counted, c.made.ensures.fixed.2, ap length inv.kept, length-append story (e ∷ [])) in
     let free : 0 < vec_capacity c.loop-i.spare - vec_len c.loop-i.spare = omega (arith, inv.place, ap length inv.spare, c.loop-i.spare.ok.0) in
     record {
@@ -61,8 +43,6 @@ loop-i-preserved g c =
       set = c.drain.ensures.fixed.0 ∙ (c.made.ensures.fixed.0 ∙ inv.set);
       room = c.drain.ensures.fixed.1 ∙ (c.made.ensures.fixed.1 ∙ inv.room);
       kept = c.drain.ensures.left ∙ drained (g.B.Board.kept c.made.new.board) c.drain.result _ one free c.drain.ensures.count;
-      rows = subst (Follows (g.B.Board.set c.args.board.now) c.push.new.self) (sym more) (c.push.ensures.follows (g.B.Board.set c.args.board.now) story inv.rows legal);
-      places = c.push.ensures.room ∙ inv.places;
       spare = c.clear-in-loop-i.ensures.items;
       place = omega (arith, c.clear-in-loop-i.ensures.capacity, c.drain.ensures.places, inv.place);
     }

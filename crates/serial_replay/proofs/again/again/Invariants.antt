@@ -1,5 +1,4 @@
 use Rattle.std.proofs.Common.{◌≡◌, ◌<◌, [], take, vec_capacity}
-use Rattle.job_rows.specs.Upkeep.{Follows}
 use Rattle.serial_replay.proofs.again.again.Given as goal
 
 abbrev pub invariant-loop-i : goal.invariant-loop-i
@@ -8,8 +7,6 @@ invariant-loop-i g l = record {
   set : g.B.Board.set l.board ≡ g.B.Board.set l.fn.board;
   room : g.B.Board.room l.board ≡ g.B.Board.room l.fn.board;
   kept : g.B.Board.kept l.board ≡ [];
-  rows : Follows (g.B.Board.set l.fn.board) l.rows (take l.i l.entries);
-  places : l.rows.room ≡ l.fn.rows.room;
   spare : l.spare.items ≡ [];
   place : 0 < vec_capacity l.spare;
 }

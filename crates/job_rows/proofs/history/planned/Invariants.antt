@@ -1,6 +1,6 @@
 use Rattle.std.proofs.Common.{◌≡◌, ◌+◌, ◌≤◌, drop}
 use Rattle.job_rows.specs.Upkeep.{planned_jobs}
-use Rattle.serial_replay.proofs.again.planned.Given as goal
+use Rattle.job_rows.proofs.history.planned.Given as goal
 
 abbrev pub invariant-loop-entry : goal.invariant-loop-entry
 invariant-loop-entry l = record {

@@ -3,8 +3,8 @@ use Rattle.std.proofs.lemmas.List.{take_more, take_all}
 use Rattle.step_journal.specs.declared.entry.Entry.{Entry}
 use Rattle.step_journal.specs.declared.entry.Entry.TheVariants.{Planned}
 use Rattle.job_rows.specs.Upkeep.{Follows}
-use Rattle.run_report.proofs.Fronts.{next_legal, next_fits}
-use Rattle.run_report.proofs.summing.rows_of.Goals as goal
+use Rattle.job_rows.proofs.Fronts.{next_legal, next_fits}
+use Rattle.job_rows.proofs.history.rows_of.Goals as goal
 
 abbrev filler : Entry
 filler = Planned (record { 0 = 0 }) 0

@@ -1,6 +1,6 @@
 use Rattle.std.proofs.Common.{◌≡◌, take}
 use Rattle.job_rows.specs.Upkeep.{Follows, planned_jobs}
-use Rattle.run_report.proofs.summing.rows_of.Given as goal
+use Rattle.job_rows.proofs.history.rows_of.Given as goal
 
 abbrev pub invariant-loop-i : goal.invariant-loop-i
 invariant-loop-i l = record {
