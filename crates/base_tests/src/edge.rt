@@ -1,12 +1,10 @@
-//! What no clause says: ends, limits and faults by outside examples, each generic call at a concrete type, and what a
-//! caller learns from the contracts alone.
-ghost use Rattle.std.specs.Prelude.{◌≡◌, IfOk, IsErrOf, length, ◌≤◌};
+//! Sources and sinks: ends, limits and faults, and what a caller learns from the contracts alone.
+ghost use Rattle.std.specs.Prelude.{◌≡◌, IfOk, IsErrOf};
 
 use io_edge::{MemSink, MemSource, ReadError, StdSink, StdSource, SureSource, read_all, write_all};
 use rt_base::OutOfMemory;
 use std::alloc::{AllocError, Global};
 use std::io::{self, ErrorKind, Read, Write};
-use std::test::Fail;
 
 // A source that never fails is read whole, and no fault of reading comes.
 fn read_sure(alloc: Global, bytes: Vec<u8>, limit: usize) -> Result<Vec<u8>, ReadError>
@@ -15,6 +13,13 @@ fn read_sure(alloc: Global, bytes: Vec<u8>, limit: usize) -> Result<Vec<u8>, Rea
 {
     let mut source = SureSource::new(bytes);
     read_all(alloc, &mut source, limit)
+}
+
+/// What comes of a source that never fails, up to a limit.
+pub fn sure_text(alloc: Global, text: &str, limit: usize) -> Option<String> {
+    let bytes = text.as_bytes().to_vec(alloc).ok()?;
+    let read = read_sure(alloc, bytes, limit);
+    format!(in alloc; "{read:?}").ok()
 }
 
 // How many bytes came of so many, and how many came in a second call after that.
@@ -30,79 +35,30 @@ fn read_twice(
     Ok((first, second))
 }
 
-#[test]
-fn reads(rt: HostRuntime) -> Result<(), Fail> {
-    let alloc = rt.alloc();
-    assert_eq!(rt;
-        read_sure(alloc, b"abc".to_vec(alloc)?, 3)?.as_slice(),
-        b"abc".as_slice()
-    );
-    assert_eq!(rt;
-        read_sure(alloc, b"abcd".to_vec(alloc)?, 3).err(),
-        Some(ReadError::TooLong)
-    );
-    let none: &[u64] = &[];
-    for (len, limit, failing, first, second) in [
-        (0, 0, none, Ok(0), Ok(0)),
-        (1, 0, none, Err(ReadError::TooLong), Ok(0)),
-        (5000, 5000, none, Ok(5000), Ok(0)),
-        (5000, 4999, none, Err(ReadError::TooLong), Ok(0)),
-        (4096, 4096, none, Ok(4096), Ok(0)),
-        (5000, usize::MAX, none, Ok(5000), Ok(0)),
-        (5000, 5000, &[1], Err(ReadError::ReadFault), Ok(904)),
-        (5000, 5000, &[2], Err(ReadError::ReadFault), Ok(0)),
-        (
-            5000,
-            5000,
-            &[0, 1],
-            Err(ReadError::ReadFault),
-            Err(ReadError::ReadFault),
-        ),
-    ] {
-        let got = read_twice(alloc, len, limit, failing)?;
-        assert!(rt;
-            got.0 == first && got.1 == second,
-            "{len} bytes, limit {limit}"
-        );
-    }
-    Ok(())
+/// How many bytes two calls read of so many, up to a limit, where the calls of these numbers fail.
+pub fn read_text(alloc: Global, len: usize, limit: usize, failing: &[u64]) -> Option<String> {
+    let (first, second) = read_twice(alloc, len, limit, failing).ok()?;
+    format!(in alloc; "{first:?}, then {second:?}").ok()
 }
 
-// Whether so many bytes were all taken, and how many were taken, at 10 a call.
-fn written(
+/// Whether the bytes were all taken by a sink with this room that takes at most so many a call and fails at these calls, and
+/// what it has.
+pub fn write_text(
     alloc: Global,
-    len: usize,
+    bytes: &[u8],
     room: usize,
+    most: usize,
     failing: &[u64],
-) -> Result<(bool, usize), OutOfMemory> {
-    let bytes = vec![in alloc; 7; len]?;
-    let mut sink = MemSink::new(alloc, room, 10, failing.to_vec(alloc)?)?;
-    let all = write_all(&mut sink, &bytes).is_ok();
-    Ok((all, sink.bytes().len()))
-}
-
-#[test]
-fn writes(rt: HostRuntime) -> Result<(), Fail> {
-    let alloc = rt.alloc();
-    let none: &[u64] = &[];
-    for (len, room, failing, want) in [
-        (0, 0, none, (true, 0)),
-        (25, 100, none, (true, 25)),
-        (25, 25, none, (true, 25)),
-        (25, 24, none, (false, 24)),
-        (25, 0, none, (false, 0)),
-        (25, 100, &[2], (false, 20)),
-        (25, 100, &[3], (true, 25)),
-    ] {
-        let got = written(alloc, len, room, failing).ok().ok_or("memory")?;
-        assert!(rt; got == want, "{len} bytes, room {room}");
+) -> Option<String> {
+    if most == 0 {
+        return None;
     }
-    let mut sink = MemSink::new(alloc, 12, 5, Vec::new(alloc))
-        .ok()
-        .ok_or("memory")?;
-    assert!(rt; write_all(&mut sink, b"hello world!").is_ok());
-    assert_eq!(rt; sink.bytes(), b"hello world!".as_slice());
-    Ok(())
+    let failing = failing.to_vec(alloc).ok()?;
+    let mut sink = MemSink::new(alloc, room, most, failing).ok()?;
+    let all = write_all(&mut sink, bytes).is_ok();
+    let taken = sink.bytes();
+    let (count, same) = (taken.len(), taken == bytes);
+    format!(in alloc; "all {all}, {count} taken, as they were {same}").ok()
 }
 
 // One byte, then an error, and then the end.
@@ -124,21 +80,14 @@ impl Read for Broken {
     }
 }
 
-#[test]
-fn reads_std(rt: HostRuntime) -> Result<(), Fail> {
-    let alloc = rt.alloc();
-    let mut source = StdSource::new(b"abc".as_slice());
-    assert_eq!(rt;
-        read_all(alloc, &mut source, 3)?.as_slice(),
-        b"abc".as_slice()
-    );
+/// What comes of a reader over the text, and of two reads of one that fails after a byte.
+pub fn readers_text(alloc: Global, text: &str) -> Option<String> {
+    let mut source = StdSource::new(text.as_bytes());
+    let whole = read_all(alloc, &mut source, 3);
     let mut broken = StdSource::new(Broken(0));
-    assert_eq!(rt;
-        read_all(alloc, &mut broken, 3).err(),
-        Some(ReadError::ReadFault)
-    );
-    assert_eq!(rt; read_all(alloc, &mut broken, 3)?.len(), 0);
-    Ok(())
+    let first = read_all(alloc, &mut broken, 3);
+    let second = read_all(alloc, &mut broken, 3);
+    format!(in alloc; "{whole:?}, {first:?}, {second:?}").ok()
 }
 
 // Takes 3 bytes a call while it has room, and then none. It counts its flushes.
@@ -163,23 +112,21 @@ impl Write for Narrow {
     }
 }
 
-#[test]
-fn writes_std(rt: HostRuntime) -> Result<(), Fail> {
-    let alloc = rt.alloc();
+/// What a writer over a list takes of a text, and what one takes that has this room and takes 3 bytes a call: whether all,
+/// how many, and with how many flushes.
+pub fn writers_text(alloc: Global, text: &str, room: usize) -> Option<String> {
     let mut bytes = Vec::new(alloc);
-    assert!(rt; write_all(&mut StdSink::new(&mut bytes), b"abc").is_ok());
-    assert_eq!(rt; bytes.as_slice(), b"abc".as_slice());
-    for (room, all, taken, flushes) in [(8, true, 7, 3), (7, true, 7, 3), (6, false, 6, 3)] {
-        let mut narrow = Narrow {
-            room,
-            taken: 0,
-            flushes: 0,
-        };
-        assert!(rt; write_all(&mut StdSink::new(&mut narrow), b"abcdefg").is_ok() == all);
-        assert!(rt;
-            narrow.taken == taken && narrow.flushes == flushes,
-            "room {room}"
-        );
-    }
-    Ok(())
+    let all = write_all(&mut StdSink::new(&mut bytes), text.as_bytes()).is_ok();
+    let same = bytes.as_slice() == text.as_bytes();
+    let mut said = format!(in alloc; "all {all} {same}; ").ok()?;
+    let mut narrow = Narrow {
+        room,
+        taken: 0,
+        flushes: 0,
+    };
+    let all = write_all(&mut StdSink::new(&mut narrow), text.as_bytes()).is_ok();
+    let (taken, flushes) = (narrow.taken, narrow.flushes);
+    let more = format!(in alloc; "all {all}, {taken} taken, {flushes} flushes").ok()?;
+    said.push_str(more.as_str()).ok()?;
+    Some(said)
 }

@@ -1,41 +1,60 @@
-//! What no clause says: outside examples of values, a script's operations from its first call on, and a script over more
-//! items than memory has places.
-use rt_base::{ItemId, Op, Outcome};
-use std::test::Fail;
+//! Scripts: values, the operations from the first call on, and a script over more items than memory has places.
+use rt_base::{ItemId, Op, OutOfMemory, Outcome, Value};
+use std::alloc::Global;
 use step_script::{BinOp, Body, Expr, Script, ScriptOp};
 
-#[test]
-fn values(rt: HostRuntime) -> Result<(), Fail> {
-    let alloc = rt.alloc();
-    let most = i64::MAX;
-    let rows = [
-        (BinOp::Add, most, 1, most),
-        (BinOp::Sub, i64::MIN, 1, i64::MIN),
-        (BinOp::Mul, most, 2, most),
-        (BinOp::Div, -7, 2, -3),
-        (BinOp::Div, 5, 0, 0),
-        (BinOp::Div, i64::MIN, -1, most),
-        (BinOp::Min, 5, 3, 3),
-        (BinOp::Max, 5, -3, 5),
-    ];
-    for (op, a, b, want) in rows {
-        let expr = Expr::Bin(
-            op,
-            Box::new(alloc, Expr::Const(a))?,
-            Box::new(alloc, Expr::Const(b))?,
-        );
-        let ops = vec![in alloc; ScriptOp::Write(ItemId(0), expr)]?;
-        let script = Script::new(alloc, ops, Vec::new(alloc), 1)
-            .ok()
-            .ok_or("memory")?;
-        assert_eq!(rt; script.next(), Op::Write(ItemId(0), want));
+fn operator(word: &str) -> Option<BinOp> {
+    match word {
+        "add" => Some(BinOp::Add),
+        "sub" => Some(BinOp::Sub),
+        "mul" => Some(BinOp::Mul),
+        "div" => Some(BinOp::Div),
+        "min" => Some(BinOp::Min),
+        "max" => Some(BinOp::Max),
+        _ => None,
     }
-    Ok(())
 }
 
-#[test]
-fn operations(rt: HostRuntime) -> Result<(), Fail> {
-    let alloc = rt.alloc();
+fn of_two(alloc: Global, op: BinOp, a: Value, b: Value) -> Result<Op, OutOfMemory> {
+    let expr = Expr::Bin(
+        op,
+        Box::new(alloc, Expr::Const(a))?,
+        Box::new(alloc, Expr::Const(b))?,
+    );
+    let ops = vec![in alloc; ScriptOp::Write(ItemId(0), expr)]?;
+    let script = Script::new(alloc, ops, Vec::new(alloc), 1)?;
+    Ok(script.next())
+}
+
+/// What a script that writes the value of an operator and two constants asks for.
+pub fn value_text(alloc: Global, text: &str) -> Option<String> {
+    let (word, rest) = text.split_once(' ')?;
+    let (a, b) = rest.split_once(' ')?;
+    let (a, b) = (a.parse::<i64>().ok()?, b.parse::<i64>().ok()?);
+    let op = of_two(alloc, operator(word)?, a, b).ok()?;
+    format!(in alloc; "{op:?}").ok()
+}
+
+// Asks for so many operations, and tells the value 9 of each read.
+fn asked(alloc: Global, script: &mut Script, count: usize) -> Result<Vec<Op>, OutOfMemory> {
+    let mut ops = Vec::new(alloc);
+    for _ in 0..count {
+        let op = script.next();
+        ops.push(op)?;
+        script.told(match op {
+            Op::Read(_) => Outcome::Got {
+                value: 9,
+                stamp: None,
+            },
+            Op::Write(_, _) => Outcome::Put,
+            Op::Compute => Outcome::Computed,
+            _ => Outcome::Closed,
+        });
+    }
+    Ok(ops)
+}
+
+fn of_five(alloc: Global) -> Result<Script, OutOfMemory> {
     let ops = vec![in alloc;
         ScriptOp::Read(ItemId(0)),
         ScriptOp::Compute(2),
@@ -44,40 +63,26 @@ fn operations(rt: HostRuntime) -> Result<(), Fail> {
         ScriptOp::Commit,
     ]?;
     let samples = vec![in alloc; 5, 7]?;
-    let mut script = Script::new(alloc, ops, samples, 2).ok().ok_or("memory")?;
-    let got = Outcome::Got {
-        value: 9,
-        stamp: None,
-    };
-    // before the first begin as after begin(0); past the end of the samples the last one
-    for (begun, sample) in [(None, 5), (Some(1), 7), (Some(4), 7)] {
-        if let Some(serial) = begun {
-            script.begin(serial);
-        }
-        let told = [
-            (Op::Read(ItemId(0)), got),
-            (Op::Compute, Outcome::Computed),
-            (Op::Compute, Outcome::Computed),
-            (Op::Write(ItemId(1), 9), Outcome::Put),
-            (Op::Write(ItemId(1), sample), Outcome::Put),
-            (Op::Commit, Outcome::Closed),
-            (Op::Compute, Outcome::Computed),
-            (Op::Compute, Outcome::Computed),
-        ];
-        for (op, outcome) in told {
-            assert_eq!(rt; script.next(), op);
-            script.told(outcome);
-        }
-    }
-    assert_eq!(rt; script.ops().len(), 5);
-    assert_eq!(rt; script.samples(), [5, 7].as_slice());
-    Ok(())
+    Script::new(alloc, ops, samples, 2)
 }
 
-// The items that are read count, in whatever order and however often, and not those that there are.
-#[test]
-fn many_items(rt: HostRuntime) -> Result<(), Fail> {
-    let alloc = rt.alloc();
+/// The first eight operations of a script before the first begin, and after a begin with the serials 1 and 4.
+pub fn operations(alloc: Global) -> Result<[Vec<Op>; 3], OutOfMemory> {
+    let mut script = of_five(alloc)?;
+    let first = asked(alloc, &mut script, 8)?;
+    script.begin(1);
+    let second = asked(alloc, &mut script, 8)?;
+    script.begin(4);
+    Ok([first, second, asked(alloc, &mut script, 8)?])
+}
+
+/// How many operations and samples a script has.
+pub fn parts(alloc: Global) -> Result<(usize, Vec<Value>), OutOfMemory> {
+    let script = of_five(alloc)?;
+    Ok((script.ops().len(), script.samples().to_vec(alloc)?))
+}
+
+fn of_many(alloc: Global) -> Result<Script, OutOfMemory> {
     let last = u32::MAX;
     let ops = vec![in alloc;
         ScriptOp::Read(ItemId(last)),
@@ -87,16 +92,15 @@ fn many_items(rt: HostRuntime) -> Result<(), Fail> {
         ScriptOp::Write(ItemId(0), Expr::Last(ItemId(3))),
         ScriptOp::Write(ItemId(0), Expr::Last(ItemId(4))),
     ]?;
-    let mut script = Script::new(alloc, ops, Vec::new(alloc), usize::MAX)
-        .ok()
-        .ok_or("memory")?;
-    for value in [5, 6, 7] {
+    Script::new(alloc, ops, Vec::new(alloc), usize::MAX)
+}
+
+/// The operations of a script over more items than memory has places, behind three reads that got 5, 6 and 7: the items that
+/// are read count, in whatever order and however often, and not those that there are.
+pub fn many_items(alloc: Global) -> Result<Vec<Op>, OutOfMemory> {
+    let mut script = of_many(alloc)?;
+    for value in 5..8 {
         script.told(Outcome::Got { value, stamp: None });
     }
-    for want in [7, 6, 0] {
-        assert_eq!(rt; script.next(), Op::Write(ItemId(0), want));
-        script.told(Outcome::Put);
-    }
-    assert_eq!(rt; script.next(), Op::Compute);
-    Ok(())
+    asked(alloc, &mut script, 4)
 }

@@ -4,10 +4,10 @@ ghost use Rattle.std.specs.Prelude.{◌<◌};
 
 use admitted_core::AdmittedCore;
 use board::{Board, IdleReply, StepReply};
-use core_rows::{TxnRow, compiled};
 use item_model::{ItemDecl, ItemKind};
 use rt_base::{End, ItemId, JobId, Op, Outcome, Prio, Tick, TxId};
 use set_admission::{AdmittedSet, admit};
+use set_rows::{TxnRow, compiled};
 use std::alloc::Global;
 use std::test::Fail;
 use step_journal::Entry;

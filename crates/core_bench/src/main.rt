@@ -10,10 +10,10 @@ mod drive;
 mod script;
 
 use crate::drive::{Counts, Plan, drive};
-use core_rows::generated;
 use lock_core::Core;
 use plain_core::PlainCore;
 use rt_base::OutOfMemory;
+use set_rows::generated;
 use std::alloc::Global;
 use std::env;
 use std::env::Env;

@@ -8,4 +8,3 @@ pub mod Blocks
 pub mod Goes
 pub mod SlotReads
 pub mod Opens
-pub mod BaseCompiled

@@ -5,4 +5,3 @@ pub mod Checks
 pub mod Locks
 pub mod Grants
 pub mod Steps
-pub mod BaseSet

@@ -1,27 +1,15 @@
 //! The refusals that an operation can meet before the room is looked at.
 ghost use Rattle.std.specs.Prelude.{◌≡◌, ◌<◌, ◌&&◌, not, ℕ, length, is_some};
-ghost use Rattle.txn_set.specs.Set.{names_item};
 ghost use Rattle.item_model.specs.Kinds.{is_dated, validity_of_kind};
 ghost use Rattle.item_model.specs.Work.{has_written};
 ghost use Rattle.board.specs.Answers.{unwritten, unwritten_or, is_missed};
 ghost use Rattle.plain_core.specs.Checks.{early_by, checked_by};
 
 use board::StepReply;
-use plain_tables::{Work, dated};
+use item_model::is_dated;
+use plain_tables::Work;
 use rt_base::{ItemId, Op};
-use txn_set::{CompiledSet, TxnDecl};
-
-/// Whether the list has this item.
-pub fn has_item(items: &[ItemId], item: ItemId) -> bool
-    ensures { result ≡ names_item items.now item.0 }
-{
-    for i in items {
-        if *i == item {
-            return true;
-        }
-    }
-    false
-}
+use txn_set::{CompiledSet, TxnDecl, names_item};
 
 fn early(quiet: u64, used: u64, rest: StepReply) -> StepReply
     ensures { result ≡ early_by quiet used rest }
@@ -38,7 +26,7 @@ fn first_missed(set: &CompiledSet, writes: &[ItemId], work: &Work) -> Option<Ite
     ensures { result ≡ unwritten set.now writes.now work.now }
 {
     for item in writes {
-        if dated(set.items(), *item) && work.write_of(*item).is_none() {
+        if is_dated(set.items(), *item) && work.write_of(*item).is_none() {
             return Some(*item);
         }
     }
@@ -67,14 +55,14 @@ pub fn checked(
 {
     match op {
         Op::Read(item) => {
-            if has_item(txn.reads.as_slice(), item) {
+            if names_item(txn.reads.as_slice(), item) {
                 early(txn.quiet, used, rest)
             } else {
                 StepReply::Undeclared { item }
             }
         }
         Op::Write(item, _) => {
-            if has_item(txn.writes.as_slice(), item) {
+            if names_item(txn.writes.as_slice(), item) {
                 early(txn.quiet, used, rest)
             } else {
                 StepReply::Undeclared { item }

@@ -11,6 +11,3 @@ mod plans;
 mod running;
 
 pub use plain::PlainCore;
-
-#[cfg(test)]
-mod tests;

@@ -6,12 +6,11 @@ ghost use Rattle.rt_base.specs.LockRule.{stands_above as stands_above_by, upper 
 ghost use Rattle.txn_set.specs.Set.{may_read, may_write};
 ghost use Rattle.plain_core.specs.Locks.{write_by, absolute_by, writes_by, reads_by, ceiling_by, rival_by, upper_by, topmost_by, blocked_or, refused_by};
 
-use crate::checks::has_item;
 use board::StepReply;
 use item_model::{OutsideRead, OwnWrite};
 use plain_tables::{Slot, Work, prio_of};
 use rt_base::{ItemId, JobId, Prio, TxId};
-use txn_set::TxnDecl;
+use txn_set::{TxnDecl, names_item};
 
 /// A pending job as a rival for a lock: its priority, and the greatest ceiling of its locks.
 #[derive(Clone, Copy, PartialEq, Eq, Debug)]
@@ -27,7 +26,7 @@ fn write_ceiling(txns: &[TxnDecl], item: ItemId) -> Prio
 {
     let mut best = 0;
     for t in txns {
-        if has_item(t.writes.as_slice(), item) && best < t.prio {
+        if names_item(t.writes.as_slice(), item) && best < t.prio {
             best = t.prio;
         }
     }
@@ -50,7 +49,7 @@ fn absolute_ceiling(txns: &[TxnDecl], item: ItemId) -> Prio
 fn may_touch(txn: &TxnDecl, item: ItemId) -> bool
     ensures { result ≡ (may_read txn.now item.0 || may_write txn.now item.0) }
 {
-    has_item(txn.reads.as_slice(), item) || has_item(txn.writes.as_slice(), item)
+    names_item(txn.reads.as_slice(), item) || names_item(txn.writes.as_slice(), item)
 }
 
 fn greater(a: Prio, b: Prio) -> Prio

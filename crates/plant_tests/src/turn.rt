@@ -1,5 +1,5 @@
 //! A diary behind a turn, by one thread and by two.
-ghost use Rattle.std.specs.Prelude.{◌≡◌, ℕ, List, ◌+◌, ◌<◌, ◌^◌, ◌++◌, ◌∷◌, [], true, false, length, drop, vec_len, IfOk};
+ghost use Rattle.std.specs.Prelude.{◌≡◌, ℕ, List, ◌+◌, ◌<◌, ◌^◌, ◌++◌, ◌∷◌, [], true, false, length, drop, vec_len, vec_capacity, ◌≤◌, IfOk};
 
 use std::alloc::{AllocError, Global};
 use std::test::Fail;
@@ -85,6 +85,68 @@ fn try_write(cell: &TurnCell<Diary>, seat: &mut Writer, note: u8) -> Option<bool
     }
 }
 
+// One seat takes the turn, which the other then finds taken, and writes a note: what was looked at before, how often the turn
+// was missed, and what the other looks at after.
+fn noted(cell: &TurnCell<Diary>, marked: &mut Writer, other: &mut Writer) -> Option<(u64, u64, u64)>
+    requires marked { (marked.old.cell ≡ cell.now.id) × (marked.old.view.holds ≡ false) }
+    requires other { (other.old.cell ≡ cell.now.id) × (other.old.view.holds ≡ false) }
+    ensures marked { (marked.new.cell ≡ marked.old.cell) × (marked.new.view.holds ≡ false) × (marked.new.view.marked ≡ marked.old.view.marked) }
+    ensures other { (other.new.cell ≡ other.old.cell) × (other.new.view.holds ≡ false) }
+{
+    let before = cell.look(other);
+    let mut taken = cell.try_take(other)?;
+    let missed = match cell.try_take(marked) {
+        Some(taken) => {
+            cell.give(marked, taken);
+            0
+        }
+        None => 1,
+    };
+    if !taken.value_mut().add(7) {
+        cell.give(other, taken);
+        return None;
+    }
+    cell.note(other, &mut taken, 7);
+    cell.give(other, taken);
+    Some((before, missed, cell.look(marked)))
+}
+
+// How many notes the marked seat finds, and how many it drains.
+fn drained(cell: &TurnCell<Diary>, marked: &mut Writer) -> Option<(u64, u64)>
+    requires { (marked.old.cell ≡ cell.now.id) × (marked.old.view.holds ≡ false) × (marked.old.view.marked ≡ true) }
+    ensures { (marked.new.cell ≡ marked.old.cell) × (marked.new.view.holds ≡ false) }
+{
+    let mut taken = cell.try_take(marked)?;
+    let kept = taken.value().kept.len() as u64;
+    let gone = taken.value_mut().forget();
+    cell.drained(marked, &mut taken, gone);
+    cell.give(marked, taken);
+    Some((kept, gone))
+}
+
+// How often one seat of two does not close a cell, and the diary that both leave.
+fn closed(
+    cell: TurnCell<Diary>,
+    mut seats: Vec<Writer>,
+    marked: Writer,
+    other: Writer,
+) -> Option<(u64, Diary)>
+    requires seats { (seats.items ≡ []) × (2 ≤ vec_capacity seats) }
+    requires marked { (marked.cell ≡ cell.id) × (marked.view.holds ≡ false) }
+    requires other { (other.cell ≡ cell.id) × (other.view.holds ≡ false) }
+{
+    seats.push_reserved(marked);
+    let (cell, mut seats, refused) = match cell.close(seats) {
+        Ok(_) => return None,
+        Err((cell, seats)) => (cell, seats, 1),
+    };
+    seats.push_reserved(other);
+    match cell.close(seats) {
+        Ok(diary) => Some((refused, diary)),
+        Err(_) => None,
+    }
+}
+
 /// One thread with both seats of a cell: what each step answered, and the diary.
 fn visited<P: Past<u8>>(alloc: Global, diary: Diary) -> Option<([u64; 6], Diary)>
     requires { (length P.past ≡ diary.gone + length diary.kept.items) × (drop diary.gone P.past ≡ diary.kept.items) }
@@ -94,38 +156,10 @@ fn visited<P: Past<u8>>(alloc: Global, diary: Diary) -> Option<([u64; 6], Diary)
     };
     let mut marked = seats.pop().unwrap();
     let mut other = seats.pop().unwrap();
-    let before = cell.look(&mut other);
-    let mut taken = cell.try_take(&mut other)?;
-    let busy = cell.try_take(&mut marked);
-    let missed = match busy {
-        Some(taken) => {
-            cell.give(&mut marked, taken);
-            0
-        }
-        None => 1,
-    };
-    if !taken.value_mut().add(7) {
-        cell.give(&mut other, taken);
-        return None;
-    }
-    cell.note(&mut other, &mut taken, 7);
-    cell.give(&mut other, taken);
-    let after = cell.look(&mut marked);
-    let mut taken = cell.try_take(&mut marked)?;
-    let kept = taken.value().kept.len() as u64;
-    let gone = taken.value_mut().forget();
-    cell.drained(&mut marked, &mut taken, gone);
-    cell.give(&mut marked, taken);
-    seats.push_reserved(marked);
-    let (cell, mut seats, refused) = match cell.close(seats) {
-        Ok(_) => return None,
-        Err((cell, seats)) => (cell, seats, 1),
-    };
-    seats.push_reserved(other);
-    match cell.close(seats) {
-        Ok(diary) => Some(([before, missed, after, kept, gone, refused], diary)),
-        Err(_) => None,
-    }
+    let (before, missed, after) = noted(&cell, &mut marked, &mut other)?;
+    let (kept, gone) = drained(&cell, &mut marked)?;
+    let (refused, diary) = closed(cell, seats, marked, other)?;
+    Some(([before, missed, after, kept, gone, refused], diary))
 }
 
 /// Two threads with a seat each try to write a note.

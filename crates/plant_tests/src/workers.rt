@@ -9,6 +9,7 @@ ghost use Rattle.sim_run.specs.Steady.{steady_set as set_of_two};
 
 use crate::steady::{Steady, are_accepted, new_board, ticks};
 use board::Board;
+use board_calls::{call_of, make};
 use entry_out::{EntryOut, Stopped};
 use plain_core::PlainCore;
 use plant_run::{RunFault, run_workers};
@@ -207,38 +208,11 @@ fn jobs_in(entries: &[Entry], of: u32) -> (u32, u32) {
     (planned, ended)
 }
 
-// A board is asked what this entry tells of.
-fn ask_again(board: &mut PlainCore, entry: Entry)
-    requires { board.old.set ≡ set_of_two }
-    ensures { board.new.set ≡ set_of_two }
-{
-    match entry {
-        Entry::Planned { tx, tick } => {
-            if tx.0 < 2 {
-                let _planned = board.plan(tx, tick);
-            }
-        }
-        Entry::Step { job, op, .. } => {
-            if job.tx.0 < 2 {
-                let _answer = board.step(job, op);
-            }
-        }
-        Entry::Blocked { job, op, .. } => {
-            if job.tx.0 < 2 {
-                let _answer = board.step(job, op);
-            }
-        }
-        Entry::Idle { .. } => {
-            let _answer = board.idle();
-        }
-    }
-}
-
 // Whether a new board that is asked the same notes the same.
 fn is_replayed(alloc: Global, entries: &[Entry]) -> Result<bool, OutOfMemory> {
     let mut board = new_board(alloc, ROOM)?;
     for i in 0..entries.len() {
-        ask_again(&mut board, entries[i]);
+        make(&mut board, call_of(entries[i]));
     }
     Ok(board.entries() == entries)
 }

@@ -44,43 +44,45 @@ fn group(
     Ok(TogetherDecl { items, within })
 }
 
-// A job that was released at 10 reads the temperature and the flow with these stamps, writes their mean, and commits.
+// A job that was released at 10 reads the temperature and the flow with these stamps, writes their mean, and commits at a
+// tick: how it ended, and the mean after it.
+fn ended(
+    alloc: Global,
+    temp: Tick,
+    flow: Tick,
+    at: Tick,
+) -> Result<(Result<(), CommitRefused>, Option<Stored>), OutOfMemory> {
+    let together = [group(alloc, TEMP, FLOW, 5)?];
+    let mut items = Items::new(alloc, &DECLS)?;
+    let reads = Vec::from_array(alloc, [TEMP, FLOW])?;
+    let writes = Vec::from_array(alloc, [MEAN, VALVE])?;
+    let mut work = Work::new(alloc, reads, writes)?;
+    work.note_read(TEMP, temp);
+    work.note_read(FLOW, flow);
+    work.put(MEAN, 4);
+    let ended = work.commit(&DECLS, &together, &mut items, 10, at);
+    Ok((ended, items.as_slice().get(2).copied()))
+}
+
+fn stale_at(item: ItemId, stamp: Tick) -> Result<(), CommitRefused> {
+    Err(CommitRefused::Stale(StaleRead { item, stamp }))
+}
+
 #[test]
 fn commits(rt: HostRuntime) -> Result<(), OutOfMemory> {
     let alloc = rt.alloc();
-    let together = [group(alloc, TEMP, FLOW, 5)?];
-    let before = Stored { value: 0, stamp: 0 };
-    let after = Stored { value: 4, stamp: 5 };
-    let temp_at_7 = CommitRefused::Stale(StaleRead {
-        item: TEMP,
-        stamp: 7,
-    });
-    let flow_at_5 = CommitRefused::Stale(StaleRead {
-        item: FLOW,
-        stamp: 5,
-    });
-    let temp_at_12 = CommitRefused::Stale(StaleRead {
-        item: TEMP,
-        stamp: 12,
-    });
-    let apart = CommitRefused::Apart(ApartRead { a: FLOW, b: TEMP });
-    for (temp, flow, at, ended, mean) in [
-        (7, 5, 20, Ok(()), after),
-        (7, 5, 28, Err(temp_at_7), before),
-        (9, 5, 26, Err(flow_at_5), before),
-        (12, 5, 20, Err(apart), before),
-        (12, 5, 33, Err(temp_at_12), before),
+    let apart = Err(CommitRefused::Apart(ApartRead { a: FLOW, b: TEMP }));
+    for (temp, flow, at, want) in [
+        (7, 5, 28, stale_at(TEMP, 7)),
+        (9, 5, 26, stale_at(FLOW, 5)),
+        (12, 5, 20, apart),
+        (12, 5, 33, stale_at(TEMP, 12)),
     ] {
-        let mut items = Items::new(alloc, &DECLS)?;
-        let reads = Vec::from_array(alloc, [TEMP, FLOW])?;
-        let writes = Vec::from_array(alloc, [MEAN, VALVE])?;
-        let mut work = Work::new(alloc, reads, writes)?;
-        work.note_read(TEMP, temp);
-        work.note_read(FLOW, flow);
-        work.put(MEAN, 4);
-        assert!(rt; work.commit(&DECLS, &together, &mut items, 10, at) == ended);
-        assert!(rt; items.as_slice().get(2) == Some(&mean));
+        let before = Stored { value: 0, stamp: 0 };
+        assert!(rt; ended(alloc, temp, flow, at)? == (want, Some(before)));
     }
+    let after = Stored { value: 4, stamp: 5 };
+    assert!(rt; ended(alloc, 7, 5, 20)? == (Ok(()), Some(after)));
     Ok(())
 }
 

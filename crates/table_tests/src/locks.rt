@@ -76,53 +76,79 @@ fn act(held: &mut Held, what: LockKind, tx: u32, item: u32)
 // The locks of three runs, in their order; each is asked for, and added where it is granted. The first is of a sampler, a
 // controller and a logger, which write the temperature (item 0); read it and write the valve (item 1); and read both. In
 // the others the first and the second read an item (item 2) that the third may write, and then that the third has written.
+// Own locks do not count; an equal ceiling and a write lock refuse, and readers share.
+const RUNS: &str = "\
+0 write 0 granted
+0 ends 0 granted
+1 read 0 granted
+1 write 1 granted
+1 ends 0 granted
+2 read 0 granted
+2 read 1 granted
+0 write 0 refused
+2 ends 0 granted
+0 write 0 granted
+0 ends 0 granted
+0 write 0 granted
+0 ends 0 granted
+1 read 0 granted
+1 write 1 granted
+1 ends 0 granted
+0 write 0 granted
+0 ends 0 granted
+1 read 2 granted
+0 read 2 granted
+0 ends 0 granted
+1 ends 0 granted
+2 write 2 granted
+0 read 2 refused
+2 ends 0 granted
+0 read 2 granted
+";
+
+fn number(word: Option<&str>) -> Option<u32> {
+    word?.parse::<u32>().ok()
+}
+
+// The transaction, what it does, the item, and what is answered: a refusal is by the third transaction's lock, of ceiling 3.
+fn row(line: &str) -> Option<(u32, LockKind, u32, Result<(), Above>)> {
+    let mut words = line.split(' ');
+    let tx = number(words.next())?;
+    let what = match words.next()? {
+        "read" => LockKind::Read,
+        "write" => LockKind::Write,
+        _ => LockKind::Free,
+    };
+    let item = number(words.next())?;
+    let answer = match words.next()? {
+        "granted" => Ok(()),
+        _ => Err(Above {
+            holder: TxId(2),
+            ceiling: 3,
+        }),
+    };
+    Some((tx, what, item, answer))
+}
+
 #[test]
 fn runs(rt: HostRuntime) -> Result<(), OutOfMemory> {
-    let (reads, writes, ends) = (LockKind::Read, LockKind::Write, LockKind::Free);
-    let by_third = Err(Above {
-        holder: TxId(2),
-        ceiling: 3,
-    });
     let mut held = unlocked(rt.alloc())?;
-    for (row, tx, what, item, want) in [
-        ("first sample", 0, writes, 0, Ok(())),
-        ("it ends", 0, ends, 0, Ok(())),
-        ("control reads", 1, reads, 0, Ok(())),
-        ("own locks do not count", 1, writes, 1, Ok(())),
-        ("it ends", 1, ends, 0, Ok(())),
-        ("logger reads", 2, reads, 0, Ok(())),
-        ("own locks do not count", 2, reads, 1, Ok(())),
-        ("an equal ceiling refuses", 0, writes, 0, by_third),
-        ("logger ends", 2, ends, 0, Ok(())),
-        ("second sample", 0, writes, 0, Ok(())),
-        ("it ends", 0, ends, 0, Ok(())),
-        ("third sample", 0, writes, 0, Ok(())),
-        ("it ends", 0, ends, 0, Ok(())),
-        ("control reads", 1, reads, 0, Ok(())),
-        ("own locks do not count", 1, writes, 1, Ok(())),
-        ("it ends", 1, ends, 0, Ok(())),
-        ("fourth sample", 0, writes, 0, Ok(())),
-        ("it ends", 0, ends, 0, Ok(())),
-        ("the second reads", 1, reads, 2, Ok(())),
-        ("readers share", 0, reads, 2, Ok(())),
-        ("the first ends", 0, ends, 0, Ok(())),
-        ("the second ends", 1, ends, 0, Ok(())),
-        ("the third writes", 2, writes, 2, Ok(())),
-        ("a write lock refuses", 0, reads, 2, by_third),
-        ("the third ends", 2, ends, 0, Ok(())),
-        ("the first reads", 0, reads, 2, Ok(())),
-    ] {
+    let mut count = 0u32;
+    for line in RUNS.lines() {
+        let (tx, what, item, want) = row(line).expect(&rt, "a row");
         assert!(rt; tx < 3 && item < 4);
-        let answer = if what == ends {
+        let answer = if what == LockKind::Free {
             Ok(())
         } else {
             asked::<Brand>(&held, TxId(tx), Blank::new(1))
         };
-        assert!(rt; answer == want, "{row}");
+        assert!(rt; answer == want, "{line}");
         if answer.is_ok() {
             act(&mut held, what, tx, item);
         }
+        count = count.saturating_add(1);
     }
+    assert_eq!(rt; count, 26);
     Ok(())
 }
 

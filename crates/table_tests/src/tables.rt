@@ -48,7 +48,7 @@ fn plans(rt: HostRuntime) -> Result<(), OutOfMemory> {
 
 #[test]
 fn opens(rt: HostRuntime) -> Result<(), OutOfMemory> {
-    let (set, mut tables) = opened(rt.alloc())?;
+    let (_, tables) = opened(rt.alloc())?;
     assert_eq!(rt; tables.now(), 0);
     assert!(rt; tables.item(ItemId(0)) == (7, 0));
     assert_eq!(rt; tables.next_for(LOW), 0);
@@ -56,6 +56,12 @@ fn opens(rt: HostRuntime) -> Result<(), OutOfMemory> {
     assert!(rt; tables.next_tick() == None);
     assert!(rt; tables.pending(LOW) == None);
     assert!(rt; tables.running() == None);
+    Ok(())
+}
+
+#[test]
+fn answers_when_new(rt: HostRuntime) -> Result<(), OutOfMemory> {
+    let (set, mut tables) = opened(rt.alloc())?;
     assert!(rt;
         tables.tally(LOW)
             == Tally {

@@ -1,6 +1,6 @@
 //! A plant over a sampler, a controller and a logger on a sensor and a state item.
 ghost use Rattle.std.specs.Prelude.{◌≡◌, ◌≤◌, ◌^◌, [], None, Some, IfOk};
-ghost use Rattle.plain_core.specs.BaseSet.{base, base_items as base_items_of, base_txns as base_txns_of, base_ceilings as base_ceilings_of, plain_txn};
+ghost use Rattle.shared_plant.specs.BaseSet.{base, base_items as base_items_of, base_txns as base_txns_of, base_ceilings as base_ceilings_of, plain_txn};
 ghost use Rattle.plain_core.specs.Stands.{Stands};
 ghost use Rattle.shared_plant.specs.Seats.{newcomer, tx_of};
 

@@ -1,4 +1,4 @@
-use Rattle.plain_core.proofs.BaseCompiled.{of_base, of_ceilings}
+use Rattle.shared_plant.proofs.BaseCompiled.{of_base, of_ceilings}
 use Rattle.shared_plant.proofs.plant.tests.base.base_set.Goals as goal
 
 pub of-requires-clause-compiled : goal.of-requires-clause-compiled

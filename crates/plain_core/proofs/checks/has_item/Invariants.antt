@@ -1,6 +1,0 @@
-use Rattle.std.proofs.Common.{◌≡◌, drop}
-use Rattle.txn_set.specs.Set.{names_item}
-use Rattle.plain_core.proofs.checks.has_item.Given as goal
-
-abbrev pub invariant-loop-i : goal.invariant-loop-i
-invariant-loop-i l = names_item l.items l.item.0 ≡ names_item (drop l.i-index l.items) l.item.0
