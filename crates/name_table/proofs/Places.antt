@@ -1,13 +1,14 @@
 -- The place of a name.
-use Rattle.std.proofs.Common.{◌≡◌, ℕ, suc, ◌+◌, ◌<◌, ◌≤◌, Bool, true, false, not, ltb, cond, List, [], ◌∷◌, ◌++◌, map, length, get_or, Some, None, refl, sym, ap, ◌∙◌, arith, bytes_eq}
+use Rattle.std.proofs.Common.{◌≡◌, ℕ, suc, ◌+◌, ◌<◌, ◌≤◌, Bool, true, false, not, ltb, cond, List, [], ◌∷◌, ◌++◌, map, length, get_or, Option, Some, None, take, refl, sym, ap, ◌∙◌, arith, bytes_eq}
 use Rattle.std.specs.Prelude.{position, ◌||◌, if◌then◌else◌}
 use Rattle.std.specs.List.{position_or_len, list_any}
 use Rattle.std.specs.Cmp.Lexicographic.{nat_list_eq_equiv}
-use Rattle.std.proofs.lemmas.List.{length-map, map_push}
+use Rattle.std.proofs.lemmas.List.{length-map, map_push, length-take-le, get_or-take, get_or_default}
 use Rattle.std.proofs.lemmas.List.Quantifiers.{position-Some}
 use Rattle.std.proofs.lemmas.List.Sums.{position_or_len_is, fails_before_first}
 use Rattle.std.proofs.lemmas.Slice.Eq.{bytes_eq-Decides}
 use Rattle.std.proofs.lemmas.Bool.{lt-ltb, le-ltb, ltb-false, false≢true}
+use Rattle.rt_base.specs.Names.{AreNames}
 use Rattle.name_table.specs.Places.{place_in}
 
 -- by keys
@@ -126,3 +127,18 @@ none_further names more name none other =
     fails : (r : Bool) → bytes_eq more name ≡ r → r ≡ false
     fails true e = absurd (other ((bytes_eq-Decides more name).0 e))
     fails false e = refl
+
+-- among names that differ the one at a place has no place before that
+pub not_before : (names : List (List ℕ)) (i : ℕ) (name : List ℕ) → AreNames names → i < length names
+    → name ≡ get_or names i name → place_in (take i names) name ≡ None
+not_before names i name good lt at = by_place (place_in (take i names) name) refl
+  where
+    by_place : (place : Option ℕ) → place_in (take i names) name ≡ place → place ≡ None
+    by_place None e = refl
+    by_place (Some k) e =
+        let found = place_is (take i names) name k e in
+        let below : k < i = omega (arith, found.0, length-take-le i names (omega arith)) in
+        let same : get_or names k [] ≡ get_or names i [] =
+        sym (get_or-take i names k [] below) ∙ found.1 ∙ at ∙ get_or_default names i name [] lt in
+        let one : k ≡ i = good.once k i (omega arith) lt same in
+        absurd (omega arith)

@@ -1,31 +1,79 @@
-//! Names and their numbers: a table of names in the order in which they came.
+//! Names and their numbers: a table of names in the order in which they came, and the two tables of a set.
 #![tactic(auto)]
 
-ghost use Rattle.std.specs.Prelude.{◌≡◌, ◌<◌, ◌≤◌, ◌^◌, ◌++◌, [], ◌∷◌, None, IfSome, OnOk, OnErr, length};
+ghost use Rattle.std.specs.Prelude.{◌≡◌, ◌<◌, ◌≤◌, ◌^◌, ◌++◌, [], ◌∷◌, None, IfOk, IfSome, OnOk, OnErr, length};
+ghost use Rattle.rt_base.specs.Names.{AreNames};
 ghost use Rattle.name_table.specs.Places.{place_in};
 
 use indexmap::IndexSet;
-use rt_base::{Name, OutOfMemory};
+use rt_base::{List, Name, Names, OutOfMemory};
 use std::alloc::Global;
 use std::marker::Model;
+
+// Names as keys of a hash set, in the order in which they came, each once, and at most 2^32 of them. The number of a name is
+// its place among them.
+#[derive(Drop)]
+struct Numbers {
+    names: IndexSet<Vec<u8>>,
+}
+
+impl Model for Numbers {
+    ghost use Rattle.std.specs.Prelude.{ℕ, ◌≤◌, ◌^◌, List as ListOf, length, map};
+
+    ghost Value = { ListOf (ListOf ℕ) };
+
+    ghost view = { λ n. map (λ k. k.items) n.names.keys };
+
+    ghost invariant = { λ n. length n.names.keys ≤ 2 ^ 32 };
+}
+
+impl Numbers {
+    fn new(alloc: Global) -> Numbers
+        ensures { result ≡ [] }
+    {
+        Numbers {
+            names: IndexSet::new(alloc),
+        }
+    }
+
+    fn place(&self, name: &[u8]) -> Option<u32>
+        ensures at { result ≡ place_in self.now name.now }
+        ensures below { IfSome result (λ i. i < length self.now) }
+    {
+        match self.names.get_index_of(name) {
+            Some(at) => Some(at as u32),
+            None => None,
+        }
+    }
+
+    // After Err it is as it was.
+    fn add(&mut self, alloc: Global, name: &[u8]) -> Result<(), OutOfMemory>
+        requires new { place_in self.old name.now ≡ None }
+        requires room { length self.old < 2 ^ 32 }
+        ensures added { OnOk result (self.new ≡ self.old ++ name.now ∷ []) }
+        ensures kept { OnErr result (self.new ≡ self.old) }
+    {
+        self.names.insert(Vec::from_slice(alloc, name)?)?;
+        Ok(())
+    }
+}
 
 /// Names in the order in which they came, each once, and at most 2^32 of them. Contracts see the list of names. The
 /// number of a name is its place in the list.
 #[derive(Drop)]
 pub struct NameTable {
-    numbers: IndexSet<Vec<u8>>,
+    numbers: Numbers,
     names: Vec<Name>,
 }
 
 impl Model for NameTable {
-    ghost use Rattle.std.specs.Prelude.{ℕ, List as ListOf, map};
-    ghost use Rattle.name_table.specs.Numbered.{IsNumbered};
+    ghost use Rattle.std.specs.Prelude.{◌≡◌, ℕ, List as ListOf};
 
     ghost Value = { ListOf (ListOf ℕ) };
 
     ghost view = { λ t. t.names.items };
 
-    ghost invariant = { λ t. IsNumbered (map (λ k. k.items) t.numbers.keys) t.names.items };
+    ghost invariant = { λ t. t.numbers ≡ t.names.items };
 }
 
 impl NameTable {
@@ -34,9 +82,22 @@ impl NameTable {
         ensures { result ≡ [] }
     {
         NameTable {
-            numbers: IndexSet::new(alloc),
+            numbers: Numbers::new(alloc),
             names: Vec::new(alloc),
         }
+    }
+
+    /// The table of these names, by one step in a hash map for each.
+    pub fn of(alloc: Global, names: &[Name]) -> Result<NameTable, OutOfMemory>
+        requires names { AreNames names.now }
+        requires few { length names.now ≤ 2 ^ 32 }
+        ensures { IfOk result (λ table. table ≡ names.now) }
+    {
+        let mut table = NameTable::new(alloc);
+        for name in names {
+            table.add(alloc, name)?;
+        }
+        Ok(table)
     }
 
     /// How many names there are.
@@ -51,10 +112,7 @@ impl NameTable {
         ensures at { result ≡ place_in self.now name.now }
         ensures below { IfSome result (λ i. i < length self.now) }
     {
-        match self.numbers.get_index_of(name) {
-            Some(at) => Some(at as u32),
-            None => None,
-        }
+        self.numbers.place(name)
     }
 
     /// Puts a name behind the others, by one step in a hash map. After Err the table is as it was.
@@ -64,9 +122,8 @@ impl NameTable {
         ensures added { OnOk result (self.new ≡ self.old ++ name.now ∷ []) }
         ensures kept { OnErr result (self.new ≡ self.old) }
     {
-        let key = Vec::from_slice(alloc, name.as_slice())?;
         self.names.reserve(1)?;
-        self.numbers.insert(key)?;
+        self.numbers.add(alloc, name.as_slice())?;
         self.names.push_reserved(*name);
         Ok(())
     }
@@ -83,6 +140,86 @@ impl NameTable {
         ensures { result.items ≡ self }
     {
         let NameTable { numbers: _, names } = self;
+        names
+    }
+}
+
+/// The names of items and of transactions, by their places, and a table of each. Contracts see the lists of names, as of
+/// `Names`.
+#[derive(Drop)]
+pub struct NameTables {
+    names: Names,
+    items: Numbers,
+    txns: Numbers,
+}
+
+impl Model for NameTables {
+    ghost use Rattle.std.specs.Prelude.{◌≡◌};
+    ghost use Rattle.rt_base.specs.declared.name.Names.{Names as ListsOfNames};
+
+    ghost Value = { ListsOfNames };
+
+    ghost view = { λ t. t.names };
+
+    ghost invariant = { λ t. (t.items ≡ t.names.items) × (t.txns ≡ t.names.txns) };
+}
+
+impl NameTables {
+    /// A table of items and one of transactions. It takes no memory.
+    pub fn of(items: NameTable, txns: NameTable) -> NameTables
+        ensures items { result.items ≡ items }
+        ensures txns { result.txns ≡ txns }
+    {
+        let NameTable {
+            numbers: item_numbers,
+            names: items,
+        } = items;
+        let NameTable {
+            numbers: txn_numbers,
+            names: txns,
+        } = txns;
+        NameTables {
+            names: Names {
+                items: List::of(items),
+                txns: List::of(txns),
+            },
+            items: item_numbers,
+            txns: txn_numbers,
+        }
+    }
+
+    /// The number of an item's name, by one look-up in a hash map; None exactly where no item has it.
+    pub fn item(&self, name: &[u8]) -> Option<u32>
+        ensures at { result ≡ place_in self.now.items name.now }
+        ensures below { IfSome result (λ i. i < length self.now.items) }
+    {
+        self.items.place(name)
+    }
+
+    /// The number of a transaction's name, by one look-up in a hash map; None exactly where no transaction has it.
+    pub fn txn(&self, name: &[u8]) -> Option<u32>
+        ensures at { result ≡ place_in self.now.txns name.now }
+        ensures below { IfSome result (λ i. i < length self.now.txns) }
+    {
+        self.txns.place(name)
+    }
+
+    /// The names.
+    pub fn names(&self) -> &Names
+        ensures { result.now ≡ self.now }
+    {
+        &self.names
+    }
+
+    /// The names alone.
+    pub fn into_names(self) -> Names
+        ensures { result ≡ self }
+    {
+        let NameTables {
+            names,
+            items: _,
+            txns: _,
+        } = self;
         names
     }
 }
