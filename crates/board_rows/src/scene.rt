@@ -6,8 +6,9 @@ use crate::looks::{drained, look, parts};
 use crate::replays::replayed;
 use board_calls::{Call, call_of, make};
 use lock_core::Core;
+use name_table::{NameTable, NameTables};
 use plain_core::PlainCore;
-use rt_base::{List, Names, TxId};
+use rt_base::TxId;
 use set_rows::{Told, declared, entry_of, generated};
 use std::alloc::Global;
 use step_journal::Entry;
@@ -112,10 +113,7 @@ fn declare(alloc: Global, scene: &mut Scene, word: &str, line: &str) -> Option<S
 
 // The generated set of n transactions.
 fn generate(alloc: Global, scene: &mut Scene, n: u32) -> Option<String> {
-    let names = Names {
-        items: List::of(Vec::new(alloc)),
-        txns: List::of(Vec::new(alloc)),
-    };
+    let names = NameTables::of(NameTable::new(alloc), NameTable::new(alloc));
     let set = generated(alloc, n).ok()??;
     scene.told = Some(Told { names, set });
     Some(String::new(alloc))

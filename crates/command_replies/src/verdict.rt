@@ -23,7 +23,7 @@ fn names(alloc: Global, input: &[u8]) -> Result<Names, OutOfMemory>
     ensures { IfOk result (λ names. names ≡ names_of input.now) }
 {
     match read_head(alloc, input) {
-        Ok(head) => Ok(head.names),
+        Ok(head) => Ok(head.names.into_names()),
         Err(HeadError::OutOfMemory) => Err(OutOfMemory),
         Err(HeadError::BadLine { .. }) => Ok(no_names(alloc)),
         Err(HeadError::Unfinished) => Ok(no_names(alloc)),

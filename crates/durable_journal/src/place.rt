@@ -14,7 +14,7 @@ use durable_disk::Disk;
 use durable_records::{Slot, WIDTH, read_slot};
 use io_edge::Failed;
 use journal_text::read_entry;
-use rt_base::Names;
+use name_table::NameTables;
 use step_journal::Entry;
 
 /// The text of the first record.
@@ -58,10 +58,8 @@ pub fn read_head<D: Disk>(disk: &mut D) -> Result<bool, Failed>
     }
 }
 
-fn entry_of_body(names: &Names, body: &[u8]) -> Option<Entry>
-    requires few_items { length names.now.items < 2 ^ 32 }
-    requires few_txns { length names.now.txns < 2 ^ 32 }
-    requires wide { length body.now ≡ 255 }
+fn entry_of_body(names: &NameTables, body: &[u8]) -> Option<Entry>
+    requires { length body.now ≡ 255 }
     ensures entry { result ≡ entry_in names.now body.now }
     ensures fits { IfSome result (Fits names.now) }
 {
@@ -71,9 +69,7 @@ fn entry_of_body(names: &Names, body: &[u8]) -> Option<Entry>
     }
 }
 
-fn place_in(names: &Names, slot: Slot, bytes: &[u8; WIDTH]) -> Place
-    requires few_items { length names.now.items < 2 ^ 32 }
-    requires few_txns { length names.now.txns < 2 ^ 32 }
+fn place_in(names: &NameTables, slot: Slot, bytes: &[u8; WIDTH]) -> Place
     ensures place { (found : Found) → Finds slot bytes.now found → result ≡ place_of names.now found }
     ensures fits { FitsThere names.now result }
 {
@@ -89,10 +85,8 @@ fn place_in(names: &Names, slot: Slot, bytes: &[u8; WIDTH]) -> Place
 }
 
 /// What stands in the place of record k.
-pub fn read_place<D: Disk>(disk: &mut D, names: &Names, k: u64) -> Result<Place, Failed>
-    requires few_items { length names.now.items < 2 ^ 32 }
-    requires few_txns { length names.now.txns < 2 ^ 32 }
-    requires near { k < 2 ^ 48 }
+pub fn read_place<D: Disk>(disk: &mut D, names: &NameTables, k: u64) -> Result<Place, Failed>
+    requires { k < 2 ^ 48 }
     ensures place { IfOk result (λ place. IfSome (D.seen disk.old) (λ file. place ≡ place_of names.now (slot_at k file))) }
     ensures fits { IfOk result (FitsThere names.now) }
     ensures seen { D.seen disk.new ≡ D.seen disk.old }

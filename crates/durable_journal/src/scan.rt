@@ -2,6 +2,7 @@
 ghost use Rattle.std.specs.Prelude.{◌≡◌, ◌+◌, ◌-◌, ◌<◌, ◌≤◌, ◌^◌, [], length, IfOk, IfSome, IsErrOf, OnOk};
 ghost use Rattle.std.specs.List.{AllByRecursion};
 ghost use Rattle.io_edge.specs.Causes.{Rose};
+ghost use Rattle.rt_base.specs.Names.{AreNames};
 ghost use Rattle.durable_disk.specs.Device.{LeavesOnly, NoMore, Only};
 ghost use Rattle.durable_records.specs.Records.{slot_at};
 ghost use Rattle.durable_journal.specs.Log.{Fits};
@@ -10,7 +11,8 @@ ghost use Rattle.durable_journal.specs.Opened.{Passes, Scanned, texts_by};
 
 use crate::place::{Place, read_head, read_place};
 use durable_disk::Disk;
-use rt_base::Names;
+use name_table::{NameTable, NameTables};
+use rt_base::{Names, OutOfMemory};
 use std::alloc::Global;
 use step_journal::Entry;
 
@@ -41,14 +43,25 @@ pub enum ScanFault {
     OutOfMemory,
 }
 
+// The tables of these names.
+fn tables_of(alloc: Global, names: &Names) -> Result<NameTables, OutOfMemory>
+    requires items { AreNames names.now.items }
+    requires txns { AreNames names.now.txns }
+    requires few_items { length names.now.items < 2 ^ 32 }
+    requires few_txns { length names.now.txns < 2 ^ 32 }
+    ensures { IfOk result (λ tables. tables ≡ names.now) }
+{
+    let items = NameTable::of(alloc, names.items.as_slice())?;
+    let txns = NameTable::of(alloc, names.txns.as_slice())?;
+    Ok(NameTables::of(items, txns))
+}
+
 fn read_entries<D: Disk>(
     alloc: Global,
     disk: &mut D,
-    names: &Names,
+    names: &NameTables,
     room: usize,
 ) -> Result<(Vec<Entry>, Stop), ScanFault>
-    requires few_items { length names.now.items < 2 ^ 32 }
-    requires few_txns { length names.now.txns < 2 ^ 32 }
     ensures texts { IfOk result (λ r. IfSome (D.seen disk.old) (λ file. texts_by r.1 r.0.items ≡ texts_from names.now 1 room [] file)) }
     ensures within { IfOk result (λ r. (length r.0.items ≤ room) × (length r.0.items ≤ 2 ^ 47)) }
     ensures full { IfOk result (λ r. r.1 ≡ Stop.More → length r.0.items ≡ room) }
@@ -86,13 +99,14 @@ fn read_entries<D: Disk>(
 }
 
 /// The entries of a journal, at most `room` of them, and how reading them ended. It syncs first, so that nothing is
-/// pending.
+/// pending. It takes memory for a table of the names and for the entries.
 pub fn scan_disk<D: Disk>(
     alloc: Global,
     disk: &mut D,
     names: &Names,
     room: usize,
 ) -> Result<(Vec<Entry>, Stop), ScanFault>
+    requires names { AreNames names.now.items × AreNames names.now.txns }
     requires few_items { length names.now.items < 2 ^ 32 }
     requires few_txns { length names.now.txns < 2 ^ 32 }
     ensures scanned { IfOk result (λ r. IfSome (D.seen disk.old) (λ file. Scanned names.now room file r.1 r.0.items)) }
@@ -111,6 +125,9 @@ pub fn scan_disk<D: Disk>(
     match read_head(disk) {
         Err(_) => Err(ScanFault::DiskFault),
         Ok(false) => Err(ScanFault::NoHeader),
-        Ok(true) => read_entries(alloc, disk, names, room),
+        Ok(true) => match tables_of(alloc, names) {
+            Ok(tables) => read_entries(alloc, disk, &tables, room),
+            Err(OutOfMemory) => Err(ScanFault::OutOfMemory),
+        },
     }
 }

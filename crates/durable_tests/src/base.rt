@@ -8,6 +8,7 @@ use durable_disk::{Disk, MemDisk};
 use durable_journal::{Log, LogError};
 use journal_text::read_entry;
 use line_fields::cut;
+use name_table::NameTables;
 use report_head::read_head;
 use rt_base::{Names, OutOfMemory};
 use run_report::compile_head;
@@ -46,10 +47,12 @@ pub struct Story {
 }
 
 // The first entries among the lines of a report.
-fn entries_in(alloc: Global, names: &Names, text: &str, most: usize) -> Result<Vec<Entry>, Fail> {
-    if names.items.as_slice().len() > 256 || names.txns.as_slice().len() > 64 {
-        return Err("names".into());
-    }
+fn entries_in(
+    alloc: Global,
+    names: &NameTables,
+    text: &str,
+    most: usize,
+) -> Result<Vec<Entry>, Fail> {
     let mut entries = Vec::new(alloc);
     let mut rest = text.as_bytes();
     for _ in 0..100 {
@@ -84,7 +87,7 @@ pub fn story_of(alloc: Global, text: &str, most: usize) -> Result<Story, Fail>
         return Err("entries".into());
     };
     Ok(Story {
-        names,
+        names: names.into_names(),
         set,
         entries,
     })

@@ -1,5 +1,5 @@
 //! From lines to entries.
-ghost use Rattle.std.specs.Prelude.{◌≡◌, ◌^◌, ◌<◌, ◌&&◌, length, option_map, codes, IfSome};
+ghost use Rattle.std.specs.Prelude.{◌≡◌, option_map, IfSome};
 ghost use Rattle.line_fields.specs.Cuts.{next};
 ghost use Rattle.rt_base.specs.Names.{AreNames};
 ghost use Rattle.journal_text.specs.Lines.{entry_line, HasLine, IsEntryOf, IsWritable};
@@ -9,31 +9,29 @@ use line_fields::{
     done, field, next_item, next_job, next_short, next_signed, next_tx, next_unsigned, next_word,
     unsigned, word,
 };
-use rt_base::{End, Names, Op, Outcome};
+use name_table::NameTables;
+use rt_base::{End, Op, Outcome};
 use step_journal::Entry;
 
 #[tactic(auto, unfolding(crate::specs::Reading::read_of))]
-fn read<'a>(names: &Names, rest: &'a [u8]) -> Option<(Op, &'a [u8])>
-    requires { length names.now.items < 2 ^ 32 }
+fn read<'a>(names: &NameTables, rest: &'a [u8]) -> Option<(Op, &'a [u8])>
     ensures { option_map (λ p. (p.0, p.1.now)) result ≡ read_of names.now rest.now }
 {
-    let (item, rest) = next_item(names.items.as_slice(), rest)?;
+    let (item, rest) = next_item(names, rest)?;
     Some((Op::Read(item), rest))
 }
 
 #[tactic(auto, unfolding(crate::specs::Reading::write_of))]
-fn write<'a>(names: &Names, rest: &'a [u8]) -> Option<(Op, &'a [u8])>
-    requires { length names.now.items < 2 ^ 32 }
+fn write<'a>(names: &NameTables, rest: &'a [u8]) -> Option<(Op, &'a [u8])>
     ensures { option_map (λ p. (p.0, p.1.now)) result ≡ write_of names.now rest.now }
 {
-    let (item, rest) = next_item(names.items.as_slice(), rest)?;
+    let (item, rest) = next_item(names, rest)?;
     let (value, rest) = next_signed(rest)?;
     Some((Op::Write(item, value), rest))
 }
 
 #[tactic(auto, unfolding(crate::specs::Reading::op_form))]
-fn op_after<'a>(names: &Names, word: &[u8], rest: &'a [u8]) -> Option<(Op, &'a [u8])>
-    requires { length names.now.items < 2 ^ 32 }
+fn op_after<'a>(names: &NameTables, word: &[u8], rest: &'a [u8]) -> Option<(Op, &'a [u8])>
     ensures { option_map (λ p. (p.0, p.1.now)) result ≡ op_form names.now word.now rest.now }
 {
     if word == b"read".as_slice() {
@@ -52,8 +50,7 @@ fn op_after<'a>(names: &Names, word: &[u8], rest: &'a [u8]) -> Option<(Op, &'a [
 }
 
 #[tactic(auto, unfolding(crate::specs::Reading::op_of))]
-fn op<'a>(names: &Names, rest: &'a [u8]) -> Option<(Op, &'a [u8])>
-    requires { length names.now.items < 2 ^ 32 }
+fn op<'a>(names: &NameTables, rest: &'a [u8]) -> Option<(Op, &'a [u8])>
     ensures { option_map (λ p. (p.0, p.1.now)) result ≡ op_of names.now rest.now }
 {
     let (word, rest) = field(rest)?;
@@ -103,28 +100,25 @@ fn outcome(op: Op, rest: &[u8]) -> Option<(Outcome, &[u8])>
 }
 
 #[tactic(auto, unfolding(crate::specs::Reading::stale_of))]
-fn stale<'a>(names: &Names, rest: &'a [u8]) -> Option<(End, &'a [u8])>
-    requires { length names.now.items < 2 ^ 32 }
+fn stale<'a>(names: &NameTables, rest: &'a [u8]) -> Option<(End, &'a [u8])>
     ensures { option_map (λ p. (p.0, p.1.now)) result ≡ stale_of names.now rest.now }
 {
-    let (item, rest) = next_item(names.items.as_slice(), rest)?;
+    let (item, rest) = next_item(names, rest)?;
     let (stamp, rest) = next_unsigned(rest)?;
     Some((End::Stale { item, stamp }, rest))
 }
 
 #[tactic(auto, unfolding(crate::specs::Reading::apart_of))]
-fn apart<'a>(names: &Names, rest: &'a [u8]) -> Option<(End, &'a [u8])>
-    requires { length names.now.items < 2 ^ 32 }
+fn apart<'a>(names: &NameTables, rest: &'a [u8]) -> Option<(End, &'a [u8])>
     ensures { option_map (λ p. (p.0, p.1.now)) result ≡ apart_of names.now rest.now }
 {
-    let (a, rest) = next_item(names.items.as_slice(), rest)?;
-    let (b, rest) = next_item(names.items.as_slice(), rest)?;
+    let (a, rest) = next_item(names, rest)?;
+    let (b, rest) = next_item(names, rest)?;
     Some((End::Apart { a, b }, rest))
 }
 
 #[tactic(auto, unfolding(crate::specs::Reading::end_form))]
-fn end_after<'a>(names: &Names, word: &[u8], rest: &'a [u8]) -> Option<(End, &'a [u8])>
-    requires { length names.now.items < 2 ^ 32 }
+fn end_after<'a>(names: &NameTables, word: &[u8], rest: &'a [u8]) -> Option<(End, &'a [u8])>
     ensures { option_map (λ p. (p.0, p.1.now)) result ≡ end_form names.now word.now rest.now }
 {
     if word == b"committed".as_slice() {
@@ -146,8 +140,7 @@ fn end_after<'a>(names: &Names, word: &[u8], rest: &'a [u8]) -> Option<(End, &'a
 
 /// The end that the next fields are.
 #[tactic(auto, unfolding(crate::specs::Reading::end_of))]
-pub fn next_end<'a>(names: &Names, rest: &'a [u8]) -> Option<(End, &'a [u8])>
-    requires { length names.now.items < 2 ^ 32 }
+pub fn next_end<'a>(names: &NameTables, rest: &'a [u8]) -> Option<(End, &'a [u8])>
     ensures { option_map (λ p. (p.0, p.1.now)) result ≡ end_of names.now rest.now }
 {
     let (word, rest) = field(rest)?;
@@ -155,8 +148,7 @@ pub fn next_end<'a>(names: &Names, rest: &'a [u8]) -> Option<(End, &'a [u8])>
 }
 
 #[tactic(auto, unfolding(crate::specs::Reading::over_of))]
-fn over(names: &Names, rest: &[u8]) -> Option<Option<End>>
-    requires { length names.now.items < 2 ^ 32 }
+fn over(names: &NameTables, rest: &[u8]) -> Option<Option<End>>
     ensures { result ≡ over_of names.now rest.now }
 {
     match rest {
@@ -171,23 +163,20 @@ fn over(names: &Names, rest: &[u8]) -> Option<Option<End>>
 }
 
 #[tactic(auto, unfolding(crate::specs::Reading::plan_of))]
-fn plan(names: &Names, rest: &[u8]) -> Option<Entry>
-    requires { length names.now.txns < 2 ^ 32 }
+fn plan(names: &NameTables, rest: &[u8]) -> Option<Entry>
     ensures { result ≡ plan_of names.now rest.now }
 {
-    let (tx, rest) = next_tx(names.txns.as_slice(), rest)?;
+    let (tx, rest) = next_tx(names, rest)?;
     let (tick, rest) = next_unsigned(rest)?;
     done(rest)?;
     Some(Entry::Planned { tx, tick })
 }
 
 #[tactic(auto, unfolding(crate::specs::Reading::step_of))]
-fn step(names: &Names, rest: &[u8]) -> Option<Entry>
-    requires items { length names.now.items < 2 ^ 32 }
-    requires txns { length names.now.txns < 2 ^ 32 }
+fn step(names: &NameTables, rest: &[u8]) -> Option<Entry>
     ensures { result ≡ step_of names.now rest.now }
 {
-    let (job, rest) = next_job(names.txns.as_slice(), rest)?;
+    let (job, rest) = next_job(names, rest)?;
     let (tick, rest) = next_unsigned(rest)?;
     let (op, rest) = op(names, rest)?;
     let (outcome, rest) = outcome(op, rest)?;
@@ -202,16 +191,14 @@ fn step(names: &Names, rest: &[u8]) -> Option<Entry>
 }
 
 #[tactic(auto, unfolding(crate::specs::Reading::block_of))]
-fn block(names: &Names, rest: &[u8]) -> Option<Entry>
-    requires items { length names.now.items < 2 ^ 32 }
-    requires txns { length names.now.txns < 2 ^ 32 }
+fn block(names: &NameTables, rest: &[u8]) -> Option<Entry>
     ensures { result ≡ block_of names.now rest.now }
 {
-    let (job, rest) = next_job(names.txns.as_slice(), rest)?;
+    let (job, rest) = next_job(names, rest)?;
     let (tick, rest) = next_unsigned(rest)?;
     let (op, rest) = op(names, rest)?;
     let (_, rest) = next_word(b"by", rest)?;
-    let (by, rest) = next_job(names.txns.as_slice(), rest)?;
+    let (by, rest) = next_job(names, rest)?;
     let (ceiling, rest) = next_short(rest)?;
     done(rest)?;
     Some(Entry::Blocked {
@@ -234,9 +221,7 @@ fn idle(rest: &[u8]) -> Option<Entry>
 }
 
 #[tactic(auto, unfolding(crate::specs::Reading::form_of))]
-fn form(names: &Names, word: &[u8], rest: &[u8]) -> Option<Entry>
-    requires items { length names.now.items < 2 ^ 32 }
-    requires txns { length names.now.txns < 2 ^ 32 }
+fn form(names: &NameTables, word: &[u8], rest: &[u8]) -> Option<Entry>
     ensures { result ≡ form_of names.now word.now rest.now }
 {
     if word == b"plan".as_slice() {
@@ -252,9 +237,7 @@ fn form(names: &Names, word: &[u8], rest: &[u8]) -> Option<Entry>
     }
 }
 
-fn entry_in(names: &Names, line: &[u8]) -> Option<Entry>
-    requires items { length names.now.items < 2 ^ 32 }
-    requires txns { length names.now.txns < 2 ^ 32 }
+fn entry_in(names: &NameTables, line: &[u8]) -> Option<Entry>
     ensures { result ≡ entry_of names.now line.now }
 {
     let (word, rest) = word(line);
@@ -262,10 +245,8 @@ fn entry_in(names: &Names, line: &[u8]) -> Option<Entry>
 }
 
 /// The entry whose line this is, without its line end. Over names that are names and differ: Some exactly where the line
-/// is an entry's, and then with that entry. It takes no memory, and compares a name with each declared one at most.
-pub fn read_entry(names: &Names, line: &[u8]) -> Option<Entry>
-    requires few_items { length names.now.items < 2 ^ 32 }
-    requires few_txns { length names.now.txns < 2 ^ 32 }
+/// is an entry's, and then with that entry. It takes no memory, and a look-up in a hash map for each name.
+pub fn read_entry(names: &NameTables, line: &[u8]) -> Option<Entry>
     ensures value { result ≡ entry_of names.now line.now }
     ensures taken { IfSome result (λ e. HasLine names.now e × (entry_line names.now e ≡ line.now)) }
     ensures writable { IfSome result (λ e. IsWritable names.now e) }

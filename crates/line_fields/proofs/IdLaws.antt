@@ -12,6 +12,7 @@ use Rattle.rt_base.specs.declared.ids.TxId.{TxId}
 use Rattle.rt_base.specs.declared.ids.ItemId.{ItemId}
 use Rattle.rt_base.specs.declared.ids.JobId.{JobId}
 use Rattle.rt_base.specs.Names.{is_letter, is_name_byte, is_name, AreNames}
+use Rattle.name_table.specs.Places.{place_in}
 use Rattle.line_fields.specs.Cuts.{◌>>=◌, cut_at, Lacks}
 use Rattle.line_fields.specs.Numbers.{short_of, IsI64}
 use Rattle.line_fields.specs.Ids.{name_at, index_of, tx_of, item_of, job_text, job_of, IsJob}
@@ -53,7 +54,7 @@ not_eq a b false e apart = refl
 
 pub index_again : (names : List (List ℕ)) (i : ℕ) → AreNames names → i < length names
     → index_of names (name_at names i) ≡ Some i
-unfolding index_of
+unfolding place_in
 index_again names i good lt =
     let name = name_at names i in
     let here : bytes_eq (get_or names i []) name ≡ true = (bytes_eq-Decides name name).1 refl in
@@ -61,7 +62,7 @@ index_again names i good lt =
     position_at (λ n. bytes_eq n name) names i [] lt here before
 
 pub index_takes : (names : List (List ℕ)) → Takes (λ (i : ℕ). i < length names) (name_at names) (index_of names)
-unfolding index_of
+unfolding place_in
 index_takes names w i e =
     let found = position-Some (λ n. bytes_eq n w) names i [] e in
     (found.0, (bytes_eq-Decides (get_or names i []) w).0 found.1)

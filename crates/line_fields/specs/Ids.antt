@@ -1,9 +1,9 @@
 -- Names and jobs as fields.
-use Rattle.std.specs.Prelude.{ℕ, ◌<◌, ◌^◌, List, [], ◌++◌, length, slice_index_or, Option, Some, position, decimal, codes}
-use Rattle.std.specs.Str.{bytes_eq}
+use Rattle.std.specs.Prelude.{ℕ, ◌<◌, ◌^◌, List, [], ◌++◌, length, slice_index_or, Option, Some, decimal, codes}
 use Rattle.rt_base.specs.declared.ids.TxId.{TxId}
 use Rattle.rt_base.specs.declared.ids.ItemId.{ItemId}
 use Rattle.rt_base.specs.declared.ids.JobId.{JobId}
+use Rattle.name_table.specs.Places.{place_in}
 use Rattle.line_fields.specs.Cuts.{◌>>=◌, cut_at}
 use Rattle.line_fields.specs.Numbers.{short_of}
 
@@ -12,8 +12,8 @@ abbrev pub name_at : List (List ℕ) → ℕ → List ℕ
 name_at names i = slice_index_or names i []
 
 -- the place of a name
-unfoldable pub index_of : List (List ℕ) → List ℕ → Option ℕ
-index_of names w = position (λ n. bytes_eq n w) names
+abbrev pub index_of : List (List ℕ) → List ℕ → Option ℕ
+index_of names w = place_in names w
 
 -- the transaction of a name, and the item of a name
 unfoldable pub tx_of : List (List ℕ) → List ℕ → Option TxId

@@ -16,8 +16,9 @@ fn push_names(text: &mut String, names: &[Name]) -> Option<()> {
 fn told(alloc: Global, head: &Head) -> Option<String> {
     let mode = if head.admitted { "admitted" } else { "trial" };
     let mut text = format!(in alloc; "{} lines {mode}", head.lines).ok()?;
-    push_names(&mut text, head.names.items.as_slice())?;
-    push_names(&mut text, head.names.txns.as_slice())?;
+    let names = head.names.names();
+    push_names(&mut text, names.items.as_slice())?;
+    push_names(&mut text, names.txns.as_slice())?;
     for item in head.items.as_slice() {
         let more = format!(in alloc; ", {:?} {}", item.kind, item.initial).ok()?;
         text.push_str(more.as_str()).ok()?;

@@ -2,7 +2,7 @@
 //! line is a word that says what to read, and a text in which `⏎` stands for a line end and `␍` for a carriage return.
 #![tactic(auto)]
 
-ghost use Rattle.std.specs.Prelude.{◌≡◌, length, IfSome};
+ghost use Rattle.std.specs.Prelude.{◌≡◌, ◌<◌, ◌^◌, length, IfSome};
 
 mod heads;
 
@@ -12,24 +12,40 @@ use line_fields::{
     done, item, job, next_unsigned, next_word, put, put_job, put_name, put_short, put_signed,
     put_unsigned, short, signed, tx, unsigned, word,
 };
-use rt_base::{JobId, List, Name, Names, TxId};
+use name_table::{NameTable, NameTables};
+use rt_base::{JobId, Name, TxId};
 use std::alloc::Global;
 use std::io;
 
+// The table of these names. None where one is there twice, or memory ran out.
+fn table(alloc: Global, names: &[Name]) -> Option<NameTable>
+    requires { length names.now < 2 ^ 32 }
+    ensures { IfSome result (λ table. table ≡ names.now) }
+{
+    let mut table = NameTable::new(alloc);
+    for name in names {
+        if table.place(name.as_slice()).is_some() {
+            return None;
+        }
+        table.add(alloc, name).ok()?;
+    }
+    Some(table)
+}
+
 // The names of two items and three transactions.
-fn small(alloc: Global) -> Option<Names>
+fn small(alloc: Global) -> Option<NameTables>
     ensures { IfSome result (λ n. (length n.items ≡ 2) × (length n.txns ≡ 3)) }
 {
-    let items = vec![in alloc; Name::new(b"temp")?, Name::new(b"valve")?].ok()?;
-    let txns = vec![in alloc;
-        Name::new(b"sample")?,
-        Name::new(b"control")?,
-        Name::new(b"logger")?,
-    ];
-    Some(Names {
-        items: List::of(items),
-        txns: List::of(txns.ok()?),
-    })
+    let items = table(alloc, &[Name::new(b"temp")?, Name::new(b"valve")?])?;
+    let txns = table(
+        alloc,
+        &[
+            Name::new(b"sample")?,
+            Name::new(b"control")?,
+            Name::new(b"logger")?,
+        ],
+    )?;
+    Some(NameTables::of(items, txns))
 }
 
 // The number that a word is: one below 2^64, one below 2^32, and one with a sign.
@@ -39,26 +55,20 @@ fn number(alloc: Global, text: &[u8]) -> Option<String> {
 }
 
 // The item, the transaction and the job that a word is.
-fn ids(alloc: Global, names: &Names, text: &[u8]) -> Option<String>
-    requires items { length names.now.items ≡ 2 }
-    requires txns { length names.now.txns ≡ 3 }
-{
-    let item = item(names.items.as_slice(), text);
-    let tx = tx(names.txns.as_slice(), text);
-    let job = job(names.txns.as_slice(), text);
+fn ids(alloc: Global, names: &NameTables, text: &[u8]) -> Option<String> {
+    let item = item(names, text);
+    let tx = tx(names, text);
+    let job = job(names, text);
     format!(in alloc; "{item:?} {tx:?} {job:?}").ok()
 }
 
 // The entry of a line, and the line that is written of it.
-fn entry(alloc: Global, names: &Names, line: &[u8]) -> Option<String>
-    requires items { length names.now.items ≡ 2 }
-    requires txns { length names.now.txns ≡ 3 }
-{
+fn entry(alloc: Global, names: &NameTables, line: &[u8]) -> Option<String> {
     let Some(entry) = read_entry(names, line) else {
         return String::from_str(alloc, "none").ok();
     };
     let mut text = Vec::with_capacity(alloc, 256).ok()?;
-    write_entry(names, &entry, &mut text);
+    write_entry(names.names(), &entry, &mut text);
     let same = text.strip_suffix(b"\n") == Some(line);
     format!(in alloc; "{entry:?} {same}").ok()
 }
@@ -80,7 +90,7 @@ fn fields(alloc: Global, text: &[u8]) -> Option<String> {
 }
 
 // A word, an item, a job and three numbers as they are written.
-fn written(alloc: Global, names: &Names) -> Option<String>
+fn written(alloc: Global, names: &NameTables) -> Option<String>
     requires items { length names.now.items ≡ 2 }
     requires txns { length names.now.txns ≡ 3 }
 {
@@ -90,8 +100,8 @@ fn written(alloc: Global, names: &Names) -> Option<String>
     };
     let mut text = Vec::with_capacity(alloc, 200).ok()?;
     put(&mut text, b"x");
-    put_name(&mut text, names.items.as_slice(), 0);
-    put_job(&mut text, names.txns.as_slice(), logger);
+    put_name(&mut text, names.names().items.as_slice(), 0);
+    put_job(&mut text, names.names().txns.as_slice(), logger);
     put_signed(&mut text, -5);
     put_unsigned(&mut text, 18446744073709551615);
     put_short(&mut text, 6);
@@ -99,7 +109,7 @@ fn written(alloc: Global, names: &Names) -> Option<String>
 }
 
 // What is read of a text.
-fn read(alloc: Global, names: &Names, kind: &str, text: &str) -> Option<String>
+fn read(alloc: Global, names: &NameTables, kind: &str, text: &str) -> Option<String>
     requires items { length names.now.items ≡ 2 }
     requires txns { length names.now.txns ≡ 3 }
 {

@@ -21,16 +21,16 @@ use Rattle.report_head.specs.declared.read.HeadError.TheVariants.{BadLine}
 use Rattle.report_head.specs.declared.read.Head.{Head}
 use Rattle.report_head.specs.Pieces.{pieces}
 use Rattle.report_head.specs.IsHead.{IsHead}
-use Rattle.report_head.specs.Head.{fresh_of, decl_of, item_of, list_of, numbers_of, worded, quiet_of, txn_of, set_of, mode_line_of, found_after, found_of, Decls, nothing, Told, bad, more, mode, told, told_by, line_of, ended, head, lines_of, version_of, after_version, first_of, head_of, Gives}
-use Rattle.report_head.proofs.GoodLists.{AreGood, list_good, fresh_good}
+use Rattle.report_head.specs.Head.{fresh_of, decl_of, item_of, list_of, numbers_of, worded, quiet_of, txn_of, set_of, mode_line_of, found_after, found_of, Decls, nothing, IsNew, Told, bad, more, mode, told, told_by, line_of, ended, head, lines_of, version_of, after_version, first_of, head_of, Gives}
+use Rattle.report_head.proofs.GoodLists.{AreGood, list_good, IsFresh, fresh_good}
 
 -- ---- what one line declares
 
 -- a new name, and lists of declared items
 abbrev pub IsGood : List (List ℕ) → List (List ℕ) → Found → Type 0
-IsGood items txns (found.Item name decl) = AreNames items → AreNames (items ++ name ∷ [])
+IsGood items txns (found.Item name decl) = IsFresh items name
 IsGood items txns (found.Txn name decl) =
-    (AreNames txns → AreNames (txns ++ name ∷ [])) × AreGood (length items) decl.reads × AreGood (length items) decl.writes
+    IsFresh txns name × AreGood (length items) decl.reads × AreGood (length items) decl.writes
 IsGood items txns (found.Set set) = AreGood (length items) set.items
 IsGood items txns (found.Mode admitted) = Unit {0}
 
@@ -53,12 +53,12 @@ item_good items txns bs f e =
     let w = bind_some (field_of name.2) _ f name.4 in
     let decl = bind_some (decl_of w.0.0 w.0.1) _ f w.2 in
     let over = bind_some (done_of decl.0.1) _ f decl.2 in
-    subst (IsGood items txns) (some_is _ f over.2) (λ good. fresh_good items name.0 name.1 good name.3)
+    subst (IsGood items txns) (some_is _ f over.2) (fresh_good items name.0 name.1 name.3)
 
-numbers_good : (txns : List (List ℕ)) (bs : List ℕ) (p : Numbers × List ℕ) → numbers_of txns bs ≡ Some p → AreNames txns
-    → AreNames (txns ++ p.0.name ∷ [])
+numbers_good : (txns : List (List ℕ)) (bs : List ℕ) (p : Numbers × List ℕ) → numbers_of txns bs ≡ Some p
+    → IsFresh txns p.0.name
 unfolding numbers_of
-numbers_good txns bs p e good =
+numbers_good txns bs p e =
     let name = next_from (fresh_of txns) bs _ p e in
     let prio = next_from _ name.2 _ p name.4 in
     let period = next_from _ prio.2 _ p prio.4 in
@@ -66,7 +66,7 @@ numbers_good txns bs p e good =
     let deadline = next_from _ offset.2 _ p offset.4 in
     let steps = next_from _ deadline.2 _ p deadline.4 in
     let same : name.1 ≡ p.0.name = ap (λ (q : Numbers × List ℕ). q.0.name) (some_is _ p steps.4) in
-    subst (λ (n : List ℕ). AreNames (txns ++ n ∷ [])) same (fresh_good txns name.0 name.1 good name.3)
+    subst (IsFresh txns) same (fresh_good txns name.0 name.1 name.3)
 
 txn_good : (items txns : List (List ℕ)) (two : Bool) (bs : List ℕ) (f : Found) → txn_of items txns two bs ≡ Some f
     → IsGood items txns f
@@ -79,7 +79,7 @@ txn_good items txns two bs f e =
     let writes = bind_some (list_of items w.0.0) _ f w.2 in
     let quiet = bind_some (quiet_of two w.0.1) _ f writes.2 in
     subst (IsGood items txns) (some_is _ f quiet.2) (
-      λ good. numbers_good txns bs numbers.0 numbers.1 good,
+      numbers_good txns bs numbers.0 numbers.1,
       list_good items r.0.0 reads.0 reads.1,
       list_good items w.0.0 writes.0 writes.1,
     )
@@ -121,6 +121,16 @@ found_good items txns two line f e =
     either (bytes_eq w (codes "together")) _ _ f P e (set_good items txns two bs f) (λ e.
     either (bytes_eq w (codes "mode")) _ _ f P e (mode_good items txns bs f) (λ e. absurd (none_some f e)))))
 
+is_new : (d : Decls) (f : Found) → IsGood d.names d.txn_names f → IsNew d f
+is_new d (found.Item name decl) good = good.0
+is_new d (found.Txn name decl) good = good.0.0
+is_new d (found.Set set) good = tt
+is_new d (found.Mode admitted) good = tt
+
+pub found_new : (d : Decls) (two : Bool) (line : List ℕ) (f : Found) → Some f ≡ found_of d.names d.txn_names two line
+    → IsNew d f
+found_new d two line f e = is_new d f (found_good d.names d.txn_names two line f (sym e))
+
 -- ---- what is declared so far
 
 -- so it stands before line n
@@ -158,13 +168,13 @@ wider : (a b : ℕ) (ids : List ItemId) → AreGood a ids → a < b → AreGood 
 wider a b ids h lt = record { rising = h.rising; in_range = λ k d less. omega (arith, h.in_range k d less) }
 
 with_item : (d : Decls) (n : ℕ) (name : List ℕ) (decl : ItemDecl) → IsDeclared d n
-    → (AreNames d.names → AreNames (d.names ++ name ∷ []))
+    → IsFresh d.names name
     → IsDeclared (record d { names = d.names ++ name ∷ []; items = d.items ++ decl ∷ [] }) (n + 1)
 with_item d n name decl h new =
     let count : length (d.items ++ decl ∷ []) ≡ length d.items + 1 = omega (arith, length-append d.items (decl ∷ [])) in
     let less : length d.items < length (d.items ++ decl ∷ []) = omega (arith, count) in
     record {
-      item_names = new h.item_names;
+      item_names = new.1 h.item_names;
       txn_names = h.txn_names;
       items = omega (arith, count, length-append d.names (name ∷ []), h.items);
       txns = h.txns;
@@ -183,7 +193,7 @@ with_txn d p n name decl h new =
     let writes : AreGood (length d.items) decl.writes = subst (λ (c : ℕ). AreGood c decl.writes) h.items new.2 in
     record {
       item_names = h.item_names;
-      txn_names = new.0 h.txn_names;
+      txn_names = new.0.1 h.txn_names;
       items = h.items;
       txns = omega (arith, count, length-append d.txn_names (name ∷ []), h.txns);
       reads = All-append (λ t. AreGood (length d.items) t.reads) d.txns (decl ∷ []) h.reads
@@ -216,7 +226,7 @@ item_told d name decl p =
     elim p [ part.Items ↦ more (record d { names = d.names ++ name ∷ []; items = d.items ++ decl ∷ [] }) | part.Txns ↦ bad | part.Sets ↦ bad ]
 
 item_is_told : (d : Decls) (n : ℕ) (name : List ℕ) (decl : ItemDecl) (p : Part) → IsDeclared d n
-    → (AreNames d.names → AreNames (d.names ++ name ∷ [])) → IsTold n (item_told d name decl p)
+    → IsFresh d.names name → IsTold n (item_told d name decl p)
 item_is_told d n name decl part.Items h new = with_item d n name decl h new
 item_is_told d n name decl part.Txns h new = tt
 item_is_told d n name decl part.Sets h new = tt

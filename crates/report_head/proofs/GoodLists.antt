@@ -1,5 +1,5 @@
 -- A list of items that was read, and one more name.
-use Rattle.std.proofs.Common.{◌≡◌, ◌⊎◌, ℕ, ◌+◌, ◌<◌, ◌≤◌, Bool, true, false, cond, leb, inl, inr, List, [], ◌∷◌, ◌++◌, length, get_or, Some, None, refl, sym, ap, subst, ◌∙◌, arith, codes, length-append}
+use Rattle.std.proofs.Common.{◌≡◌, ◌⊎◌, ℕ, ◌+◌, ◌<◌, ◌≤◌, Bool, true, false, cond, leb, inl, inr, List, [], ◌∷◌, ◌++◌, length, get_or, Option, Some, None, refl, sym, ap, subst, ◌∙◌, arith, codes, length-append}
 use Rattle.std.specs.Prelude.{is_some}
 use Rattle.std.specs.Str.{bytes_eq}
 use Rattle.std.specs.List.{All, AllPairs}
@@ -132,7 +132,27 @@ fresh_at : (names : List (List ℕ)) (w name : List ℕ) → AreNames names → 
 fresh_at names w name good true is e = absurd (none_some name e)
 fresh_at names w name good false is e = named names w name good (is_name w) refl is e
 
-pub fresh_good : (names : List (List ℕ)) (w name : List ℕ) → AreNames names → fresh_of names w ≡ Some name
-    → AreNames (names ++ name ∷ [])
+no_place : (o : Option ℕ) → is_some o ≡ false → o ≡ None
+no_place None e = refl
+no_place (Some i) e = absurd cc
+
+same_word : (w name : List ℕ) (plain : Bool) → cond plain (Some w) None ≡ Some name → w ≡ name
+same_word w name true e = some_is w name e
+same_word w name false e = absurd (none_some name e)
+
+new_at : (names : List (List ℕ)) (w name : List ℕ) (known : Bool) → is_some (index_of names w) ≡ known
+    → cond known None (name_of w) ≡ Some name → index_of names name ≡ None
+new_at names w name true is e = absurd (none_some name e)
+new_at names w name false is e =
+    subst (λ (n : List ℕ). index_of names n ≡ None) (same_word w name (is_name w) e) (no_place (index_of names w) is)
+
+-- a name that has no place, and that stands behind names as one of them
+abbrev pub IsFresh : List (List ℕ) → List ℕ → Type 0
+IsFresh names name = (index_of names name ≡ None) × (AreNames names → AreNames (names ++ name ∷ []))
+
+pub fresh_good : (names : List (List ℕ)) (w name : List ℕ) → fresh_of names w ≡ Some name → IsFresh names name
 unfolding fresh_of
-fresh_good names w name good e = fresh_at names w name good (is_some (index_of names w)) refl e
+fresh_good names w name e = (
+  new_at names w name (is_some (index_of names w)) refl e,
+  λ good. fresh_at names w name good (is_some (index_of names w)) refl e,
+)

@@ -154,6 +154,13 @@ pub data Told : Type 0 where
   more : Decls → Told
   mode : Decls → Bool → Told
 
+-- a name that is declared has no place yet
+abbrev pub IsNew : Decls → Found → Type 0
+IsNew d (found.Item name decl) = index_of d.names name ≡ None
+IsNew d (found.Txn name decl) = index_of d.txn_names name ≡ None
+IsNew d (found.Set set) = Unit {0}
+IsNew d (found.Mode admitted) = Unit {0}
+
 abbrev pub told : Decls → Found → Told
 told d (found.Item name decl) =
     elim (d.part) [ part.Items ↦ more (record d { names = d.names ++ name ∷ []; items = d.items ++ decl ∷ [] }) | part.Txns ↦ bad | part.Sets ↦ bad ]

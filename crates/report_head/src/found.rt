@@ -6,6 +6,7 @@ use crate::lists::{list, word_after};
 use crate::words::{next_fresh, next_mode};
 use item_model::{ItemDecl, ItemKind};
 use line_fields::{done, field, next_short, next_signed, next_unsigned, next_word, word};
+use name_table::NameTable;
 use rt_base::{Name, OutOfMemory, TogetherDecl};
 use std::alloc::Global;
 use txn_set::TxnDecl;
@@ -92,8 +93,7 @@ fn decl<'a>(word: &[u8], rest: &'a [u8]) -> Option<(ItemDecl, &'a [u8])>
 }
 
 #[tactic(auto, unfolding(crate::specs::Head::item_of))]
-fn item(items: &[Name], rest: &[u8]) -> Option<Found>
-    requires { length items.now < 2 ^ 32 }
+fn item(items: &NameTable, rest: &[u8]) -> Option<Found>
     ensures { result ≡ item_of items.now rest.now }
 {
     let Some((name, rest)) = next_fresh(items, rest) else {
@@ -106,8 +106,7 @@ fn item(items: &[Name], rest: &[u8]) -> Option<Found>
 }
 
 #[tactic(auto, unfolding(crate::specs::Head::numbers_of))]
-fn txn_numbers<'a>(txns: &[Name], rest: &'a [u8]) -> Option<(Numbers, &'a [u8])>
-    requires { length txns.now < 2 ^ 32 }
+fn txn_numbers<'a>(txns: &NameTable, rest: &'a [u8]) -> Option<(Numbers, &'a [u8])>
     ensures { option_map (λ p. (p.0, p.1.now)) result ≡ numbers_of txns.now rest.now }
 {
     let Some((name, rest)) = next_fresh(txns, rest) else {
@@ -149,13 +148,12 @@ fn quiet(two: bool, rest: &[u8]) -> Option<u64>
 #[tactic(auto, unfolding(crate::specs::Head::txn_of))]
 fn txn(
     alloc: Global,
-    items: &[Name],
-    txns: &[Name],
+    items: &NameTable,
+    txns: &NameTable,
     two: bool,
     rest: &[u8],
 ) -> Result<Option<Found>, OutOfMemory>
-    requires items { length items.now < 2 ^ 32 }
-    requires txns { length txns.now < 2 ^ 32 }
+    requires { length items.now < 2 ^ 32 }
     ensures { IfOk result (λ o. o ≡ txn_of items.now txns.now two rest.now) }
 {
     let Some((numbers, rest)) = txn_numbers(txns, rest) else {
@@ -200,7 +198,12 @@ fn txn(
 }
 
 #[tactic(auto, unfolding(crate::specs::Head::set_of))]
-fn set(alloc: Global, items: &[Name], two: bool, rest: &[u8]) -> Result<Option<Found>, OutOfMemory>
+fn set(
+    alloc: Global,
+    items: &NameTable,
+    two: bool,
+    rest: &[u8],
+) -> Result<Option<Found>, OutOfMemory>
     requires { length items.now < 2 ^ 32 }
     ensures { IfOk result (λ o. o ≡ set_of items.now two rest.now) }
 {
@@ -234,14 +237,13 @@ fn mode_line(rest: &[u8]) -> Option<Found>
 #[tactic(auto, unfolding(crate::specs::Head::found_after))]
 fn found_by(
     alloc: Global,
-    items: &[Name],
-    txns: &[Name],
+    items: &NameTable,
+    txns: &NameTable,
     two: bool,
     word: &[u8],
     rest: &[u8],
 ) -> Result<Option<Found>, OutOfMemory>
-    requires items { length items.now < 2 ^ 32 }
-    requires txns { length txns.now < 2 ^ 32 }
+    requires { length items.now < 2 ^ 32 }
     ensures { IfOk result (λ o. o ≡ found_after items.now txns.now two word.now rest.now) }
 {
     if word == b"item".as_slice() {
@@ -261,13 +263,12 @@ fn found_by(
 #[tactic(auto, unfolding(crate::specs::Head::found_of))]
 pub(crate) fn declared(
     alloc: Global,
-    items: &[Name],
-    txns: &[Name],
+    items: &NameTable,
+    txns: &NameTable,
     two: bool,
     line: &[u8],
 ) -> Result<Option<Found>, OutOfMemory>
-    requires items { length items.now < 2 ^ 32 }
-    requires txns { length txns.now < 2 ^ 32 }
+    requires { length items.now < 2 ^ 32 }
     ensures { IfOk result (λ o. o ≡ found_of items.now txns.now two line.now) }
 {
     let (word, rest) = word(line);

@@ -2,15 +2,16 @@
 ghost use Rattle.std.specs.Prelude.{◌≡◌, ◌^◌, ◌<◌, length, option_map, IfOk};
 ghost use Rattle.report_head.specs.Head.{list_of, worded};
 
-use line_fields::{cut, field, index, next_word};
-use rt_base::{ItemId, List, Name, OutOfMemory};
+use line_fields::{cut, field, next_word};
+use name_table::NameTable;
+use rt_base::{ItemId, List, OutOfMemory};
 use std::alloc::Global;
 
 /// The items of a list: `-`, or names in rising order.
 #[tactic(auto, unfolding(crate::specs::Head::list_of))]
 pub(crate) fn list(
     alloc: Global,
-    items: &[Name],
+    items: &NameTable,
     word: &[u8],
 ) -> Result<Option<List<ItemId>>, OutOfMemory>
     requires { length items.now < 2 ^ 32 }
@@ -23,7 +24,7 @@ pub(crate) fn list(
     let mut rest = word;
     let mut least = 0;
     while let Some((name, after)) = cut(b',', rest) {
-        let Some(at) = index(items, name) else {
+        let Some(at) = items.place(name) else {
             return Ok(None);
         };
         if at < least {
@@ -33,7 +34,7 @@ pub(crate) fn list(
         least = at + 1;
         rest = after;
     }
-    let Some(at) = index(items, rest) else {
+    let Some(at) = items.place(rest) else {
         return Ok(None);
     };
     if at < least {

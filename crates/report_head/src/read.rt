@@ -1,6 +1,6 @@
 //! The head of a report.
 ghost use Rattle.std.specs.Prelude.{◌≡◌, ◌^◌, ◌<◌, ◌≤◌, ◌+◌, length, IfOk, Err};
-ghost use Rattle.report_head.specs.Head.{nothing, told, told_as, line_of, head, lines_of, head_of, ended, Gives};
+ghost use Rattle.report_head.specs.Head.{nothing, IsNew, told, told_as, line_of, head, lines_of, head_of, ended, Gives};
 ghost use Rattle.report_head.specs.IsHead.{IsHead};
 ghost use Rattle.report_head.specs.Pieces.{pieces};
 
@@ -8,7 +8,8 @@ use crate::found::{Found, Part, declared};
 use crate::words::version;
 use item_model::ItemDecl;
 use line_fields::cut;
-use rt_base::{List, Name, Names, OutOfMemory, TogetherDecl};
+use name_table::{NameTable, NameTables};
+use rt_base::{List, OutOfMemory, TogetherDecl};
 use std::alloc::Global;
 use std::marker::Model;
 use txn_set::TxnDecl;
@@ -17,7 +18,8 @@ use txn_set::TxnDecl;
 /// admitted.
 #[derive(Drop)]
 pub struct Head {
-    pub names: Names,
+    /// The names, each with its place by a look-up in a hash map.
+    pub names: NameTables,
     pub items: List<ItemDecl>,
     pub txns: List<TxnDecl>,
     pub together: List<TogetherDecl>,
@@ -41,9 +43,9 @@ pub enum HeadError {
 #[derive(Drop)]
 struct Growing {
     part: Part,
-    names: Vec<Name>,
+    names: NameTable,
     items: Vec<ItemDecl>,
-    txn_names: Vec<Name>,
+    txn_names: NameTable,
     txns: Vec<TxnDecl>,
     sets: Vec<TogetherDecl>,
 }
@@ -53,7 +55,7 @@ impl Model for Growing {
 
     ghost Value = { Decls };
 
-    ghost view = { λ g. record { part = g.part; names = g.names.items; items = g.items.items; txn_names = g.txn_names.items; txns = g.txns.items; sets = g.sets.items } };
+    ghost view = { λ g. record { part = g.part; names = g.names; items = g.items.items; txn_names = g.txn_names; txns = g.txns.items; sets = g.sets.items } };
 }
 
 #[derive(Clone, Copy)]
@@ -69,15 +71,18 @@ impl Growing {
     {
         Growing {
             part: Part::Items,
-            names: Vec::new(alloc),
+            names: NameTable::new(alloc),
             items: Vec::new(alloc),
-            txn_names: Vec::new(alloc),
+            txn_names: NameTable::new(alloc),
             txns: Vec::new(alloc),
             sets: Vec::new(alloc),
         }
     }
 
-    fn add(&mut self, found: Found) -> Result<Line, OutOfMemory>
+    fn add(&mut self, alloc: Global, found: Found) -> Result<Line, OutOfMemory>
+        requires new { IsNew self.old found }
+        requires few_names { length self.old.names < 2 ^ 32 }
+        requires few_txns { length self.old.txn_names < 2 ^ 32 }
         ensures told { IfOk result (λ l. told_as l self.new ≡ told self.old found) }
         ensures names { length self.new.names ≤ length self.old.names + 1 }
         ensures txns { length self.new.txn_names ≤ length self.old.txn_names + 1 }
@@ -87,7 +92,7 @@ impl Growing {
                 if self.part != Part::Items {
                     return Ok(Line::Bad);
                 }
-                self.names.push(name)?;
+                self.names.add(alloc, &name)?;
                 self.items.push(decl)?;
                 Ok(Line::More)
             }
@@ -96,7 +101,7 @@ impl Growing {
                     return Ok(Line::Bad);
                 }
                 self.part = Part::Txns;
-                self.txn_names.push(name)?;
+                self.txn_names.add(alloc, &name)?;
                 self.txns.push(decl)?;
                 Ok(Line::More)
             }
@@ -118,7 +123,7 @@ impl Growing {
         ensures txns { length self.new.txn_names ≤ length self.old.txn_names + 1 }
     {
         match declared(alloc, &self.names, &self.txn_names, two, line)? {
-            Some(found) => self.add(found),
+            Some(found) => self.add(alloc, found),
             None => Ok(Line::Bad),
         }
     }
@@ -135,10 +140,7 @@ impl Growing {
             sets,
         } = self;
         Head {
-            names: Names {
-                items: List::of(names),
-                txns: List::of(txn_names),
-            },
+            names: NameTables::of(names, txn_names),
             items: List::of(items),
             txns: List::of(txns),
             together: List::of(sets),
@@ -193,8 +195,7 @@ fn head_in(alloc: Global, bytes: &[u8]) -> Result<Head, HeadError>
     }
 }
 
-/// The declarations of a report. It reads up to the mode line and no further, and compares each name with those that are
-/// declared before it.
+/// The declarations of a report. It reads up to the mode line and no further, and looks each name up in a hash map.
 pub fn read_head(alloc: Global, bytes: &[u8]) -> Result<Head, HeadError>
     requires { length bytes.now < 2 ^ 32 }
     ensures head { Gives result (head_of bytes.now) }

@@ -1,17 +1,17 @@
 //! Words of a line.
-ghost use Rattle.std.specs.Prelude.{◌≡◌, ◌^◌, ◌<◌, length, option_map};
+ghost use Rattle.std.specs.Prelude.{◌≡◌, option_map};
 ghost use Rattle.line_fields.specs.Cuts.{next};
 ghost use Rattle.report_head.specs.Head.{fresh_of, version_of, mode_of};
 
-use line_fields::{field, index};
+use line_fields::field;
+use name_table::NameTable;
 use rt_base::Name;
 
 #[tactic(auto, unfolding(crate::specs::Head::fresh_of))]
-fn fresh(names: &[Name], word: &[u8]) -> Option<Name>
-    requires { length names.now < 2 ^ 32 }
+fn fresh(names: &NameTable, word: &[u8]) -> Option<Name>
     ensures { result ≡ fresh_of names.now word.now }
 {
-    if index(names, word).is_some() {
+    if names.place(word).is_some() {
         None
     } else {
         Name::new(word)
@@ -19,8 +19,7 @@ fn fresh(names: &[Name], word: &[u8]) -> Option<Name>
 }
 
 #[tactic(auto, unfolding(line_fields::specs::Cuts::next))]
-pub(crate) fn next_fresh<'a>(names: &[Name], rest: &'a [u8]) -> Option<(Name, &'a [u8])>
-    requires { length names.now < 2 ^ 32 }
+pub(crate) fn next_fresh<'a>(names: &NameTable, rest: &'a [u8]) -> Option<(Name, &'a [u8])>
     ensures { option_map (λ p. (p.0, p.1.now)) result ≡ next (fresh_of names.now) rest.now }
 {
     let (word, rest) = field(rest)?;

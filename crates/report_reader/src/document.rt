@@ -95,9 +95,7 @@ fn body(
     text: &[u8],
     n: usize,
 ) -> Result<Document, DocumentError>
-    requires items { length head.names.items < 2 ^ 32 }
-    requires txns { length head.names.txns < 2 ^ 32 }
-    requires few { n + length text.now < 2 ^ 33 }
+    requires { n + length text.now < 2 ^ 33 }
     ensures document { Reads result (body_of head kind n (lines_of text.now).0 (lines_of text.now).1) }
     ensures head { IfOk result (λ d. d.head ≡ head) }
 {
@@ -135,8 +133,8 @@ fn after_head(alloc: Global, head: Head, bytes: &[u8]) -> Result<Document, Docum
 }
 
 /// Reads a document in one pass: Ok gives the declarations and the entries, where each line is a line of a report and they
-/// stand in the order of its parts, up to the last line. What the lines say is not judged. It compares each name with those
-/// that are declared, and keeps no text.
+/// stand in the order of its parts, up to the last line. What the lines say is not judged. It looks each name up in a
+/// hash map, and keeps no text.
 pub fn read_document(alloc: Global, bytes: &[u8]) -> Result<Document, DocumentError>
     requires { length bytes.now < 2 ^ 32 }
     ensures document { Reads result (document_of bytes.now) }

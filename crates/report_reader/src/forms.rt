@@ -1,5 +1,5 @@
 //! The forms of a report's lines after its declarations.
-ghost use Rattle.std.specs.Prelude.{◌≡◌, ◌<◌, ◌^◌, length, option_map};
+ghost use Rattle.std.specs.Prelude.{◌≡◌, option_map};
 ghost use Rattle.line_fields.specs.Cuts.{next};
 ghost use Rattle.report_reader.specs.Forms.{begins as begins_with, where_true, ceiling_form, bound_form, age_form, may_end as end_allowed, may_be_over as over_allowed, may_be as entry_allowed, entry_form, pending_form, ended_form, close_form, by_form, job_form, final_form, section_form, is_end as is_last};
 
@@ -8,7 +8,8 @@ use line_fields::{
     done, field, job, next_item, next_job, next_short, next_signed, next_tx, next_unsigned,
     next_word, word,
 };
-use rt_base::{End, ItemId, JobId, Name, Names};
+use name_table::NameTables;
+use rt_base::{End, ItemId, JobId};
 use step_journal::Entry;
 
 /// The version of a report, and its mode.
@@ -43,38 +44,35 @@ fn allowed(test: bool) -> Option<()>
 }
 
 #[tactic(auto, unfolding(crate::specs::Forms::ceiling_form))]
-fn ceiling(names: &Names, line: &[u8]) -> Option<()>
-    requires { length names.now.items < 2 ^ 32 }
+fn ceiling(names: &NameTables, line: &[u8]) -> Option<()>
     ensures { result ≡ ceiling_form names.now line.now }
 {
     let rest = begins(b"ceiling", line)?;
-    let (_, rest) = next_item(names.items.as_slice(), rest)?;
+    let (_, rest) = next_item(names, rest)?;
     let (_, rest) = next_short(rest)?;
     let (_, rest) = next_short(rest)?;
     done(rest)
 }
 
 #[tactic(auto, unfolding(crate::specs::Forms::bound_form))]
-fn bound(admitted: bool, names: &Names, line: &[u8]) -> Option<()>
-    requires { length names.now.txns < 2 ^ 32 }
+fn bound(admitted: bool, names: &NameTables, line: &[u8]) -> Option<()>
     ensures { result ≡ bound_form admitted names.now line.now }
 {
     allowed(admitted)?;
     let rest = begins(b"bound", line)?;
-    let (_, rest) = next_tx(names.txns.as_slice(), rest)?;
+    let (_, rest) = next_tx(names, rest)?;
     let (_, rest) = next_unsigned(rest)?;
     let (_, rest) = next_unsigned(rest)?;
     done(rest)
 }
 
 #[tactic(auto, unfolding(crate::specs::Forms::age_form))]
-fn age(admitted: bool, names: &Names, line: &[u8]) -> Option<()>
-    requires { length names.now.items < 2 ^ 32 }
+fn age(admitted: bool, names: &NameTables, line: &[u8]) -> Option<()>
     ensures { result ≡ age_form admitted names.now line.now }
 {
     allowed(admitted)?;
     let rest = begins(b"age", line)?;
-    let (_, rest) = next_item(names.items.as_slice(), rest)?;
+    let (_, rest) = next_item(names, rest)?;
     let (_, rest) = next_unsigned(rest)?;
     done(rest)
 }
@@ -115,9 +113,7 @@ fn may_be(second: bool, entry: Entry) -> bool
 
 /// The entry that a line is in a report of this version; None where it is no entry's line there.
 #[tactic(auto, unfolding(crate::specs::Forms::entry_form))]
-pub(crate) fn entry_in(second: bool, names: &Names, line: &[u8]) -> Option<Entry>
-    requires items { length names.now.items < 2 ^ 32 }
-    requires txns { length names.now.txns < 2 ^ 32 }
+pub(crate) fn entry_in(second: bool, names: &NameTables, line: &[u8]) -> Option<Entry>
     ensures { result ≡ entry_form second names.now line.now }
 {
     let entry = read_entry(names, line)?;
@@ -136,8 +132,7 @@ fn pending(rest: &[u8]) -> Option<&[u8]>
 }
 
 #[tactic(auto, unfolding(crate::specs::Forms::ended_form))]
-fn ended<'a>(second: bool, names: &Names, rest: &'a [u8]) -> Option<&'a [u8]>
-    requires { length names.now.items < 2 ^ 32 }
+fn ended<'a>(second: bool, names: &NameTables, rest: &'a [u8]) -> Option<&'a [u8]>
     ensures { option_map (λ r. r.now) result ≡ ended_form second names.now rest.now }
 {
     let (_, rest) = next_unsigned(rest)?;
@@ -148,8 +143,7 @@ fn ended<'a>(second: bool, names: &Names, rest: &'a [u8]) -> Option<&'a [u8]>
 }
 
 #[tactic(auto, unfolding(crate::specs::Forms::close_form))]
-fn close<'a>(second: bool, names: &Names, rest: &'a [u8]) -> Option<&'a [u8]>
-    requires { length names.now.items < 2 ^ 32 }
+fn close<'a>(second: bool, names: &NameTables, rest: &'a [u8]) -> Option<&'a [u8]>
     ensures { option_map (λ r. r.now) result ≡ close_form second names.now rest.now }
 {
     match pending(rest) {
@@ -159,50 +153,45 @@ fn close<'a>(second: bool, names: &Names, rest: &'a [u8]) -> Option<&'a [u8]>
 }
 
 #[tactic(auto, unfolding(crate::specs::Forms::by_form))]
-fn by(txns: &[Name], word: &[u8]) -> Option<Option<JobId>>
-    requires { length txns.now < 2 ^ 32 }
-    ensures { result ≡ by_form txns.now word.now }
+fn by(names: &NameTables, word: &[u8]) -> Option<Option<JobId>>
+    ensures { result ≡ by_form names.now.txns word.now }
 {
     if word == b"-".as_slice() {
         Some(None)
     } else {
-        Some(Some(job(txns, word)?))
+        Some(Some(job(names, word)?))
     }
 }
 
 #[tactic(auto, unfolding(line_fields::specs::Cuts::next))]
-fn next_by<'a>(txns: &[Name], rest: &'a [u8]) -> Option<(Option<JobId>, &'a [u8])>
-    requires { length txns.now < 2 ^ 32 }
-    ensures { option_map (λ p. (p.0, p.1.now)) result ≡ next (by_form txns.now) rest.now }
+fn next_by<'a>(names: &NameTables, rest: &'a [u8]) -> Option<(Option<JobId>, &'a [u8])>
+    ensures { option_map (λ p. (p.0, p.1.now)) result ≡ next (by_form names.now.txns) rest.now }
 {
     let (word, rest) = field(rest)?;
-    let by = by(txns, word)?;
+    let by = by(names, word)?;
     Some((by, rest))
 }
 
 #[tactic(auto, unfolding(crate::specs::Forms::job_form))]
-fn job_row(second: bool, names: &Names, line: &[u8]) -> Option<()>
-    requires items { length names.now.items < 2 ^ 32 }
-    requires txns { length names.now.txns < 2 ^ 32 }
+fn job_row(second: bool, names: &NameTables, line: &[u8]) -> Option<()>
     ensures { result ≡ job_form second names.now line.now }
 {
     let rest = begins(b"job", line)?;
-    let (_, rest) = next_job(names.txns.as_slice(), rest)?;
+    let (_, rest) = next_job(names, rest)?;
     let (_, rest) = next_unsigned(rest)?;
     let rest = close(second, names, rest)?;
-    let (_, rest) = next_by(names.txns.as_slice(), rest)?;
+    let (_, rest) = next_by(names, rest)?;
     let (_, rest) = next_unsigned(rest)?;
     done(rest)
 }
 
 /// The item of a line `final ITEM VALUE STAMP`; None where it is no such line.
 #[tactic(auto, unfolding(crate::specs::Forms::final_form))]
-pub fn final_item(names: &Names, line: &[u8]) -> Option<ItemId>
-    requires { length names.now.items < 2 ^ 32 }
+pub fn final_item(names: &NameTables, line: &[u8]) -> Option<ItemId>
     ensures { result ≡ final_form names.now line.now }
 {
     let rest = begins(b"final", line)?;
-    let (item, rest) = next_item(names.items.as_slice(), rest)?;
+    let (item, rest) = next_item(names, rest)?;
     let (_, rest) = next_signed(rest)?;
     let (_, rest) = next_unsigned(rest)?;
     done(rest)?;
@@ -220,9 +209,7 @@ fn unit(item: Option<ItemId>) -> Option<()>
 
 /// Some exactly where the line is one of this section.
 #[tactic(auto, unfolding(crate::specs::Forms::section_form))]
-pub(crate) fn line_in(section: Section, kind: Kind, names: &Names, line: &[u8]) -> Option<()>
-    requires items { length names.now.items < 2 ^ 32 }
-    requires txns { length names.now.txns < 2 ^ 32 }
+pub(crate) fn line_in(section: Section, kind: Kind, names: &NameTables, line: &[u8]) -> Option<()>
     ensures { result ≡ section_form section kind names.now line.now }
 {
     match section {

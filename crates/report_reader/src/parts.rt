@@ -7,20 +7,19 @@ ghost use Rattle.report_reader.specs.Document.{lines_of, front, after, from_entr
 use crate::document::DocumentError;
 use crate::forms::{Kind, Section, entry_in, is_end, line_in};
 use line_fields::cut;
-use rt_base::{Names, OutOfMemory};
+use name_table::NameTables;
+use rt_base::OutOfMemory;
 use step_journal::Entry;
 
 // Where the lines of a section end: what stands from there on, and the number of its first line.
 fn skip<'a>(
     section: Section,
     kind: Kind,
-    names: &Names,
+    names: &NameTables,
     text: &'a [u8],
     first: usize,
 ) -> (&'a [u8], usize)
-    requires items { length names.now.items < 2 ^ 32 }
-    requires txns { length names.now.txns < 2 ^ 32 }
-    requires few { first + length text.now < 2 ^ 33 }
+    requires { first + length text.now < 2 ^ 33 }
     ensures { Moves first text.now result.1 result.0.now (after (section_form section kind names.now) (lines_of text.now).0) }
 {
     let mut rest = text;
@@ -41,13 +40,11 @@ fn skip<'a>(
 #[tactic(auto, unfolding(crate::specs::Document::from_entries))]
 pub(crate) fn to_entries<'a>(
     kind: Kind,
-    names: &Names,
+    names: &NameTables,
     text: &'a [u8],
     first: usize,
 ) -> (&'a [u8], usize)
-    requires items { length names.now.items < 2 ^ 32 }
-    requires txns { length names.now.txns < 2 ^ 32 }
-    requires few { first + length text.now < 2 ^ 33 }
+    requires { first + length text.now < 2 ^ 33 }
     ensures { Moves first text.now result.1 result.0.now (from_entries kind names.now (lines_of text.now).0) }
 {
     let (bounds, n) = skip(Section::Ceilings, kind, names, text, first);
@@ -60,13 +57,11 @@ pub(crate) fn to_entries<'a>(
 pub(crate) fn add_entries<'a>(
     entries: &mut Vec<Entry>,
     second: bool,
-    names: &Names,
+    names: &NameTables,
     text: &'a [u8],
     first: usize,
 ) -> Result<(&'a [u8], usize), OutOfMemory>
-    requires items { length names.now.items < 2 ^ 32 }
-    requires txns { length names.now.txns < 2 ^ 32 }
-    requires few { first + length text.now < 2 ^ 33 }
+    requires { first + length text.now < 2 ^ 33 }
     ensures entries { OnOk result (entries.new.items ≡ entries.old.items ++ front (entry_form second names.now) (lines_of text.now).0) }
     ensures after { IfOk result (λ r. Moves first text.now r.1 r.0.now (after (entry_form second names.now) (lines_of text.now).0)) }
 {
@@ -87,13 +82,11 @@ pub(crate) fn add_entries<'a>(
 /// line.
 pub(crate) fn to_end<'a>(
     kind: Kind,
-    names: &Names,
+    names: &NameTables,
     text: &'a [u8],
     first: usize,
 ) -> (&'a [u8], usize)
-    requires items { length names.now.items < 2 ^ 32 }
-    requires txns { length names.now.txns < 2 ^ 32 }
-    requires few { first + length text.now < 2 ^ 33 }
+    requires { first + length text.now < 2 ^ 33 }
     ensures { Moves first text.now result.1 result.0.now (after (section_form Finals kind names.now) (after (section_form Jobs kind names.now) (lines_of text.now).0)) }
 {
     let (finals, n) = skip(Section::Jobs, kind, names, text, first);

@@ -40,6 +40,7 @@ pub fn worked_history(alloc: Global, bytes: &[u8]) -> Option<Worked>
     }
     let document = read_document(alloc, bytes).ok()?;
     let (names, set) = compile_head(alloc, document.head).ok()?;
+    let names = names.into_names();
     if !are_named(&names, &set) {
         return None;
     }

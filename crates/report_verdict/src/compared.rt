@@ -7,16 +7,16 @@ ghost use Rattle.report_verdict.specs.Compared.{final_name as final_name_of, wro
 
 use crate::verdict::Verdict;
 use line_fields::cut;
+use name_table::NameTables;
 use report_reader::final_item;
-use rt_base::{Name, Names};
+use rt_base::Name;
 
 #[tactic(auto, unfolding(crate::specs::Compared::final_name))]
-fn final_name(names: &Names, line: &[u8]) -> Option<Name>
-    requires { length names.now.items < 2 ^ 32 }
+fn final_name(names: &NameTables, line: &[u8]) -> Option<Name>
     ensures { result ≡ final_name_of names.now line.now }
 {
     let item = final_item(names, line)?;
-    match names.items.as_slice().get(item.0 as usize) {
+    match names.names().items.as_slice().get(item.0 as usize) {
         Some(name) => Some(*name),
         None => None,
     }
@@ -38,8 +38,7 @@ fn wrong_by(n: usize, item: Option<Name>, other: Option<Name>) -> Verdict
     }
 }
 
-fn wrong(names: &Names, n: usize, document: &[u8], report: &[u8]) -> Verdict
-    requires { length names.now.items < 2 ^ 32 }
+fn wrong(names: &NameTables, n: usize, document: &[u8], report: &[u8]) -> Verdict
     ensures { result ≡ wrong_of names.now n document.now report.now }
 {
     let item = final_name(names, document);
@@ -65,9 +64,8 @@ fn over(n: usize, report: &[u8]) -> Verdict
 
 /// How the lines of a document differ from those of a report; Legal where they do not. It compares the bytes, and goes over the
 /// lines of both where these differ. It takes no memory.
-pub(crate) fn compared(names: &Names, document: &[u8], report: &[u8]) -> Verdict
-    requires items { length names.now.items < 2 ^ 32 }
-    requires few { length document.now < 2 ^ 32 }
+pub(crate) fn compared(names: &NameTables, document: &[u8], report: &[u8]) -> Verdict
+    requires { length document.now < 2 ^ 32 }
     ensures { result ≡ compared_of names.now 1 (lines_of document.now).0 (lines_of report.now).0 }
 {
     if document == report {

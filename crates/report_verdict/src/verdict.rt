@@ -11,8 +11,9 @@ ghost use Rattle.report_verdict.specs.declared.verdict.Verdict.TheVariants.{BadS
 ghost use Rattle.report_verdict.specs.Verdict.{refusal_in, IsVerdict, HasParts};
 
 use crate::compared::compared;
+use name_table::NameTables;
 use report_reader::{Document, DocumentError, read_document};
-use rt_base::{Name, Names, OutOfMemory};
+use rt_base::{Name, OutOfMemory};
 use run_report::{compile_head, report_with_items};
 use serial_replay::{ReplayError, last_items};
 use set_admission::{AdmitError, AdmittedSet, admit, admitted_unless_refused};
@@ -73,7 +74,7 @@ fn not_admitted(error: AdmitError) -> Result<Verdict, OutOfMemory>
 fn judge_entries(
     alloc: Global,
     bytes: &[u8],
-    names: &Names,
+    names: &NameTables,
     set: &CompiledSet,
     bounds: Option<&AdmittedSet>,
     entries: &[Entry],
@@ -92,7 +93,7 @@ fn judge_entries(
         Err(ReplayError::OutOfMemory) => Err(OutOfMemory),
         Err(ReplayError::NotLegal { index }) => Ok(Verdict::NotALegalStep { n: first + index }),
         Ok(items) => {
-            let text = report_with_items(alloc, names, set, bounds, entries, &items)?;
+            let text = report_with_items(alloc, names.names(), set, bounds, entries, &items)?;
             Ok(compared(names, bytes, &text))
         }
     }
@@ -102,7 +103,7 @@ fn judge_entries(
 fn judge_mode(
     alloc: Global,
     bytes: &[u8],
-    names: &Names,
+    names: &NameTables,
     set: CompiledSet,
     admitted: bool,
     entries: &[Entry],

@@ -3,15 +3,15 @@ ghost use Rattle.std.specs.Prelude.{◌≡◌, IfOk, IfErr, None};
 ghost use Rattle.txn_compiler.specs.Refusal.{Refuses, compile_refusal};
 ghost use Rattle.report_head.specs.IsHead.{IsHead, set_of};
 
+use name_table::NameTables;
 use report_head::Head;
-use rt_base::Names;
 use std::alloc::Global;
 use txn_compiler::{CompileError, compile, kept_as_declared};
 use txn_set::CompiledSet;
 
 /// The declarations at the head of a report, compiled, with their names. An error other than OutOfMemory is the refusal
 /// of the first rule of sets that they break, with the first place that breaks it.
-pub fn compile_head(alloc: Global, head: Head) -> Result<(Names, CompiledSet), CompileError>
+pub fn compile_head(alloc: Global, head: Head) -> Result<(NameTables, CompiledSet), CompileError>
     requires { IsHead head }
     ensures names { IfOk result (λ r. r.0 ≡ head.names) }
     ensures set { IfOk result (λ r. r.1 ≡ set_of head) }
