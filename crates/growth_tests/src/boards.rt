@@ -1,0 +1,64 @@
+//! Making boards.
+ghost use Rattle.std.specs.Prelude.{◌≡◌, [], IfOk};
+ghost use Rattle.lock_core.specs.Stands.{Stands};
+
+use crate::answers::has_known_answers;
+use crate::fault::Fault;
+use crate::known::{is_known_admitted, is_known_set};
+use crate::said::{Before, failed, judged, refused};
+use admitted_core::AdmittedCore;
+use lock_core::Core;
+use set_admission::AdmittedSet;
+use std::alloc::Global;
+use txn_set::CompiledSet;
+
+const CORE: &str = "Core::new";
+
+const ADMITTED_CORE: &str = "AdmittedCore::new";
+
+// The entries of the answers that are known, and more.
+const ROOM: usize = 16;
+
+// A core, and whether a growth was refused at first.
+fn core_twice<R: Print>(rt: &R, alloc: Global, set: CompiledSet) -> Result<(Core, Before), Fault> {
+    match Core::new(alloc, set, ROOM) {
+        Ok(core) => Ok((core, Before::First)),
+        Err((set, _)) => {
+            let before = refused(rt, CORE, is_known_set(&set))?;
+            match Core::new(alloc, set, ROOM) {
+                Ok(core) => Ok((core, before)),
+                Err(_) => Err(failed(rt, CORE)),
+            }
+        }
+    }
+}
+
+/// Makes a core, which has to answer as is known.
+pub fn core<R: Print>(rt: &R, alloc: Global, set: CompiledSet) -> Result<(), Fault> {
+    let (mut core, before) = core_twice(rt, alloc, set)?;
+    judged(rt, CORE, before, has_known_answers(&mut core))
+}
+
+// A core over an admitted set, and whether a growth was refused at first.
+fn admitted_core_twice<R: Print>(
+    rt: &R,
+    alloc: Global,
+    set: AdmittedSet,
+) -> Result<(AdmittedCore, Before), Fault> {
+    match AdmittedCore::new(alloc, set, ROOM) {
+        Ok(core) => Ok((core, Before::First)),
+        Err((set, _)) => {
+            let before = refused(rt, ADMITTED_CORE, is_known_admitted(&set))?;
+            match AdmittedCore::new(alloc, set, ROOM) {
+                Ok(core) => Ok((core, before)),
+                Err(_) => Err(failed(rt, ADMITTED_CORE)),
+            }
+        }
+    }
+}
+
+/// Makes a core over the admitted set, which has to answer as is known.
+pub fn admitted_core<R: Print>(rt: &R, alloc: Global, set: AdmittedSet) -> Result<(), Fault> {
+    let (mut core, before) = admitted_core_twice(rt, alloc, set)?;
+    judged(rt, ADMITTED_CORE, before, has_known_answers(&mut core))
+}

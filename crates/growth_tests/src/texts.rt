@@ -1,0 +1,59 @@
+//! Reading the scenario.
+ghost use Rattle.std.specs.Prelude.{IfOk};
+ghost use Rattle.scenario.specs.Shown.{shown};
+ghost use Rattle.scenario.specs.Scenarios.{IsScenario};
+
+use crate::fault::Fault;
+use crate::said::{Before, failed, judged, refused};
+use scenario::Scenario;
+use scenario_reader::{ScenarioError, read_scenario};
+use scenario_writer::write_scenario;
+use std::alloc::Global;
+
+const NAME: &str = "read_scenario";
+
+// The scenario of a text, where no growth is refused.
+fn read<R: Print>(rt: &R, alloc: Global, text: &[u8]) -> Result<Scenario, Fault>
+    ensures { IfOk result (λ s. IsScenario (shown s)) }
+{
+    if text.len() >= 1 << 32 {
+        return Err(Fault::NotKnown);
+    }
+    match read_scenario(alloc, text) {
+        Ok(scenario) => Ok(scenario),
+        Err(_) => Err(failed(rt, NAME)),
+    }
+}
+
+// The scenario of a text, and whether a growth was refused at first.
+fn read_twice<R: Print>(rt: &R, alloc: Global, text: &[u8]) -> Result<(Scenario, Before), Fault>
+    ensures { IfOk result (λ r. IsScenario (shown r.0)) }
+{
+    if text.len() >= 1 << 32 {
+        return Err(Fault::NotKnown);
+    }
+    match read_scenario(alloc, text) {
+        Ok(scenario) => Ok((scenario, Before::First)),
+        Err(ScenarioError::OutOfMemory) => {
+            // The text is lent, so no call can change it.
+            let before = refused(rt, NAME, true)?;
+            Ok((read(rt, alloc, text)?, before))
+        }
+        Err(_) => Err(failed(rt, NAME)),
+    }
+}
+
+/// The scenario of a canonical text. It is the known one where it is written as the same text again.
+pub fn scenario<R: Print>(rt: &R, alloc: Global, text: &[u8]) -> Result<Scenario, Fault>
+    ensures { IfOk result (λ s. IsScenario (shown s)) }
+{
+    let (scenario, before) = read_twice(rt, alloc, text)?;
+    let again = write_scenario(alloc, &scenario)?;
+    judged(rt, NAME, before, again.as_slice() == text)?;
+    Ok(scenario)
+}
+
+/// The scenario once more, for a call that took the first.
+pub fn read_anew<R: Print>(rt: &R, alloc: Global, text: &[u8]) -> Result<Scenario, Fault> {
+    read(rt, alloc, text)
+}
