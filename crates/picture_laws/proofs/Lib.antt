@@ -1,0 +1,4 @@
+pub mod Shown
+pub mod Goes
+pub mod Steps
+pub mod Held
