@@ -1,5 +1,5 @@
 -- Seats that are of a plant, one by one and in a list.
-use Rattle.std.proofs.Common.{◌≡◌, List, [], ◌∷◌, ◌++◌, refl, sym, subst, ⊎_elim}
+use Rattle.std.proofs.Common.{◌≡◌, List, [], ◌∷◌, ◌++◌, sym, subst, ⊎_elim}
 use mathlib.Core.Option.{some-ne-none}
 use Rattle.turn_cell.proofs.Lists.{at_snoc_place}
 use Rattle.shared_plant.specs.Seats.{PlantFacts, SeatFacts, IsOf, AreOf}

@@ -3,9 +3,9 @@ ghost use Rattle.std.specs.Prelude.{◌≡◌, ◌<◌, Some, None, length};
 ghost use Rattle.shared_plant.specs.Seats.{IsOf};
 ghost use Rattle.rt_base.specs.declared.ids.TxId.{TxId as Transaction};
 
-use crate::house::{House, PlainSeat};
+use crate::house::{House, HouseSeat};
+use admitted_core::AdmittedCore;
 use board::{IdleReply, StepReply};
-use plain_core::PlainCore;
 use rt_base::{ItemId, Op, Tick, TxId, Value};
 use shared_plant::{Plant, Tried};
 use std::alloc::Global;
@@ -13,7 +13,7 @@ use std::sync::Wait;
 use step_journal::Entry;
 
 /// Whether the plan was granted.
-pub fn is_planned(plant: &Plant<PlainCore>, seat: &mut PlainSeat, tx: TxId, tick: Tick) -> bool
+pub fn is_planned(plant: &Plant<AdmittedCore>, seat: &mut HouseSeat, tx: TxId, tick: Tick) -> bool
     requires { IsOf plant.now seat.old × (tx.0 < length plant.now.set.txns) }
     ensures { (seat.new.plant ≡ seat.old.plant) × (seat.new.tx ≡ seat.old.tx) }
 {
@@ -24,7 +24,7 @@ pub fn is_planned(plant: &Plant<PlainCore>, seat: &mut PlainSeat, tx: TxId, tick
 }
 
 // The stored value and stamp of the first item.
-fn peeked(plant: &Plant<PlainCore>, seat: &mut PlainSeat) -> Option<(Value, Tick)>
+fn peeked(plant: &Plant<AdmittedCore>, seat: &mut HouseSeat) -> Option<(Value, Tick)>
     requires { IsOf plant.now seat.old × (0 < length plant.now.set.items) }
     ensures { (seat.new.plant ≡ seat.old.plant) × (seat.new.tx ≡ seat.old.tx) }
 {
@@ -36,8 +36,8 @@ fn peeked(plant: &Plant<PlainCore>, seat: &mut PlainSeat) -> Option<(Value, Tick
 
 /// What a step is answered; None where the turn was taken.
 pub fn replied(
-    plant: &Plant<PlainCore>,
-    seat: &mut PlainSeat,
+    plant: &Plant<AdmittedCore>,
+    seat: &mut HouseSeat,
     serial: u32,
     op: Op,
 ) -> Option<StepReply>
@@ -53,8 +53,8 @@ pub fn replied(
 // What a step is answered, where it is tried until the board answers.
 fn waited<R: Wait>(
     rt: &R,
-    plant: &Plant<PlainCore>,
-    seat: &mut PlainSeat,
+    plant: &Plant<AdmittedCore>,
+    seat: &mut HouseSeat,
     serial: u32,
     op: Op,
 ) -> StepReply
@@ -66,8 +66,8 @@ fn waited<R: Wait>(
 
 /// How many entries were drained.
 pub fn drained(
-    plant: &Plant<PlainCore>,
-    seat: &mut PlainSeat,
+    plant: &Plant<AdmittedCore>,
+    seat: &mut HouseSeat,
     most: usize,
     into: &mut Vec<Entry>,
 ) -> Option<usize>
@@ -81,7 +81,7 @@ pub fn drained(
 }
 
 /// To which tick the time went on, if this call did it.
-pub fn idled(plant: &Plant<PlainCore>, seat: &mut PlainSeat) -> Option<Tick>
+pub fn idled(plant: &Plant<AdmittedCore>, seat: &mut HouseSeat) -> Option<Tick>
     requires { IsOf plant.now seat.old }
     ensures { (seat.new.plant ≡ seat.old.plant) × (seat.new.tx ≡ seat.old.tx) }
 {
@@ -105,8 +105,8 @@ pub enum Ask {
 fn told<R: Wait>(
     rt: &R,
     alloc: Global,
-    plant: &Plant<PlainCore>,
-    seat: &mut PlainSeat,
+    plant: &Plant<AdmittedCore>,
+    seat: &mut HouseSeat,
     ask: Ask,
 ) -> Option<String>
     requires { IsOf plant.now seat.old × (2 < length plant.now.set.txns) × (0 < length plant.now.set.items) }
@@ -161,7 +161,7 @@ impl House {
 }
 
 /// Plans each of these, the transaction and the tick. Whether all were granted.
-pub fn plan_each(plant: &Plant<PlainCore>, seat: &mut PlainSeat, plans: &[(u32, Tick)]) -> bool
+pub fn plan_each(plant: &Plant<AdmittedCore>, seat: &mut HouseSeat, plans: &[(u32, Tick)]) -> bool
     requires { IsOf plant.now seat.old × (2 < length plant.now.set.txns) }
     ensures { (seat.new.plant ≡ seat.old.plant) × (seat.new.tx ≡ seat.old.tx) }
 {

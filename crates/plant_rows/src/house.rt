@@ -1,11 +1,12 @@
-//! A plant over a plain core, with its four seats.
+//! A plant over the core of an admitted set, with its four seats.
 ghost use Rattle.std.specs.Prelude.{◌≡◌, ◌<◌, ◌++◌, ◌∷◌, [], None, length, OnOk, IfSome};
-ghost use Rattle.plain_core.specs.Stands.{Stands};
+ghost use Rattle.lock_core.specs.Stands.{Stands};
 ghost use Rattle.shared_plant.specs.Seats.{IsOf, AreOf};
 ghost use Rattle.plant_rows.specs.Fresh.{IsFresh, AreFresh};
 
-use plain_core::PlainCore;
+use admitted_core::AdmittedCore;
 use rt_base::OutOfMemory;
+use set_admission::admit;
 use shared_plant::{CloseRefused, Plant, Seat};
 use std::alloc::Global;
 use step_journal::Entry;
@@ -13,16 +14,16 @@ use turn_cell::Past;
 use txn_set::CompiledSet;
 
 /// A seat of the plant.
-pub type PlainSeat = Seat<PlainCore>;
+pub type HouseSeat = Seat<AdmittedCore>;
 
 /// A plant of three transactions and an item at least, and its seats.
 #[derive(Drop)]
 pub struct House {
-    pub plant: Plant<PlainCore>,
-    pub operator: PlainSeat,
-    pub sample: PlainSeat,
-    pub control: PlainSeat,
-    pub logger: PlainSeat,
+    pub plant: Plant<AdmittedCore>,
+    pub operator: HouseSeat,
+    pub sample: HouseSeat,
+    pub control: HouseSeat,
+    pub logger: HouseSeat,
     ghost operators: { IsOf plant operator × (operator.tx ≡ None) },
     ghost samples: { IsOf plant sample },
     ghost controls: { IsOf plant control },
@@ -37,21 +38,24 @@ impl Past<Entry> for NoEntry {
     ghost past = { [] };
 }
 
-/// A board with an empty history.
-pub fn core(alloc: Global, set: &CompiledSet) -> Option<PlainCore>
-    ensures { IfSome result (λ c. (c.set ≡ set.now) × Stands c []) }
+// A board with an empty history. None where the set is not admitted.
+fn core(alloc: Global, set: &CompiledSet) -> Option<AdmittedCore>
+    ensures { IfSome result (λ c. (c.board.set ≡ set.now) × Stands c.board []) }
 {
     let Ok(set) = set.copy(alloc) else {
         return None;
     };
-    match PlainCore::new(alloc, set, 4096) {
+    let Ok(set) = admit(alloc, set) else {
+        return None;
+    };
+    match AdmittedCore::new(alloc, set, 4096) {
         Ok(core) => Some(core),
         Err(_) => None,
     }
 }
 
 // A plant over a set with so many transactions and items at least, and its seats.
-fn started(alloc: Global, set: &CompiledSet) -> Option<(Plant<PlainCore>, Vec<PlainSeat>)>
+fn started(alloc: Global, set: &CompiledSet) -> Option<(Plant<AdmittedCore>, Vec<HouseSeat>)>
     ensures sizes { IfSome result (λ r. (2 < length r.0.set.txns) × (0 < length r.0.set.items)) }
     ensures seats { IfSome result (λ r. AreFresh r.0 r.1.items) }
 {
@@ -69,7 +73,7 @@ fn started(alloc: Global, set: &CompiledSet) -> Option<(Plant<PlainCore>, Vec<Pl
 }
 
 // The last seat of a list.
-fn fresh_seat(plant: &Plant<PlainCore>, seats: &mut Vec<PlainSeat>) -> Option<PlainSeat>
+fn fresh_seat(plant: &Plant<AdmittedCore>, seats: &mut Vec<HouseSeat>) -> Option<HouseSeat>
     requires { AreFresh plant.now seats.old.items }
     ensures { IfSome result (λ s. IsFresh plant.now s × AreFresh plant.now seats.new.items) }
 {
@@ -80,7 +84,7 @@ fn fresh_seat(plant: &Plant<PlainCore>, seats: &mut Vec<PlainSeat>) -> Option<Pl
     }
 }
 
-/// A plant over the set, whose seats have made no call.
+/// A plant over the set, whose seats have made no call. None where the set is not admitted.
 pub fn new_house(alloc: Global, set: &CompiledSet) -> Option<House>
     ensures { IfSome result (λ h. IsFresh h.plant h.sample × IsFresh h.plant h.control × IsFresh h.plant h.logger) }
 {
@@ -103,9 +107,9 @@ pub fn new_house(alloc: Global, set: &CompiledSet) -> Option<House>
 
 // Puts a seat at the end of a list.
 fn put(
-    plant: &Plant<PlainCore>,
-    seats: &mut Vec<PlainSeat>,
-    seat: PlainSeat,
+    plant: &Plant<AdmittedCore>,
+    seats: &mut Vec<HouseSeat>,
+    seat: HouseSeat,
 ) -> Result<(), OutOfMemory>
     requires { AreOf plant.now seats.old.items × IsOf plant.now seat }
     ensures { OnOk result (AreOf plant.now seats.new.items) }
@@ -118,11 +122,11 @@ fn put(
 // These seats, the operator's last.
 fn seats_of(
     alloc: Global,
-    plant: &Plant<PlainCore>,
-    sample: PlainSeat,
-    control: PlainSeat,
-    operator: PlainSeat,
-) -> Option<Vec<PlainSeat>>
+    plant: &Plant<AdmittedCore>,
+    sample: HouseSeat,
+    control: HouseSeat,
+    operator: HouseSeat,
+) -> Option<Vec<HouseSeat>>
     requires { IsOf plant.now sample × IsOf plant.now control × IsOf plant.now operator }
     ensures { IfSome result (λ s. AreOf plant.now s.items) }
 {
@@ -134,7 +138,7 @@ fn seats_of(
 }
 
 /// The board of a plant that all seats close; before them, all but the logger's, and what was answered then.
-pub fn closed(alloc: Global, house: House) -> Option<(usize, usize, PlainCore)> {
+pub fn closed(alloc: Global, house: House) -> Option<(usize, usize, AdmittedCore)> {
     let House {
         plant,
         operator,

@@ -1,9 +1,11 @@
-//! Drives plants over a plain core as standard input says, and prints what was told: at all four seats by one thread, to two
-//! threads that plan, to a thread for each seat, and by runs of workers. Empty lines and lines that begin with `#` are
-//! passed over.
+//! Drives plants over the core of an admitted set as standard input says, and prints what was told: at all four seats by one
+//! thread, to two threads that plan, to a thread for each seat, also where the callers are hostile, and by runs of workers.
+//! Empty lines and lines that begin with `#` are passed over.
 #![tactic(auto)]
 
 mod calls;
+mod ends;
+mod hostile;
 mod house;
 mod pairs;
 mod told;
@@ -12,9 +14,11 @@ mod workers;
 
 use board::Board;
 use calls::Ask;
+use ends::{ends_of, waits};
+use hostile::{Hostile, take_hostile_turns};
 use house::{House, closed, new_house};
 use pairs::planned_by_two;
-use rt_base::End;
+use rt_base::{End, TxId};
 use set_rows::{Told, declared, entry_of};
 use std::alloc::Global;
 use std::io;
@@ -25,12 +29,13 @@ use told::{has_told, history_of, is_legal};
 use turns::{Turned, take_turns};
 use workers::{case_of, counts, ran};
 
-// The set, the plant of the last line that made one, and the entries that were drained or that an out took.
+// The set, the plant of the last line that made one, the entries that were drained of it, and those of the last run.
 #[derive(Drop)]
 struct Scene {
     head: String,
     told: Option<Told>,
     house: Option<House>,
+    drained: Vec<Entry>,
     entries: Vec<Entry>,
 }
 
@@ -76,12 +81,11 @@ fn asked<R: Wait>(
     scene.house.as_mut()?.ask(rt, alloc, seat, ask)
 }
 
-// Drains so many entries at most.
+// Drains so many entries at most, behind those that were drained before.
 fn drain(alloc: Global, scene: &mut Scene, most: usize) -> Option<String> {
-    let mut into = Vec::with_capacity(alloc, 16).ok()?;
-    let count = scene.house.as_mut()?.drain(most, &mut into);
-    let entries = into.as_slice();
-    format!(in alloc; "{count:?} {entries:?}").ok()
+    let count = scene.house.as_mut()?.drain(most, &mut scene.drained);
+    let drained = scene.drained.as_slice();
+    format!(in alloc; "{count:?} {drained:?}").ok()
 }
 
 fn close(alloc: Global, house: House) -> Option<String> {
@@ -139,9 +143,43 @@ fn run<R: Threads + Wait + Sync>(
     format!(in alloc; "{answer:?}").ok()
 }
 
-// What the entries of the last run are: how many, the one at a place, or what became of a transaction's jobs.
+// A run of hostile callers on a new plant.
+fn run_hostile<R: Threads + Wait + Sync>(
+    rt: &R,
+    alloc: Global,
+    scene: &mut Scene,
+) -> Option<String> {
+    let Some(told) = &scene.told else {
+        return None;
+    };
+    let Hostile {
+        history,
+        refused,
+        all_drained,
+    } = take_hostile_turns(rt, alloc, new_house(alloc, &told.set)?)?;
+    let legal = is_legal(alloc, &told.set, history.as_slice())?;
+    scene.entries = history;
+    format!(in alloc; "drained {all_drained}, legal {legal}, refused for good {refused:?}").ok()
+}
+
+// How the jobs of a transaction ended in the last run.
+fn ends_text(alloc: Global, scene: &Scene, tx: &str) -> Option<String> {
+    let Some(told) = &scene.told else {
+        return None;
+    };
+    let tx = TxId(tx.parse::<u32>().ok()?);
+    let ends = ends_of(alloc, &told.set, scene.entries.as_slice(), tx)?;
+    format!(in alloc; "{ends:?}").ok()
+}
+
+// What the entries of the last run are: how many, the one at a place, what became of a transaction's jobs, or how many
+// refused locks were granted in the end.
 fn seen(alloc: Global, entries: &[Entry], word: &str, rest: &str) -> Option<String> {
     match word {
+        "locks" => {
+            let (refused, granted) = waits(entries);
+            format!(in alloc; "{granted} of {refused} granted after the holder's end").ok()
+        }
         "count" => {
             let count = entries.len();
             format!(in alloc; "{count}").ok()
@@ -151,7 +189,6 @@ fn seen(alloc: Global, entries: &[Entry], word: &str, rest: &str) -> Option<Stri
             format!(in alloc; "{entry:?}").ok()
         }
         "committed" => jobs(alloc, entries, rest, End::Committed),
-        "overrun" => jobs(alloc, entries, rest, End::Overrun),
         "quit" => jobs(alloc, entries, rest, End::Quit),
         _ => None,
     }
@@ -180,6 +217,7 @@ fn with_house<R: Threads + Wait + Sync>(
         }
         "turns" => told_each(alloc, told, take_turns(rt, alloc, house)?),
         _ => {
+            scene.drained = Vec::with_capacity(alloc, 16).ok()?;
             scene.house = Some(house);
             Some(String::new(alloc))
         }
@@ -200,6 +238,8 @@ fn follow<R: Threads + Wait + Sync>(
         "drain" => drain(alloc, scene, rest.parse::<usize>().ok()?),
         "close" => close(alloc, scene.house.take()?),
         "run" => run(rt, alloc, scene, rest),
+        "hostile" => run_hostile(rt, alloc, scene),
+        "ends" => ends_text(alloc, scene, rest),
         "operator" | "sample" | "control" | "logger" => asked(rt, alloc, scene, word, rest),
         _ => seen(alloc, scene.entries.as_slice(), word, rest),
     }
@@ -211,6 +251,7 @@ fn main(rt: HostRuntime) -> io::Result<()> {
         head: String::new(alloc),
         told: None,
         house: None,
+        drained: Vec::new(alloc),
         entries: Vec::new(alloc),
     };
     for line in rt.lines(alloc) {

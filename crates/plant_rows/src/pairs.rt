@@ -2,9 +2,9 @@
 ghost use Rattle.std.specs.Prelude.{◌≡◌, ◌<◌, length};
 ghost use Rattle.shared_plant.specs.Seats.{IsOf};
 
-use crate::house::{House, PlainSeat, closed};
+use crate::house::{House, HouseSeat, closed};
+use admitted_core::AdmittedCore;
 use board::Board;
-use plain_core::PlainCore;
 use rt_base::TxId;
 use shared_plant::{Plant, Tried};
 use std::alloc::Global;
@@ -13,7 +13,7 @@ use std::thread::{Threads, join};
 use step_journal::Entry;
 
 // Whether the plan was granted, by as many tries as the turn takes, up to a million.
-fn plan_until_said(plant: &Plant<PlainCore>, seat: &mut PlainSeat, tx: TxId) -> bool
+fn plan_until_said(plant: &Plant<AdmittedCore>, seat: &mut HouseSeat, tx: TxId) -> bool
     requires { IsOf plant.now seat.old × (tx.0 < length plant.now.set.txns) }
     ensures { (seat.new.plant ≡ seat.old.plant) × (seat.new.tx ≡ seat.old.tx) }
 {
@@ -26,7 +26,7 @@ fn plan_until_said(plant: &Plant<PlainCore>, seat: &mut PlainSeat, tx: TxId) -> 
     false
 }
 
-fn plan_as(plant: &Plant<PlainCore>, mut seat: PlainSeat, tx: TxId) -> (PlainSeat, bool)
+fn plan_as(plant: &Plant<AdmittedCore>, mut seat: HouseSeat, tx: TxId) -> (HouseSeat, bool)
     requires { IsOf plant.now seat × (tx.0 < length plant.now.set.txns) }
     ensures { IsOf plant.now result.0 }
 {
@@ -50,11 +50,11 @@ pub fn planned_by_two<R: Threads>(
     } = house;
     let ((sample, a), (control, b)) = join(
         rt,
-        || -> (PlainSeat, bool)
+        || -> (HouseSeat, bool)
             requires { IsOf plant one × (2 < length plant.set.txns) }
             ensures { IsOf plant result.0 }
         { plan_as(&plant, one, TxId(0)) },
-        || -> (PlainSeat, bool)
+        || -> (HouseSeat, bool)
             requires { IsOf plant two × (2 < length plant.set.txns) }
             ensures { IsOf plant result.0 }
         { plan_as(&plant, two, TxId(1)) },

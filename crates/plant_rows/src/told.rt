@@ -1,5 +1,5 @@
 //! Whether a history is legal, and whether it has what callers were told.
-use crate::house::core;
+use admitted_core::AdmittedCore;
 use board::Board;
 use board_calls::{call_of, make};
 use plain_core::PlainCore;
@@ -44,15 +44,26 @@ fn times(all: &[Entry], entry: Entry) -> usize {
 }
 
 /// What was drained, and then what the board keeps.
-pub fn history_of(mut drained: Vec<Entry>, board: &PlainCore) -> Option<Vec<Entry>> {
+pub fn history_of(mut drained: Vec<Entry>, board: &AdmittedCore) -> Option<Vec<Entry>> {
     let kept = board.entries();
     drained.extend_from_slice(kept).ok()?;
     Some(drained)
 }
 
-/// Whether the calls of the entries on a new board give these very entries.
+/// A plain core of the set, with an empty history.
+pub fn plain_core(alloc: Global, set: &CompiledSet) -> Option<PlainCore> {
+    let Ok(set) = set.copy(alloc) else {
+        return None;
+    };
+    match PlainCore::new(alloc, set, 4096) {
+        Ok(core) => Some(core),
+        Err(_) => None,
+    }
+}
+
+/// Whether the calls of the entries on a new plain core give these very entries.
 pub fn is_legal(alloc: Global, set: &CompiledSet, history: &[Entry]) -> Option<bool> {
-    let mut board = core(alloc, set)?;
+    let mut board = plain_core(alloc, set)?;
     for entry in history {
         make(&mut board, call_of(*entry));
     }

@@ -5,9 +5,9 @@ ghost use Rattle.shared_plant.specs.Seats.{IsOf};
 ghost use Rattle.rt_base.specs.declared.ids.TxId.{TxId as Transaction};
 
 use crate::calls::{drained, idled, plan_each, replied};
-use crate::house::{House, PlainSeat, closed};
+use crate::house::{House, HouseSeat, closed};
+use admitted_core::AdmittedCore;
 use board::StepReply;
-use plain_core::PlainCore;
 use rt_base::{End, ItemId, JobId, Op, Outcome, Tick, TxId, Value};
 use shared_plant::Plant;
 use std::alloc::Global;
@@ -27,7 +27,7 @@ pub const PLANS: [(u32, Tick); 7] = [(0, 0), (0, 10), (0, 20), (0, 30), (1, 0), 
 /// A seat with what its caller keeps: the entries that its calls appended, with 0 for the tick, or those that it drained.
 #[derive(Drop)]
 struct Caller {
-    seat: PlainSeat,
+    seat: HouseSeat,
     kept: Vec<Entry>,
 }
 
@@ -117,7 +117,7 @@ fn noted(
 }
 
 // One try of a transaction's caller.
-fn try_once(plant: &Plant<PlainCore>, caller: &mut Caller, tx: TxId, now: Progress) -> Progress
+fn try_once(plant: &Plant<AdmittedCore>, caller: &mut Caller, tx: TxId, now: Progress) -> Progress
     requires { IsOf plant.now caller.old.seat × ((tx : Transaction) × (caller.old.seat.tx ≡ Some tx)) }
     ensures { (caller.new.seat.plant ≡ caller.old.seat.plant) × (caller.new.seat.tx ≡ caller.old.seat.tx) }
 {
@@ -139,7 +139,7 @@ fn try_once(plant: &Plant<PlainCore>, caller: &mut Caller, tx: TxId, now: Progre
     noted(&mut caller.kept, job, op, reply, now)
 }
 
-fn make_steps(plant: &Plant<PlainCore>, caller: &mut Caller, tx: TxId)
+fn make_steps(plant: &Plant<AdmittedCore>, caller: &mut Caller, tx: TxId)
     requires { IsOf plant.now caller.old.seat × ((tx : Transaction) × (caller.old.seat.tx ≡ Some tx)) }
     ensures { (caller.new.seat.plant ≡ caller.old.seat.plant) × (caller.new.seat.tx ≡ caller.old.seat.tx) }
 {
@@ -153,7 +153,7 @@ fn make_steps(plant: &Plant<PlainCore>, caller: &mut Caller, tx: TxId)
     }
 }
 
-fn drain_often(plant: &Plant<PlainCore>, caller: &mut Caller)
+fn drain_often(plant: &Plant<AdmittedCore>, caller: &mut Caller)
     requires { IsOf plant.now caller.old.seat × (caller.old.seat.tx ≡ None) }
     ensures { (caller.new.seat.plant ≡ caller.old.seat.plant) × (caller.new.seat.tx ≡ caller.old.seat.tx) }
 {
@@ -164,7 +164,7 @@ fn drain_often(plant: &Plant<PlainCore>, caller: &mut Caller)
 }
 
 // A caller that takes its turns.
-fn after_turns(plant: &Plant<PlainCore>, mut caller: Caller) -> Caller
+fn after_turns(plant: &Plant<AdmittedCore>, mut caller: Caller) -> Caller
     requires { IsOf plant.now caller.seat }
     ensures { (result.seat.plant ≡ caller.seat.plant) × (result.seat.tx ≡ caller.seat.tx) }
 {
@@ -176,7 +176,12 @@ fn after_turns(plant: &Plant<PlainCore>, mut caller: Caller) -> Caller
 }
 
 // Two callers at once.
-fn two_turns<R: Threads>(rt: &R, plant: &Plant<PlainCore>, a: Caller, b: Caller) -> (Caller, Caller)
+fn two_turns<R: Threads>(
+    rt: &R,
+    plant: &Plant<AdmittedCore>,
+    a: Caller,
+    b: Caller,
+) -> (Caller, Caller)
     requires { IsOf plant.now a.seat × IsOf plant.now b.seat }
     ensures a { (result.0.seat.plant ≡ a.seat.plant) × (result.0.seat.tx ≡ a.seat.tx) }
     ensures b { (result.1.seat.plant ≡ b.seat.plant) × (result.1.seat.tx ≡ b.seat.tx) }
@@ -194,7 +199,7 @@ fn two_turns<R: Threads>(rt: &R, plant: &Plant<PlainCore>, a: Caller, b: Caller)
     )
 }
 
-fn new_caller(alloc: Global, seat: PlainSeat) -> Option<Caller>
+fn new_caller(alloc: Global, seat: HouseSeat) -> Option<Caller>
     ensures { IfSome result (λ c. c.seat ≡ seat) }
 {
     match Vec::with_capacity(alloc, 4096) {
@@ -208,7 +213,7 @@ fn new_caller(alloc: Global, seat: PlainSeat) -> Option<Caller>
 pub struct Turned {
     pub drained: Vec<Entry>,
     pub kept: [Vec<Entry>; 3],
-    pub board: PlainCore,
+    pub board: AdmittedCore,
 }
 
 /// Plans the releases, and lets all callers take their turns at once.

@@ -6,10 +6,10 @@ ghost use Rattle.plant_rows.specs.Fresh.{IsFresh};
 ghost use Rattle.step_script.specs.Scripts.{is_good, operation};
 
 use crate::calls::plan_each;
-use crate::house::{House, PlainSeat};
+use crate::house::{House, HouseSeat};
 use crate::turns::PLANS;
+use admitted_core::AdmittedCore;
 use entry_out::{EntryOut, Stopped};
-use plain_core::PlainCore;
 use rt_base::{End, ItemId, OutOfMemory, TxId};
 use shared_plant::Plant;
 use std::alloc::Global;
@@ -55,15 +55,15 @@ impl EntryOut for FewEntries {
     }
 }
 
-type BaseMember = Member<PlainCore, Script>;
+type BaseMember = Member<AdmittedCore, Script>;
 
-type BaseWorker = Worker<PlainCore, Script>;
+type BaseWorker = Worker<AdmittedCore, Script>;
 
 // A member at its seat, which has a transaction.
 #[tactic(auto, using(crate::proofs::Freshness::may_run))]
 fn member(
-    plant: &Plant<PlainCore>,
-    seat: PlainSeat,
+    plant: &Plant<AdmittedCore>,
+    seat: HouseSeat,
     body: Script,
     jobs: u32,
     eager: bool,
@@ -80,7 +80,7 @@ fn member(
 
 #[tactic(auto, using(crate::proofs::Freshness::one_of_three))]
 fn one_worker(
-    plant: &Plant<PlainCore>,
+    plant: &Plant<AdmittedCore>,
     alloc: Global,
     a: BaseMember,
     b: BaseMember,
@@ -97,7 +97,7 @@ fn one_worker(
 
 #[tactic(auto, using(crate::proofs::Freshness::two_of_three))]
 fn two_workers(
-    plant: &Plant<PlainCore>,
+    plant: &Plant<AdmittedCore>,
     alloc: Global,
     a: BaseMember,
     b: BaseMember,
@@ -115,7 +115,7 @@ fn two_workers(
 
 #[tactic(auto, using(crate::proofs::Freshness::three_of_three))]
 fn three_workers(
-    plant: &Plant<PlainCore>,
+    plant: &Plant<AdmittedCore>,
     alloc: Global,
     a: BaseMember,
     b: BaseMember,
@@ -134,7 +134,7 @@ fn three_workers(
 
 // One, two or three workers of three members.
 fn workers(
-    plant: &Plant<PlainCore>,
+    plant: &Plant<AdmittedCore>,
     alloc: Global,
     number: u32,
     a: BaseMember,
@@ -204,32 +204,56 @@ fn logging(alloc: Global) -> Result<Script, OutOfMemory> {
     )
 }
 
-/// The case of this name: `base`, one body that is none of its transaction's or never commits, or an eager controller. The
-/// out takes so many entries.
-pub fn case_of(alloc: Global, name: &str, most: usize) -> Result<Case, OutOfMemory> {
-    let sample = match name {
-        "unwritten" => script(alloc, vec![in alloc; ScriptOp::Commit]?)?,
-        _ => sampling(alloc)?,
-    };
-    let control = match name {
+fn sample_of(alloc: Global, name: &str) -> Result<Script, OutOfMemory> {
+    match name {
+        "unwritten" => script(alloc, vec![in alloc; ScriptOp::Commit]?),
+        "hostile" => script(
+            alloc,
+            vec![in alloc; ScriptOp::Write(TEMP, Expr::Sample), ScriptOp::Quit]?,
+        ),
+        _ => sampling(alloc),
+    }
+}
+
+fn control_of(alloc: Global, name: &str) -> Result<Script, OutOfMemory> {
+    match name {
         "undeclared" => script(
             alloc,
             vec![in alloc; ScriptOp::Write(TEMP, Expr::Const(1))]?,
-        )?,
-        _ => controlling(alloc)?,
-    };
-    let logger = match name {
-        "overrun" => script(alloc, vec![in alloc; ScriptOp::Compute(100)]?)?,
+        ),
+        "hostile" => script(
+            alloc,
+            vec![in alloc;
+                ScriptOp::Read(TEMP),
+                ScriptOp::Write(VALVE, Expr::Const(1)),
+            ]?,
+        ),
+        _ => controlling(alloc),
+    }
+}
+
+fn logger_of(alloc: Global, name: &str) -> Result<Script, OutOfMemory> {
+    match name {
+        "overrun" | "hostile" => script(alloc, vec![in alloc; ScriptOp::Compute(100)]?),
+        "never" => script(
+            alloc,
+            vec![in alloc; ScriptOp::Read(TEMP), ScriptOp::Read(VALVE)]?,
+        ),
         "quit" => script(
             alloc,
             vec![in alloc; ScriptOp::Read(TEMP), ScriptOp::Read(VALVE), ScriptOp::Quit]?,
-        )?,
-        _ => logging(alloc)?,
-    };
+        ),
+        _ => logging(alloc),
+    }
+}
+
+/// The case of this name: `base`, one body that is none of its transaction's or never commits, `hostile`, where no body
+/// commits, or an eager controller. The out takes so many entries.
+pub fn case_of(alloc: Global, name: &str, most: usize) -> Result<Case, OutOfMemory> {
     Ok(Case {
-        sample,
-        control,
-        logger,
+        sample: sample_of(alloc, name)?,
+        control: control_of(alloc, name)?,
+        logger: logger_of(alloc, name)?,
         eager: name == "eager",
         most,
     })
