@@ -1,20 +1,12 @@
 //! The program that draws a part of a schedule: a report in, a picture out.
 #![tactic(auto)]
 
-mod drawn;
-#[cfg(test)]
-mod tests;
-mod top;
-mod wanted;
-
-pub use command_replies::Status;
-pub use command_words::Word;
 use io_edge::{StdSink, StdSource};
+use picture_command::{Status, Word, draw_report};
 use std::alloc::Global;
 use std::env;
 use std::env::Env;
 use std::process::ExitCode;
-pub use top::draw_report;
 
 // The words after the program's name. Where one is no text they are the empty word alone.
 fn words_of<R: Env + Alloc<A = Global>>(rt: &R) -> Option<Vec<Word>> {

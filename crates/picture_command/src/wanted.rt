@@ -1,7 +1,7 @@
 //! Which part of a schedule the words ask for.
 ghost use Rattle.std.specs.Prelude.{◌≡◌, ◌<◌, ◌≤◌, ◌^◌, IfSome, codes};
 ghost use Rattle.std.specs.Str.{bytes_eq};
-ghost use Rattle.schedule_picture.specs.Parts.{between, between_words, wanted_of, part_of, IsEarly};
+ghost use Rattle.picture_command.specs.Parts.{between, between_words, wanted_of, part_of, IsEarly};
 
 use command_words::Word;
 use line_fields::unsigned;

@@ -1,8 +1,8 @@
 //! The top call.
-ghost use Rattle.std.specs.Prelude.{◌≡◌, ℕ, List as Many, Option as Maybe, IfOk, IsErrOf, Some, None};
+ghost use Rattle.std.specs.Prelude.{◌≡◌, ◌⊎◌, ℕ, List as Many, Option as Maybe, IfOk, IsErrOf, Some, None};
 ghost use Rattle.io_edge.specs.Causes.{Rose};
-ghost use Rattle.schedule_picture.specs.Parts.{wanted_of, IsEarly};
-ghost use Rattle.schedule_picture.specs.Answers.{IsAnswer, Answers};
+ghost use Rattle.picture_command.specs.Parts.{wanted_of, IsEarly};
+ghost use Rattle.picture_command.specs.Answers.{IsAnswer, Answers, IsDue};
 
 use crate::drawn::drawn;
 use crate::wanted::{Wanted, read_wanted};
@@ -22,7 +22,7 @@ enum Stop {
 }
 
 impl From<OutOfMemory> for Stop {
-    ghost use Rattle.schedule_picture.specs.declared.top.Stop.TheVariants as stops;
+    ghost use Rattle.picture_command.specs.declared.top.Stop.TheVariants as stops;
 
     ghost from_gives = { λ _ e. e ≡ stops.Memory };
 
@@ -85,6 +85,12 @@ pub fn draw_report<S: Source, K: Sink>(
     // No fault is told unless there was one.
     ensures read { result ≡ Status.ReadFault → Rose (S.faults source.old) (S.faults source.new) }
     ensures write { result ≡ Status.WriteFault → Rose (K.faults sink.old) (K.faults sink.new) }
+    // Without a wanted part nothing is read, whatever the status is.
+    ensures unread { wanted_of words.now ≡ None → source.new ≡ source.old }
+    // The status that is due is answered, unless memory runs out.
+    ensures complete { (due : Status) → IsDue (wanted_of words.now) (S.left source.old) due
+        → ¬ Rose (S.faults source.old) (S.faults source.new) → ¬ Rose (K.faults sink.old) (K.faults sink.new)
+        → (result ≡ due) ⊎ (result ≡ Status.OutOfMemory) }
 {
     match read_wanted(words) {
         Some(wanted) => answer(alloc, wanted, source, sink),

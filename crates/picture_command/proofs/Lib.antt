@@ -1,3 +1,4 @@
 pub mod Legal
 pub mod Telling
 pub mod OtherWords
+pub mod Due

@@ -5,8 +5,8 @@ use Rattle.step_journal.specs.declared.entry.Entry.{Entry}
 use Rattle.line_fields.specs.Numbers.{unsigned_of}
 use Rattle.schedule_marks.specs.declared.part.Part.{Part}
 use Rattle.schedule_marks.specs.Marks.{last_instant}
-use Rattle.schedule_picture.specs.declared.wanted.Wanted.{Wanted}
-use Rattle.schedule_picture.specs.declared.wanted.Wanted.TheVariants.{Beginning, Between}
+use Rattle.picture_command.specs.declared.wanted.Wanted.{Wanted}
+use Rattle.picture_command.specs.declared.wanted.Wanted.TheVariants.{Beginning, Between}
 
 -- the second tick is the later one, by at most 10,000
 abbrev pub between : Option ℕ → Option ℕ → Option Wanted

@@ -29,13 +29,13 @@ use Rattle.schedule_marks.specs.declared.part.Part.{Part}
 use Rattle.schedule_marks.specs.declared.mark.Mark.{Mark}
 use Rattle.schedule_marks.specs.Marks.{marks_of}
 use Rattle.picture_text.specs.Texts.{text_of}
-use Rattle.schedule_picture.specs.Parts.{part_of}
+use Rattle.picture_command.specs.Parts.{part_of}
 use Rattle.command_replies.specs.declared.status.Status.{Status}
 use Rattle.command_replies.specs.declared.status.Status.TheVariants as statuses
 use Rattle.command_replies.specs.Verdicts.{status_of}
 use Rattle.command_replies.specs.Replies.{VerdictReply}
-use Rattle.schedule_picture.specs.declared.wanted.Wanted.{Wanted}
-use Rattle.schedule_picture.specs.Answers.{is_ok, picture_of, picture_in, DrawnReply, PictureReply}
+use Rattle.picture_command.specs.declared.wanted.Wanted.{Wanted}
+use Rattle.picture_command.specs.Answers.{is_ok, picture_of, picture_in, DrawnReply, PictureReply}
 
 -- a verdict whose status is Ok is Legal
 by_status : (input : List ℕ) (v : Verdict) → IsVerdict input v → is_ok (status_of v) ≡ true → IsVerdict input Legal

@@ -1,6 +1,6 @@
 use Rattle.std.proofs.Common.{◌≡◌, ℕ, List, IfOk, subst}
-use Rattle.schedule_picture.proofs.Legal.{parts_picture}
-use Rattle.schedule_picture.proofs.drawn.picture_of_document.Goals as goal
+use Rattle.picture_command.proofs.Legal.{parts_picture}
+use Rattle.picture_command.proofs.drawn.picture_of_document.Goals as goal
 
 pub returns-in-Ok : goal.returns-in-Ok
 returns-in-Ok c =

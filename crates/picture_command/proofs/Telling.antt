@@ -2,8 +2,8 @@
 use Rattle.std.proofs.Common.{◌≡◌, ℕ, ◌≤◌, Bool, false, nat_lt, List, length, Option, Some, sym, subst}
 use Rattle.std.proofs.lemmas.Bool.{le-ltb}
 use Rattle.command_replies.specs.declared.status.Status.{Status}
-use Rattle.schedule_picture.specs.declared.wanted.Wanted.{Wanted}
-use Rattle.schedule_picture.specs.Answers.{PictureReply, InputReply, report_limit, TakesAll, IsAnswer}
+use Rattle.picture_command.specs.declared.wanted.Wanted.{Wanted}
+use Rattle.picture_command.specs.Answers.{PictureReply, InputReply, report_limit, TakesAll, IsAnswer}
 
 -- an input within the limit is judged
 pub judged : (wanted : Wanted) (old new : Option (List ℕ)) (input : List ℕ) (status : Status) (text : List ℕ)

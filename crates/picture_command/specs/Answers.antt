@@ -7,15 +7,17 @@ use Rattle.step_journal.specs.declared.entry.Entry.{Entry}
 use Rattle.job_rows.specs.Rows.{job_rows}
 use Rattle.report_head.specs.IsHead.{set_of}
 use Rattle.report_reader.specs.declared.document.Document.{Document}
-use Rattle.report_verdict.specs.Verdict.{Tells, report_for}
+use Rattle.report_verdict.specs.declared.verdict.Verdict.{Verdict}
+use Rattle.report_verdict.specs.Verdict.{Tells, report_for, IsVerdict}
 use Rattle.command_replies.specs.declared.status.Status.{Status}
 use Rattle.command_replies.specs.declared.status.Status.TheVariants as statuses
 use Rattle.command_replies.specs.Texts.{refused_line}
 use Rattle.command_replies.specs.Replies.{Reply, VerdictReply}
+use Rattle.command_replies.specs.Verdicts.{status_of}
 use Rattle.schedule_marks.specs.Marks.{marks_of}
 use Rattle.picture_text.specs.Texts.{text_of}
-use Rattle.schedule_picture.specs.declared.wanted.Wanted.{Wanted}
-use Rattle.schedule_picture.specs.Parts.{part_of}
+use Rattle.picture_command.specs.declared.wanted.Wanted.{Wanted}
+use Rattle.picture_command.specs.Parts.{part_of}
 
 -- the picture of the wanted part of a history: that of the marks of its entries and of the rows of its jobs
 abbrev pub picture_of : Names → Set → List Entry → Wanted → List ℕ
@@ -109,3 +111,16 @@ AnswersBy answer taken taken' statuses.BadJournal = Told answer taken taken' sta
 -- what was done to a source and a sink, and the status that was answered
 abbrev pub Answers : Option Wanted → Option (List ℕ) → Option (List ℕ) → Option (List ℕ) → Option (List ℕ) → Status → Type 0
 Answers wanted old new taken taken' status = AnswersBy (IsAnswer wanted old new) taken taken' status
+
+-- ---- which status is due, where no call fails and memory does not run out
+
+-- that of the verdict, or TooLong of an input above the limit
+abbrev pub IsDueFor : List ℕ → Bool → Status → Type 0
+IsDueFor input true status = status ≡ statuses.TooLong
+IsDueFor input false status = (verdict : Verdict) × IsVerdict input verdict × (status ≡ status_of verdict)
+
+-- Usage without a wanted part; else that of the input which the source tells, if it tells one
+abbrev pub IsDue : Option Wanted → Option (List ℕ) → Status → Type 0
+IsDue None told status = status ≡ statuses.Usage
+IsDue (Some wanted) None status = ⊥
+IsDue (Some wanted) (Some input) status = IsDueFor input (nat_lt report_limit (length input)) status

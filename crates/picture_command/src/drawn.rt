@@ -5,8 +5,8 @@ ghost use Rattle.job_rows.specs.Rows.{job_rows};
 ghost use Rattle.report_head.specs.IsHead.{IsHead, set_of};
 ghost use Rattle.report_verdict.specs.declared.verdict.Verdict.TheVariants.{Legal as LegalReport};
 ghost use Rattle.report_verdict.specs.Verdict.{IsVerdict, Tells, set_refusal, report_for};
-ghost use Rattle.schedule_picture.specs.Parts.{IsEarly};
-ghost use Rattle.schedule_picture.specs.Answers.{picture_of as picture_of_history, picture_in, is_ok as is_ok_status, PictureReply};
+ghost use Rattle.picture_command.specs.Parts.{IsEarly};
+ghost use Rattle.picture_command.specs.Answers.{picture_of as picture_of_history, picture_in, is_ok as is_ok_status, PictureReply};
 
 use crate::wanted::{Wanted, part_in};
 use command_replies::{REPORT_LIMIT, Reply, Status, replayed, written};

@@ -1,6 +1,6 @@
 use Rattle.std.proofs.Common.{◌≡◌, ℕ, List, IfOk, subst, ◌∙◌}
-use Rattle.schedule_picture.proofs.Legal.{whole_picture}
-use Rattle.schedule_picture.proofs.drawn.picture_of.Goals as goal
+use Rattle.picture_command.proofs.Legal.{whole_picture}
+use Rattle.picture_command.proofs.drawn.picture_of.Goals as goal
 
 pub returns : goal.returns
 returns c =

@@ -1,7 +1,7 @@
 use Rattle.std.proofs.Common.{rules, ◌≤◌, length}
-use Rattle.schedule_picture.specs.Answers.{TakesAll, report_limit}
-use Rattle.schedule_picture.proofs.Telling.{judged}
-use Rattle.schedule_picture.proofs.top.reply_to.Goals as goal
+use Rattle.picture_command.specs.Answers.{TakesAll, report_limit}
+use Rattle.picture_command.proofs.Telling.{judged}
+use Rattle.picture_command.proofs.top.reply_to.Goals as goal
 
 pub returns-in_ok-drawn-in-Ok-clause-said : goal.returns-in_ok-drawn-in-Ok-clause-said
 returns-in_ok-drawn-in-Ok-clause-said g c =

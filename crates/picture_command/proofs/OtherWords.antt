@@ -1,6 +1,6 @@
 -- Words of no known form.
 use Rattle.std.proofs.Common.{◌≡◌, ℕ, List, [], ◌∷◌, length, None, refl}
-use Rattle.schedule_picture.specs.Parts.{wanted_of}
+use Rattle.picture_command.specs.Parts.{wanted_of}
 
 pub other_words : (words : List (List ℕ)) → (length words ≡ 0 → ⊥) → (length words ≡ 4 → ⊥) → wanted_of words ≡ None
 other_words [] no_none no_four = absurd (no_none refl)
