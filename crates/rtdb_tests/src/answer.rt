@@ -1,6 +1,7 @@
 //! The calls of the program on a case.
 use crate::case::Case;
 use io_edge::{MemSink, MemSource};
+use picture_command::draw_report;
 use rt_base::TxId;
 use rtdb_command::{Status, rtdb, rtdb_plain};
 use std::alloc::Global;
@@ -33,7 +34,9 @@ pub fn answer<R: Threads + Wait + Sync>(rt: &R, alloc: Global, case: &mut Case) 
     let gate = Count {
         asked: AtomicU64::new(0),
     };
-    let status = if case.plain {
+    let status = if case.picture {
+        draw_report(alloc, &case.words, &mut source, &mut sink)
+    } else if case.plain {
         rtdb_plain(alloc, &case.words, &mut source, &mut sink)
     } else {
         rtdb(rt, alloc, &case.words, &mut source, &mut sink, &gate)

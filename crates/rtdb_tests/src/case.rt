@@ -23,6 +23,8 @@ pub struct Case {
     pub room: usize,
     /// Whether `rtdb_plain` is called.
     pub plain: bool,
+    /// Whether the program that draws is called.
+    pub picture: bool,
     /// What was said last, in this case or the one before.
     pub said: Vec<u8>,
     /// How often scripts were asked for that.
@@ -44,6 +46,7 @@ impl Case {
             piece: ROOM,
             room: ROOM,
             plain: false,
+            picture: false,
             said: Vec::new(alloc),
             asked: 0,
         }
@@ -59,6 +62,7 @@ impl Case {
         self.piece = ROOM;
         self.room = ROOM;
         self.plain = false;
+        self.picture = false;
         Some(())
     }
 

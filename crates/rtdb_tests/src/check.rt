@@ -72,6 +72,7 @@ fn change(alloc: Global, case: &mut Case, rest: &str) -> Option<()> {
 fn tune(alloc: Global, case: &mut Case, key: &str, number: u32) -> Option<()> {
     match key {
         "plain" => case.plain = number == 1,
+        "picture" => case.picture = number == 1,
         "piece" => case.piece = number as usize,
         "room" => case.room = number as usize,
         "read-fault" => case.read_faults = vec![in alloc; number as u64].ok()?,
@@ -89,11 +90,21 @@ fn wanted<R: Files + Alloc<A = Global>>(
     rest: &str,
 ) -> Option<Vec<u8>> {
     match key {
-        "says" | "ends" => text_of(rt.alloc(), rest),
+        "says" | "ends" | "shows" => text_of(rt.alloc(), rest),
         "same" | "part" | "longer" => case.said.to_vec(rt.alloc()).ok(),
         "rewrites" if rest.is_empty() => case.input.to_vec(rt.alloc()).ok(),
         _ => fs::read(rt, rest).ok(),
     }
+}
+
+// Whether a part stands somewhere in a text.
+fn has_part(text: &[u8], part: &[u8]) -> bool {
+    for at in 0..text.len() {
+        if text[at..].starts_with(part) {
+            return true;
+        }
+    }
+    false
 }
 
 // Whether what was said is what is wanted.
@@ -101,6 +112,7 @@ fn is_wanted(case: &Case, key: &str, wanted: &[u8]) -> bool {
     let said = case.said.as_slice();
     match key {
         "ends" => said.ends_with(wanted),
+        "shows" => has_part(said, wanted),
         "longer" => wanted.len() < said.len(),
         "part" => wanted.starts_with(said) && said.len() == case.room,
         _ => said == wanted,
@@ -150,9 +162,9 @@ fn check<R: Threads + Wait + Sync + Files + Print + Alloc<A = Global>>(
     report(rt, case, right)
 }
 
-const CHECKS: [&str; 13] = [
-    "says", "ends", "gives", "same", "longer", "part", "prefixes", "fronts", "lines", "asked",
-    "unasked", "reads", "rewrites",
+const CHECKS: [&str; 14] = [
+    "says", "ends", "shows", "gives", "same", "longer", "part", "prefixes", "fronts", "lines",
+    "asked", "unasked", "reads", "rewrites",
 ];
 
 /// Does what a line says. None where it is no line of a case, or memory or a file is wanting.

@@ -18,12 +18,13 @@ use std::thread::Threads;
 use std::{fs, io};
 
 // The files of cases, in the order in which they are run.
-const FILES: [&str; 7] = [
+const FILES: [&str; 8] = [
     "words.cases",
     "texts.cases",
     "sets.cases",
     "runs.cases",
     "reports.cases",
+    "pictures.cases",
     "faults.cases",
     "long.cases",
 ];
