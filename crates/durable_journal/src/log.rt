@@ -200,6 +200,7 @@ impl<D: Disk> Log<D> {
             → LeavesOnly D.moment D.left_since self.old.disk self.new.disk (HasSome names.now set.now before entries.now) }
         ensures goes { OnOk result (self.old.stopped ≡ false → self.new.stopped ≡ false) }
         ensures count { OnOk result (self.new.count ≡ self.old.count + length entries.now) }
+        ensures stops { IsErrOf result LogError.DiskFault → self.new.stopped ≡ true }
         ensures no_other { self.old.stopped ≡ false → OnErr result (IsErrOf result LogError.DiskFault) }
         ensures cause { IsErrOf result LogError.DiskFault → Rose (D.faults self.old.disk) (D.faults self.new.disk) }
         ensures later { D.faults self.old.disk ≤ D.faults self.new.disk }
