@@ -1,4 +1,5 @@
 //! What the words of the command line ask for.
+use worker_count::Workers;
 
 /// A command that runs no workers, and so always returns.
 #[derive(Clone, Copy, PartialEq, Eq)]
@@ -23,7 +24,7 @@ pub enum Command {
     /// A command that runs no workers.
     Plain(PlainCommand),
     /// The run of the scenario that is read, as a trial or admitted, by so many workers.
-    Run { trial: bool, workers: u32 },
+    Run { trial: bool, workers: Workers },
     /// The run of the scenario that is generated of so many transactions, by so many workers.
-    Load { n: u32, workers: u32 },
+    Load { n: u32, workers: Workers },
 }

@@ -1,5 +1,5 @@
 -- What is made of a scenario before its run over a journal.
-use Rattle.std.specs.Prelude.{◌≡◌, ℕ, ◌≤◌, List, [], true, None}
+use Rattle.std.specs.Prelude.{◌≡◌, ℕ, ◌≤◌, List, [], map, true, None, vec_capacity}
 use Rattle.txn_compiler.specs.Refusal.{compile_refusal}
 use Rattle.set_admission.specs.Admission.{refusal}
 use Rattle.rt_base.specs.declared.name.Names.{Names}
@@ -11,10 +11,13 @@ use Rattle.scenario.specs.Scenarios.{IsScenario}
 use Rattle.job_rows.specs.Upkeep.{RowsSeen, Follows, planned_jobs}
 use Rattle.run_report.specs.Report.{opening_text}
 use Rattle.workload_laws.specs.Runs.{workload_of}
-use Rattle.scenario_run.specs.Runs.{IsReady, functions_of}
+use Rattle.scenario_run.specs.Runs.{IsReady}
+use Rattle.step_script.specs.Scripts.{program_of, next_of}
 use Rattle.step_script.specs.declared.script.Script.{Script}
 use Rattle.sim_run.specs.Workloads.{workload}
 use Rattle.journal_run.specs.Replies.{first_eager}
+use Rattle.journal_run.specs.declared.plan.Plan.{Plan}
+use Rattle.journal_run.specs.declared.run.Begun.{Begun}
 
 -- a scenario that may be run over a journal
 pub record IsCalm (s : Shown) : Type 0 where
@@ -30,7 +33,7 @@ pub record IsPlanOf (s : Shown) (names : Names) (set : Set) (scripts : List Scri
   pub set_is : set ≡ set_of s
   pub room_is : room ≡ s.room
   pub ready : IsReady set scripts ticks own
-  pub runs : workload set (functions_of scripts) ticks ≡ workload_of s
+  pub runs : workload set (map next_of (map program_of scripts)) ticks ≡ workload_of s
 
 -- What the run of a scenario has beside its board: its names, its set, the head of its report, with the rows of no job, and
 -- a place for its entries. The workload is the scenario's.
@@ -45,3 +48,9 @@ pub record IsBegunOf (s : Shown) (w : Workload) (names : Names) (set : Set) (row
   pub jobs : (history : List Entry) → IsSim w history → planned_jobs history ≤ rows.room
   pub empty : kept ≡ []
   pub enough : room ≤ places
+
+abbrev pub IsPlan : Shown → Plan → Type 0
+IsPlan s p = IsPlanOf s p.names p.set p.bodies.scripts.items p.bodies.ticks.items p.bodies.own.items p.room
+
+abbrev pub HasBegun : Shown → Workload → Begun → Type 0
+HasBegun s w b = IsBegunOf s w b.names b.set b.report.0 b.report.1.items b.kept.items (vec_capacity b.kept) b.room

@@ -1,16 +1,22 @@
 -- What a run has before it begins.
-use Rattle.std.specs.Prelude.{◌≡◌, ℕ, ◌<◌, ◌≤◌, List, [], length}
+use Rattle.std.specs.Prelude.{◌≡◌, ◌<◌, ◌≤◌, ℕ, List, [], map, length, vec_capacity}
+use Rattle.txn_set.specs.Set.{Set}
 use Rattle.step_journal.specs.declared.entry.Entry.{Entry}
-use Rattle.sim_history.specs.Sim.{Workload}
-use Rattle.sim_run.specs.Workloads.{AreAccepted, IsObedient}
+use Rattle.sim_history.specs.Sim.{Body, Workload}
+use Rattle.sim_run.specs.Workloads.{workload, AreAccepted, IsObedient}
+use Rattle.journal_run.specs.declared.runner.Runner.{Runner}
 
--- A new board, and a place for all that it keeps, with so many bodies and serials.
-pub record CanRun (stands : List Entry → Type 0) (w : Workload) (bodies serials room : ℕ) (spare : List Entry) (places : ℕ) : Type 0 where
-  pub opened : stands []
-  pub bodies_each : bodies ≡ length w.set.txns
-  pub serials_each : serials ≡ length w.set.txns
-  pub accepted : AreAccepted w.set w.releases
-  pub obedient : IsObedient w
-  pub more : 1024 < room
-  pub empty : spare ≡ []
-  pub enough : room ≤ places
+-- the workload of a run
+abbrev pub workload_in : {B Y : Type 0} → (B → Set) → (Y → Body) → Runner B Y → Workload
+workload_in set gives r = workload (set r.board) (map gives r.bodies.items) r.ticks.items
+
+-- A new board, and a place for all that it keeps, with a body and a serial number for each transaction of its set.
+pub record CanRun {B Y : Type 0} (stands : B → List Entry → Type 0) (set : B → Set) (room : B → ℕ) (gives : Y → Body) (r : Runner B Y) : Type 0 where
+  pub opened : stands r.board []
+  pub bodies_each : length r.bodies.items ≡ length (set r.board).txns
+  pub serials_each : length r.serials.items ≡ length (set r.board).txns
+  pub accepted : AreAccepted (set r.board) r.ticks.items
+  pub obedient : IsObedient (workload_in set gives r)
+  pub more : 1024 < room r.board
+  pub empty : r.spare.items ≡ []
+  pub enough : room r.board ≤ vec_capacity r.spare

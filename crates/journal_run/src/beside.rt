@@ -1,10 +1,9 @@
 //! A run beside more entries than it has.
-ghost use Rattle.std.specs.Prelude.{◌≡◌, ◌≤◌, ◌<◌, ℕ, [], map, length, vec_capacity};
+ghost use Rattle.std.specs.Prelude.{◌≡◌, ◌≤◌, ◌<◌, [], length};
 ghost use Rattle.std.specs.Prelude.{List as Many};
 ghost use Rattle.step_journal.specs.declared.entry.Entry.{Entry as Noted};
 ghost use Rattle.sim_history.specs.Sim.{IsSim};
-ghost use Rattle.sim_run.specs.Workloads.{workload};
-ghost use Rattle.journal_run.specs.Ready.{CanRun};
+ghost use Rattle.journal_run.specs.Ready.{CanRun, workload_in};
 ghost use Rattle.journal_run.specs.Ran.{HasOther};
 
 use crate::runner::Runner;
@@ -21,11 +20,11 @@ pub(crate) fn number_beside<B: Board, Y: Body>(
     kept: KeptEntries,
     there: &[Entry],
 ) -> u64
-    requires ready { CanRun (B.stands runner.old.board) (workload (B.set runner.old.board) (map Y.gives runner.old.bodies.items) runner.old.ticks.items) (length runner.old.bodies.items) (length runner.old.serials.items) (B.room runner.old.board) runner.old.spare.items (vec_capacity runner.old.spare) }
+    requires ready { CanRun B.stands B.set B.room Y.gives runner.old }
     requires empty { kept.kept ≡ [] }
-    requires places { (history : Many Noted) → IsSim (workload (B.set runner.old.board) (map Y.gives runner.old.bodies.items) runner.old.ticks.items) history → length history ≤ kept.room }
-    requires more { (history : Many Noted) → IsSim (workload (B.set runner.old.board) (map Y.gives runner.old.bodies.items) runner.old.ticks.items) history → length history < length there.now }
-    ensures { HasOther (workload (B.set runner.old.board) (map Y.gives runner.old.bodies.items) runner.old.ticks.items) there.now result }
+    requires places { (history : Many Noted) → IsSim (workload_in B.set Y.gives runner.old) history → length history ≤ kept.room }
+    requires more { (history : Many Noted) → IsSim (workload_in B.set Y.gives runner.old) history → length history < length there.now }
+    ensures { HasOther (workload_in B.set Y.gives runner.old) there.now result }
 {
     let mut kept = kept;
     let Ok(()) = runner.run(&mut kept) else {

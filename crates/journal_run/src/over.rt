@@ -1,16 +1,15 @@
 //! A run whose entries go to a log.
-ghost use Rattle.std.specs.Prelude.{◌≡◌, ◌≤◌, ◌+◌, ◌↔◌, ℕ, [], map, length, vec_capacity, false, is_some, IfOk, IfErr, IsSome, OnErr};
+ghost use Rattle.std.specs.Prelude.{◌≡◌, ◌≤◌, ◌+◌, ◌↔◌, [], length, vec_capacity, false, is_some, IfOk, IfErr, IsSome, OnErr};
 ghost use Rattle.std.specs.Prelude.{List as Many};
 ghost use Rattle.io_edge.specs.Causes.{HasCause};
 ghost use Rattle.step_journal.specs.declared.entry.Entry.{Entry as Noted};
 ghost use Rattle.sim_history.specs.Sim.{IsSim};
-ghost use Rattle.sim_run.specs.Workloads.{workload};
 ghost use Rattle.rt_base.specs.Names.{AreNames};
 ghost use Rattle.report_lines.specs.Texts.{NamesSet};
 ghost use Rattle.durable_journal.specs.Log.{StandsFor};
 ghost use Rattle.journal_out.specs.declared.standing.Standing.TheVariants.{Going};
 ghost use Rattle.journal_out.specs.Outs.{IsGoing, other_stops};
-ghost use Rattle.journal_run.specs.Ready.{CanRun};
+ghost use Rattle.journal_run.specs.Ready.{CanRun, workload_in};
 ghost use Rattle.journal_run.specs.Ran.{HaltedBy, IsGot, IsHalted, IsKept};
 
 use crate::runner::Runner;
@@ -39,14 +38,14 @@ fn run_out<B: Board, Y: Body, D: Disk, T: Journaled>(
     runner: &mut Runner<B, Y>,
     out: &mut JournalOut<D, T>,
 ) -> Result<(), Stopped>
-    requires ready { CanRun (B.stands runner.old.board) (workload (B.set runner.old.board) (map Y.gives runner.old.bodies.items) runner.old.ticks.items) (length runner.old.bodies.items) (length runner.old.serials.items) (B.room runner.old.board) runner.old.spare.items (vec_capacity runner.old.spare) }
+    requires ready { CanRun B.stands B.set B.room Y.gives runner.old }
     requires begun { T.begun ≡ record { names = out.old.names.now; set = B.set runner.old.board; there = out.old.there.items; room = out.old.room; tells = is_some (D.seen out.old.log.disk) } }
     requires same { out.old.set.now ≡ B.set runner.old.board }
     requires fresh { (out.old.standing ≡ Going) × (out.old.kept.items ≡ []) }
     requires going { IsGoing D.seen D.may_leave out.old.names.now out.old.set.now out.old.log out.old.there.items [] }
-    requires places { (history : Many Noted) → IsSim (workload (B.set runner.old.board) (map Y.gives runner.old.bodies.items) runner.old.ticks.items) history → length history ≤ out.old.room }
-    ensures got { IfOk result (λ _. IsGot (workload (B.set runner.old.board) (map Y.gives runner.old.bodies.items) runner.old.ticks.items) (B.stands runner.new.board) D.seen D.may_leave out.old.names.now out.new.log out.new.there.items out.new.kept.items) }
-    ensures halted { OnErr result (IsHalted (workload (B.set runner.old.board) (map Y.gives runner.old.bodies.items) runner.old.ticks.items) out.new.standing out.new.there.items out.new.kept.items) }
+    requires places { (history : Many Noted) → IsSim (workload_in B.set Y.gives runner.old) history → length history ≤ out.old.room }
+    ensures got { IfOk result (λ _. IsGot (workload_in B.set Y.gives runner.old) (B.stands runner.new.board) D.seen D.may_leave out.old.names.now out.new.log out.new.there.items out.new.kept.items) }
+    ensures halted { OnErr result (IsHalted (workload_in B.set Y.gives runner.old) out.new.standing out.new.there.items out.new.kept.items) }
     ensures there { out.new.there.items ≡ out.old.there.items }
     ensures tells { is_some (D.seen out.new.log.disk) ≡ is_some (D.seen out.old.log.disk) }
     ensures cause { HasCause (D.faults out.old.log.disk) (D.faults out.new.log.disk + other_stops out.new.standing) result }
@@ -65,16 +64,16 @@ pub(crate) fn run_log<B: Board, Y: Body, D: Disk>(
     kept: Vec<Entry>,
     room: usize,
 ) -> (Result<Vec<Entry>, Halt>, D)
-    requires ready { CanRun (B.stands runner.old.board) (workload (B.set runner.old.board) (map Y.gives runner.old.bodies.items) runner.old.ticks.items) (length runner.old.bodies.items) (length runner.old.serials.items) (B.room runner.old.board) runner.old.spare.items (vec_capacity runner.old.spare) }
+    requires ready { CanRun B.stands B.set B.room Y.gives runner.old }
     requires same { set.now ≡ B.set runner.old.board }
     requires names { AreNames names.now.items × AreNames names.now.txns }
     requires one_each { NamesSet names.now set.now }
     requires stands { StandsFor D.seen D.may_leave names.now set.now found.0 found.1.items }
     requires goes { found.0.stopped ≡ false }
     requires kept { (kept.items ≡ []) × (room ≤ vec_capacity kept) }
-    requires places { (history : Many Noted) → IsSim (workload (B.set runner.old.board) (map Y.gives runner.old.bodies.items) runner.old.ticks.items) history → length history ≤ room }
-    ensures kept { IfOk result.0 (λ es. IsKept (workload (B.set runner.old.board) (map Y.gives runner.old.bodies.items) runner.old.ticks.items) (B.stands runner.new.board) names.now (D.seen result.1) (D.may_leave result.1) found.1.items es.items) }
-    ensures halted { IfErr result.0 (HaltedBy (workload (B.set runner.old.board) (map Y.gives runner.old.bodies.items) runner.old.ticks.items) found.1.items (D.faults found.0.disk) (D.faults result.1)) }
+    requires places { (history : Many Noted) → IsSim (workload_in B.set Y.gives runner.old) history → length history ≤ room }
+    ensures kept { IfOk result.0 (λ es. IsKept (workload_in B.set Y.gives runner.old) (B.stands runner.new.board) names.now (D.seen result.1) (D.may_leave result.1) found.1.items es.items) }
+    ensures halted { IfErr result.0 (HaltedBy (workload_in B.set Y.gives runner.old) found.1.items (D.faults found.0.disk) (D.faults result.1)) }
     ensures told { IsSome (D.seen found.0.disk) ↔ IsSome (D.seen result.1) }
     ensures set { B.set runner.new.board ≡ B.set runner.old.board }
 {

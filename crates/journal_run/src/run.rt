@@ -1,21 +1,19 @@
 //! The run of a scenario over a journal.
-ghost use Rattle.std.specs.Prelude.{◌≡◌, ◌≤◌, ◌<◌, ◌↔◌, ℕ, [], map, length, true, vec_capacity, IfOk, IsSome, IsErrOf};
+ghost use Rattle.std.specs.Prelude.{◌≡◌, ◌≤◌, ◌<◌, ◌↔◌, [], length, true, IfOk, IsSome, IsErrOf};
 ghost use Rattle.std.specs.Prelude.{List as Many};
 ghost use Rattle.io_edge.specs.Causes.{Rose};
 ghost use Rattle.step_journal.specs.declared.entry.Entry.{Entry as Noted};
 ghost use Rattle.step_journal.specs.History.{IsLegal};
-ghost use Rattle.step_script.specs.Scripts.{program_of, next_of};
 ghost use Rattle.scenario.specs.Shown.{Shown, shown};
 ghost use Rattle.scenario.specs.Scenarios.{IsScenario};
 ghost use Rattle.sim_history.specs.Sim.{IsSim};
-ghost use Rattle.sim_run.specs.Workloads.{workload};
 ghost use Rattle.job_rows.specs.Upkeep.{Follows, planned_jobs};
 ghost use Rattle.report_lines.specs.Texts.{NamesSet};
 ghost use Rattle.run_report.specs.Report.{opening_text, report_of};
-ghost use Rattle.lock_core.specs.Stands.{Stands};
 ghost use Rattle.durable_journal.specs.Opened.{IfFull};
-ghost use Rattle.journal_run.specs.Ready.{CanRun};
-ghost use Rattle.journal_run.specs.Plans.{IsPlanOf, IsBegunOf};
+ghost use Rattle.scenario_run.specs.Runs.{asked_by};
+ghost use Rattle.journal_run.specs.Ready.{CanRun, workload_in};
+ghost use Rattle.journal_run.specs.Plans.{IsPlan, HasBegun};
 ghost use Rattle.journal_run.specs.Replies.{JournalReply, Journaled, HoldsRun, bad_line};
 ghost use Rattle.journal_run.specs.Refused.{IsNamed};
 
@@ -54,10 +52,9 @@ struct Begun {
 
 // All that a run needs, taken before it begins.
 fn equipped(alloc: Global, plan: Plan) -> Result<(Begun, Runner<AdmittedCore, Script>), OutOfMemory>
-    requires { (s : Shown) × IsPlanOf s plan.names plan.set plan.bodies.scripts.items plan.bodies.ticks.items plan.bodies.own.items plan.room }
-    ensures begun { (s : Shown) → IsPlanOf s plan.names plan.set plan.bodies.scripts.items plan.bodies.ticks.items plan.bodies.own.items plan.room
-        → IfOk result (λ r. IsBegunOf s (workload r.1.board.board.set (map (λ y. next_of (program_of y)) r.1.bodies.items) r.1.ticks.items) r.0.names r.0.set r.0.report.0 r.0.report.1.items r.0.kept.items (vec_capacity r.0.kept) r.0.room) }
-    ensures ready { IfOk result (λ r. CanRun (Stands r.1.board.board) (workload r.1.board.board.set (map (λ y. next_of (program_of y)) r.1.bodies.items) r.1.ticks.items) (length r.1.bodies.items) (length r.1.serials.items) r.1.board.board.journal.room r.1.spare.items (vec_capacity r.1.spare)) }
+    requires { (s : Shown) × IsPlan s plan }
+    ensures begun { (s : Shown) → IsPlan s plan → IfOk result (λ r. HasBegun s (workload_in ⟦<AdmittedCore as Board>⟧.set asked_by r.1) r.0) }
+    ensures ready { IfOk result (λ r. CanRun ⟦<AdmittedCore as Board>⟧.stands ⟦<AdmittedCore as Board>⟧.set ⟦<AdmittedCore as Board>⟧.room asked_by r.1) }
 {
     let Plan {
         names,
@@ -135,10 +132,10 @@ fn unopened<B: Board, Y: Body>(
     room: usize,
     error: LogError,
 ) -> Result<Reply, JournalStop>
-    requires ready { CanRun (B.stands runner.old.board) (workload (B.set runner.old.board) (map Y.gives runner.old.bodies.items) runner.old.ticks.items) (length runner.old.bodies.items) (length runner.old.serials.items) (B.room runner.old.board) runner.old.spare.items (vec_capacity runner.old.spare) }
-    requires places { (history : Many Noted) → IsSim (workload (B.set runner.old.board) (map Y.gives runner.old.bodies.items) runner.old.ticks.items) history → length history < room }
+    requires ready { CanRun B.stands B.set B.room Y.gives runner.old }
+    requires places { (history : Many Noted) → IsSim (workload_in B.set Y.gives runner.old) history → length history < room }
     requires full { IfFull error (λ first. length first ≡ room) }
-    ensures reply { IfOk result (λ r. IsNamed (workload (B.set runner.old.board) (map Y.gives runner.old.bodies.items) runner.old.ticks.items) error r.status r.text.items) }
+    ensures reply { IfOk result (λ r. IsNamed (workload_in B.set Y.gives runner.old) error r.status r.text.items) }
     ensures fault { IsErrOf result JournalStop.Disk → error ≡ LogError.DiskFault }
 {
     match error {
@@ -158,12 +155,10 @@ fn run_over<B: Board + Drop, Y: Body + Drop, D: Disk>(
     runner: Runner<B, Y>,
     disk: D,
 ) -> (Result<Reply, JournalStop>, D)
-    requires ready { CanRun (B.stands runner.board) (workload (B.set runner.board) (map Y.gives runner.bodies.items) runner.ticks.items) (length runner.bodies.items) (length runner.serials.items) (B.room runner.board) runner.spare.items (vec_capacity runner.spare) }
-    requires begun { (s : Shown) × IsBegunOf s (workload (B.set runner.board) (map Y.gives runner.bodies.items) runner.ticks.items) begun.names begun.set begun.report.0 begun.report.1.items begun.kept.items (vec_capacity begun.kept) begun.room }
-    ensures reply { (s : Shown) → IsBegunOf s (workload (B.set runner.board) (map Y.gives runner.bodies.items) runner.ticks.items) begun.names begun.set begun.report.0 begun.report.1.items begun.kept.items (vec_capacity begun.kept) begun.room
-        → IfOk result.0 (λ r. Journaled s (D.seen disk) r.status r.text.items) }
-    ensures holds { (s : Shown) → IsBegunOf s (workload (B.set runner.board) (map Y.gives runner.bodies.items) runner.ticks.items) begun.names begun.set begun.report.0 begun.report.1.items begun.kept.items (vec_capacity begun.kept) begun.room
-        → IfOk result.0 (λ r. r.status ≡ Status.Ok → HoldsRun s (D.seen result.1) (D.may_leave result.1)) }
+    requires ready { CanRun B.stands B.set B.room Y.gives runner }
+    requires begun { (s : Shown) × HasBegun s (workload_in B.set Y.gives runner) begun }
+    ensures reply { (s : Shown) → HasBegun s (workload_in B.set Y.gives runner) begun → IfOk result.0 (λ r. Journaled s (D.seen disk) r.status r.text.items) }
+    ensures holds { (s : Shown) → HasBegun s (workload_in B.set Y.gives runner) begun → IfOk result.0 (λ r. r.status ≡ Status.Ok → HoldsRun s (D.seen result.1) (D.may_leave result.1)) }
     ensures fault { IsErrOf result.0 JournalStop.Disk → Rose (D.faults disk) (D.faults result.1) }
     ensures told { IfOk result.0 (λ r. r.status ≡ Status.Ok → (IsSome (D.seen disk) ↔ IsSome (D.seen result.1))) }
 {

@@ -1,13 +1,12 @@
 //! A board and bodies that run a workload.
-ghost use Rattle.std.specs.Prelude.{◌≡◌, ℕ, [], map, length, vec_capacity, IfOk, OnErr};
+ghost use Rattle.std.specs.Prelude.{◌≡◌, [], IfOk, OnErr};
 ghost use Rattle.std.specs.Prelude.{List as Many};
 ghost use Rattle.io_edge.specs.Causes.{HasCause};
 ghost use Rattle.step_journal.specs.declared.entry.Entry.{Entry as Noted};
 ghost use Rattle.sim_history.specs.Sim.{IsSim};
-ghost use Rattle.sim_run.specs.Workloads.{workload};
 ghost use Rattle.sim_run.specs.Handed.{CanTake};
 ghost use Rattle.sim_run.specs.Runs.{IsWhole, IsStopped};
-ghost use Rattle.journal_run.specs.Ready.{CanRun};
+ghost use Rattle.journal_run.specs.Ready.{CanRun, workload_in};
 
 use board::Board;
 use entry_out::{EntryOut, Stopped};
@@ -29,13 +28,13 @@ pub(crate) struct Runner<B, Y> {
 impl<B: Board, Y: Body> Runner<B, Y> {
     /// Runs the workload on a new board, once. Its entries go to the out.
     pub(crate) fn run<O: EntryOut>(&mut self, out: &mut O) -> Result<(), Stopped>
-        requires ready { CanRun (B.stands self.old.board) (workload (B.set self.old.board) (map Y.gives self.old.bodies.items) self.old.ticks.items) (length self.old.bodies.items) (length self.old.serials.items) (B.room self.old.board) self.old.spare.items (vec_capacity self.old.spare) }
+        requires ready { CanRun B.stands B.set B.room Y.gives self.old }
         requires nothing_lost { O.lost out.old [] }
-        requires good { (history : Many Noted) → IsSim (workload (B.set self.old.board) (map Y.gives self.old.bodies.items) self.old.ticks.items) history
+        requires good { (history : Many Noted) → IsSim (workload_in B.set Y.gives self.old) history
             → CanTake (O.got out.old) (O.good out.old) history }
-        ensures whole { IfOk result (λ _. IsWhole (workload (B.set self.old.board) (map Y.gives self.old.bodies.items) self.old.ticks.items) (B.stands self.new.board) (O.got out.old) (O.got out.new)) }
+        ensures whole { IfOk result (λ _. IsWhole (workload_in B.set Y.gives self.old) (B.stands self.new.board) (O.got out.old) (O.got out.new)) }
         ensures none_lost { IfOk result (λ _. O.lost out.new []) }
-        ensures stopped { OnErr result (IsStopped (workload (B.set self.old.board) (map Y.gives self.old.bodies.items) self.old.ticks.items) (O.got out.old) (O.got out.new) (O.lost out.new)) }
+        ensures stopped { OnErr result (IsStopped (workload_in B.set Y.gives self.old) (O.got out.old) (O.got out.new) (O.lost out.new)) }
         ensures cause { HasCause (O.stops out.old) (O.stops out.new) result }
         ensures set { B.set self.new.board ≡ B.set self.old.board }
     {

@@ -1,3 +1,6 @@
+pub mod Plans
+pub mod Handing
+pub mod Wholes
 pub mod Working
 pub mod Counting
 pub mod Keeping

@@ -1,15 +1,17 @@
 -- The report of a history, in the parts in which it is written.
-use Rattle.std.proofs.Common.{◌≡◌, ℕ, Bool, List, ◌++◌, take, drop, Option, Result, Ok, Err, IfOk, OnErr, sym, ap, subst, ◌∙◌, append_assoc}
+use Rattle.std.proofs.Common.{◌≡◌, ◌⊎◌, inl, inr, ℕ, Bool, List, ◌++◌, take, drop, Option, Result, Ok, Err, IfOk, OnErr, sym, ap, subst, ◌∙◌, append_assoc}
 use Rattle.std.specs.Prelude.{IsErrOf}
-use Rattle.std.specs.Io.KnownBytes.{Appends}
+use Rattle.std.specs.Io.KnownBytes.{Appends, Keeps}
 use Rattle.std.proofs.lemmas.List.{take-append-drop}
 use Rattle.io_edge.proofs.Known.{appends_then}
 use Rattle.rt_base.specs.declared.name.Names.{Names}
 use Rattle.step_journal.specs.declared.entry.Entry.{Entry}
 use Rattle.sim_history.specs.Sim.{Workload}
 use Rattle.plant_history.specs.Histories.{IsRunOf}
+use Rattle.plant_history.proofs.Fixed.{sim_is_run}
 use Rattle.run_report.specs.Report.{opening_text}
-use Rattle.written_run.specs.Written.{WroteFront}
+use Rattle.report_out.specs.Written.{Wrote, WroteFront}
+use Rattle.plant_report.specs.Lines.{IsTextBy}
 use Rattle.plant_report.specs.Eager.{IsRunTextBy, after_head}
 
 -- three texts, written one after another
@@ -66,6 +68,22 @@ module _ (names : Names) (admitted : Bool) (w : Workload) (own : ℕ → ℕ) (h
   pub wrote_front : (taken taken' : Option (List ℕ)) → WroteFront (λ t. t ≡ after_head head names w.set history) taken taken'
       → WroteFront (IsRunTextBy names admitted w own) taken taken'
   wrote_front taken taken' h = record { front = h.front; left = h.left; is = text_is _ h.is; written = h.written }
+
+-- where no transaction is eager it is that of the one run
+pub fixed_text : (names : Names) (admitted : Bool) (w : Workload) (own : ℕ → ℕ) (text : List ℕ) → ((tx : ℕ) → own tx ≡ 0) → IsTextBy names admitted w text → IsRunTextBy names admitted w own text
+fixed_text names admitted w own text none h = record { history = h.history; run = sim_is_run w own h.history none h.sim; written = h.written }
+
+-- what was written of the one is what was written of the other
+pub wrote_of : (P Q : List ℕ → Type 0) (taken taken' : Option (List ℕ)) → ((text : List ℕ) → P text → Q text) → Wrote P taken taken' → Wrote Q taken taken'
+wrote_of P Q taken taken' f h = record { text = h.text; is = f h.text h.is; written = h.written }
+
+pub front_of : (P Q : List ℕ → Type 0) (taken taken' : Option (List ℕ)) → ((text : List ℕ) → P text → Q text) → WroteFront P taken taken' → WroteFront Q taken taken'
+front_of P Q taken taken' f h = record { front = h.front; left = h.left; is = f (h.front ++ h.left) h.is; written = h.written }
+
+pub kept_or_front : (P Q : List ℕ → Type 0) (taken taken' : Option (List ℕ)) → ((text : List ℕ) → P text → Q text)
+    → Keeps taken taken' ⊎ WroteFront P taken taken' → Keeps taken taken' ⊎ WroteFront Q taken taken'
+kept_or_front P Q taken taken' f (inl h) = inl h
+kept_or_front P Q taken taken' f (inr h) = inr (front_of P Q taken taken' f h)
 
 -- by the answer
 

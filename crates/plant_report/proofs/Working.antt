@@ -11,8 +11,8 @@ use Rattle.report_out.specs.Outs.{Begun, OutSeen, IsLost, full_stops}
 use Rattle.plant_run.specs.declared.run.RunFault.{RunFault}
 use Rattle.plant_run.specs.declared.run.RunFault.TheVariants.{Stopped, Memory}
 use Rattle.plant_run.specs.Runs.{IsCutShort}
-use Rattle.written_run.specs.Lines.{HasFirstLines}
-use Rattle.written_run.proofs.Handing.{Got, first_lines, sink_cause}
+use Rattle.plant_report.specs.Lines.{HasFirstLines}
+use Rattle.plant_report.proofs.Handing.{Got, first_lines, sink_cause}
 
 -- a run that wanted memory
 pub short_lines : (begun : Begun) (w : Workload) (out : OutSeen) → begun.set ≡ w.set → (got : List Entry → Type 0) (sink : ℕ)

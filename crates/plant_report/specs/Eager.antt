@@ -7,7 +7,7 @@ use Rattle.sim_history.specs.Sim.{Workload}
 use Rattle.plant_history.specs.Histories.{IsRunOf}
 use Rattle.report_lines.specs.Texts.{entries_text}
 use Rattle.run_report.specs.Report.{report_of}
-use Rattle.written_run.specs.Lines.{closing_of}
+use Rattle.report_out.specs.Written.{closing_of}
 
 -- the report of a run of the workload, in which transactions plan so many jobs themselves, as admitted or as a trial
 pub record IsRunTextBy (names : Names) (admitted : Bool) (w : Workload) (own : ℕ → ℕ) (text : List ℕ) : Type 0 where

@@ -6,20 +6,20 @@ ghost use Rattle.step_journal.specs.History.{IsLegal};
 ghost use Rattle.job_rows.specs.Upkeep.{Follows, planned_jobs};
 ghost use Rattle.report_lines.specs.Texts.{NamesSet, entries_text};
 ghost use Rattle.report_out.specs.declared.standing.Standing.TheVariants.{Going};
-ghost use Rattle.written_run.specs.Lines.{IsBegun};
-ghost use Rattle.written_run.specs.Written.{WroteFront};
-ghost use Rattle.written_run.specs.declared.written.RunFault.TheVariants.{Writing};
+ghost use Rattle.report_out.specs.Outs.{IsBegun};
+ghost use Rattle.report_out.specs.Opened.{IsOpened};
+ghost use Rattle.report_out.specs.Written.{WroteFront};
+ghost use Rattle.report_out.specs.declared.fault.RunFault.TheVariants.{Writing};
 ghost use Rattle.plant_report.specs.Eager.{after_head};
 
 use board::Board;
 use entry_out::{EntryOut, Stopped};
 use io_edge::{Sink, write_all};
-use report_out::{ReportOut, Reported};
+use report_out::{Report, ReportOut, Reported, RunFault, write_closing};
 use rt_base::Names;
 use run_report::ReportWriter;
 use std::marker::Brand;
 use step_journal::Entry;
-use written_run::{RunFault, write_closing};
 
 // Hands the lines of a history to the sink of an out that has taken nothing yet.
 fn put_lines<B: Board, K: Sink, T: Reported>(
@@ -81,29 +81,31 @@ fn hand_history<B: Board, K: Sink>(
 }
 
 /// Writes the report of the history for which a board stands: the head, as one piece, then the lines of the entries, then
-/// the closing lines. `writer` is as it was begun, and `lines` is a place for lines, of at least 256 bytes. Writing comes
-/// only where the sink counts a fault.
+/// the closing lines. Writing comes only where the sink counts a fault.
 pub(crate) fn write_history<B: Board + Drop, K: Sink>(
     board: B,
-    names: &Names,
-    writer: ReportWriter,
-    lines: Vec<u8>,
-    head: &[u8],
+    report: Report,
     entries: &[Entry],
     sink: &mut K,
 ) -> Result<(), RunFault>
     requires stood { B.stands board entries.now }
     requires legal { IsLegal (B.set board) entries.now }
-    requires one_each { NamesSet names.now (B.set board) }
-    requires rows { Follows (B.set board) writer [] }
-    requires places { planned_jobs entries.now ≤ writer.room }
-    requires lines { (lines.items ≡ []) × (256 ≤ vec_capacity lines) }
-    ensures whole { OnOk result (Appends (K.taken sink.old) (K.taken sink.new) (after_head head.now names.now (B.set board) entries.now)) }
-    ensures front { OnErr result (WroteFront (λ text. text ≡ after_head head.now names.now (B.set board) entries.now) (K.taken sink.old) (K.taken sink.new)) }
+    requires opened { IsOpened (B.set board) report }
+    requires places { planned_jobs entries.now ≤ report.writer.room }
+    ensures whole { OnOk result (Appends (K.taken sink.old) (K.taken sink.new) (after_head report.entry.head.items report.entry.names.now (B.set board) entries.now)) }
+    ensures front { OnErr result (WroteFront (λ text. text ≡ after_head report.entry.head.items report.entry.names.now (B.set board) entries.now) (K.taken sink.old) (K.taken sink.new)) }
     ensures fault { IsErrOf result Writing → Rose (K.faults sink.old) (K.faults sink.new) }
     ensures later { K.faults sink.old ≤ K.faults sink.new }
 {
-    write_all(sink, head)?;
+    let Report {
+        names,
+        admitted: _,
+        writer,
+        head,
+        lines,
+        entries: _,
+    } = report;
+    write_all(sink, head.as_slice())?;
     match hand_history(&board, names, writer, lines, entries, sink) {
         Ok((writer, lines)) => write_closing(board, names, writer, lines, sink),
         Err(_) => Err(RunFault::Writing),

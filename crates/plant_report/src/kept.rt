@@ -1,17 +1,16 @@
 //! The history of a run by workers, kept until the run is over.
-ghost use Rattle.std.specs.Prelude.{◌≡◌, ℕ, ◌+◌, ◌<◌, ◌≤◌, [], length, map, false, vec_len, vec_capacity, IfOk};
+ghost use Rattle.std.specs.Prelude.{◌≡◌, ℕ, ◌+◌, ◌≤◌, [], length, false, vec_len, vec_capacity, IfOk};
 ghost use Rattle.txn_set.specs.Set.{IsCompiled};
 ghost use Rattle.counting_laws.specs.Counting.{room_of_jobs};
-ghost use Rattle.sim_run.specs.Workloads.{workload, ticks_of, AreAccepted, IsObedient};
+ghost use Rattle.sim_run.specs.Workloads.{ticks_of};
 ghost use Rattle.plant_history.specs.Histories.{IsRunOf};
-ghost use Rattle.eager_laws.specs.Plannable.{ArePlannable};
-ghost use Rattle.plant_run.specs.Runs.{own_at};
+ghost use Rattle.plant_run.specs.Ready.{CanRun, workload_in, own_in};
 ghost use Rattle.plant_run.specs.declared.run.RunFault.TheVariants as faults;
 
 use board::Board;
 use entry_out::{EntryOut, Stopped, append};
-use plant_run::{RunFault, run_workers};
-use rt_base::{List, OutOfMemory, Tick};
+use plant_run::{Run, RunFault, run_workers};
+use rt_base::OutOfMemory;
 use std::alloc::Global;
 use std::marker::{Brand, PhantomData};
 use std::sync::Wait;
@@ -82,44 +81,27 @@ fn run_into<
 >(
     rt: &R,
     alloc: Global,
-    board: B,
-    bodies: Vec<Y>,
-    ticks: &[List<Tick>],
-    own: &[u32],
-    workers: u32,
-    spare: &mut Vec<Entry>,
+    run: Run<B, Y>,
     gate: &G,
     out: &mut RunEntries<T>,
 ) -> Result<B, OutOfMemory>
-    requires opened { B.stands board [] }
-    requires compiled { IsCompiled (B.set board) }
-    requires each { (length bodies.items ≡ length (B.set board).txns) × (length own.now ≡ length (B.set board).txns) }
-    requires accepted { AreAccepted (B.set board) ticks.now }
-    requires obedient { IsObedient (workload (B.set board) (map Y.gives bodies.items) ticks.now) }
-    requires eager { (tx : ℕ) → 0 < own_at own.now tx → ticks_of ticks.now tx ≡ [] }
-    requires plannable { ArePlannable (workload (B.set board) (map Y.gives bodies.items) ticks.now) (own_at own.now) }
-    requires room { 1024 < B.room board }
-    requires spare { (spare.old.items ≡ []) × (B.room board ≤ vec_capacity spare.old) }
-    requires workers { (1 ≤ workers) × (workers ≤ 64) }
-    requires entries { room_of_jobs (B.set board).txns (λ tx. length (ticks_of ticks.now tx) + own_at own.now tx) ≤ out.old.room }
+    requires ready { CanRun B.stands B.set B.room Y.gives run }
+    requires compiled { IsCompiled (B.set run.board) }
+    requires entries { room_of_jobs (B.set run.board).txns (λ tx. length (ticks_of run.ticks.now tx) + own_in run tx) ≤ out.old.room }
     requires fresh { (out.old.room ≡ T.room) × (out.old.entries.items ≡ []) × (out.old.full ≡ false) }
-    ensures run { let w = workload (B.set board) (map Y.gives bodies.items) ticks.now in
-        IfOk result (λ b. IsRunOf w (own_at own.now) out.new.entries.items) }
+    ensures run { IfOk result (λ b. IsRunOf (workload_in B.set Y.gives run.entry) (own_in run.entry) out.new.entries.items) }
     ensures stood { IfOk result (λ b. B.stands b out.new.entries.items) }
-    ensures set { IfOk result (λ b. B.set b ≡ B.set board) }
+    ensures set { IfOk result (λ b. B.set b ≡ B.set run.entry.board) }
 {
-    match run_workers(
-        rt, alloc, board, bodies, ticks, own, workers, spare, gate, out,
-    ) {
+    match run_workers(rt, alloc, run, gate, out) {
         Ok(board) => Ok(board),
         Err(fault) => Err(no_memory(fault)),
     }
 }
 
-/// Runs a workload on a new board by so many workers, each in a thread of its own where one can be made, and answers the
-/// board and the whole history, kept in a list with room for `entries` entries. A transaction for which `own` has a number
-/// is eager: it plans so many jobs itself, and has no release. `entries` suffices for all jobs, so that want of memory comes
-/// only before the run. It may wait.
+/// Runs a workload on a new board by workers, each in a thread of its own where one can be made, and answers the board and
+/// the whole history, kept in a list with room for `entries` entries, which suffices for all jobs, so that want of memory
+/// comes only before the run. It may wait.
 pub fn keep_run<
     R: Threads + Wait + Sync,
     B: Board + Send + Drop,
@@ -128,30 +110,17 @@ pub fn keep_run<
 >(
     rt: &R,
     alloc: Global,
-    board: B,
-    bodies: Vec<Y>,
-    ticks: &[List<Tick>],
-    own: &[u32],
+    run: Run<B, Y>,
     entries: usize,
-    workers: u32,
     gate: &G,
 ) -> Result<(B, Vec<Entry>), OutOfMemory>
-    requires opened { B.stands board [] }
-    requires compiled { IsCompiled (B.set board) }
-    requires each { (length bodies.items ≡ length (B.set board).txns) × (length own.now ≡ length (B.set board).txns) }
-    requires accepted { AreAccepted (B.set board) ticks.now }
-    requires obedient { IsObedient (workload (B.set board) (map Y.gives bodies.items) ticks.now) }
-    requires eager { (tx : ℕ) → 0 < own_at own.now tx → ticks_of ticks.now tx ≡ [] }
-    requires plannable { ArePlannable (workload (B.set board) (map Y.gives bodies.items) ticks.now) (own_at own.now) }
-    requires room { 1024 < B.room board }
-    requires workers { (1 ≤ workers) × (workers ≤ 64) }
-    requires entries { room_of_jobs (B.set board).txns (λ tx. length (ticks_of ticks.now tx) + own_at own.now tx) ≤ entries }
-    ensures run { let w = workload (B.set board) (map Y.gives bodies.items) ticks.now in
-        IfOk result (λ r. IsRunOf w (own_at own.now) r.1.items) }
+    requires ready { CanRun B.stands B.set B.room Y.gives run }
+    requires compiled { IsCompiled (B.set run.board) }
+    requires entries { room_of_jobs (B.set run.board).txns (λ tx. length (ticks_of run.ticks.now tx) + own_in run tx) ≤ entries }
+    ensures run { IfOk result (λ r. IsRunOf (workload_in B.set Y.gives run.entry) (own_in run.entry) r.1.items) }
     ensures stood { IfOk result (λ r. B.stands r.0 r.1.items) }
-    ensures set { IfOk result (λ r. B.set r.0 ≡ B.set board) }
+    ensures set { IfOk result (λ r. B.set r.0 ≡ B.set run.entry.board) }
 {
-    let mut spare = Vec::with_capacity(alloc, board.room())?;
     let kept = Vec::with_capacity(alloc, entries)?;
     let mut out: RunEntries<Brand> = RunEntries {
         entries: kept,
@@ -159,9 +128,7 @@ pub fn keep_run<
         full: false,
         of: PhantomData,
     };
-    let ran = run_into::<R, B, Y, G, Brand>(
-        rt, alloc, board, bodies, ticks, own, workers, &mut spare, gate, &mut out,
-    );
+    let ran = run_into::<R, B, Y, G, Brand>(rt, alloc, run, gate, &mut out);
     let RunEntries {
         entries,
         room: _,

@@ -7,6 +7,5 @@ mod kept;
 mod lines;
 mod written;
 
-pub use eager::write_eager_run;
 pub use kept::keep_run;
 pub use written::write_run;

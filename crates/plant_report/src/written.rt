@@ -1,31 +1,31 @@
 //! The whole report of a run by workers.
-ghost use Rattle.std.specs.Prelude.{◌≡◌, ℕ, ◌<◌, ◌≤◌, [], length, map, Bool, OnOk, OnErr, IsErrOf};
+ghost use Rattle.std.specs.Prelude.{◌≡◌, ◌⊎◌, ℕ, ◌+◌, ◌≤◌, true, length, map, OnOk, OnErr, IsErrOf};
 ghost use Rattle.std.specs.List.{sum};
+ghost use Rattle.std.specs.Io.KnownBytes.{Keeps};
 ghost use Rattle.io_edge.specs.Causes.{Rose};
-ghost use Rattle.job_rows.specs.Upkeep.{Follows};
-ghost use Rattle.sim_run.specs.Workloads.{workload, AreAccepted, IsObedient};
-ghost use Rattle.report_lines.specs.Texts.{NamesSet};
-ghost use Rattle.run_report.specs.Report.{opening_text};
+ghost use Rattle.counting_laws.specs.Counting.{room_of_jobs};
+ghost use Rattle.sim_run.specs.Workloads.{ticks_of};
+ghost use Rattle.eager_laws.specs.Plannable.{own_jobs};
 ghost use Rattle.plant_run.specs.declared.run.RunFault.TheVariants as faults;
+ghost use Rattle.plant_run.specs.Ready.{CanRun, workload_in, own_in};
 ghost use Rattle.plant_run.specs.Runs.{own_at};
-ghost use Rattle.written_run.specs.Written.{IsTextBy, Wrote, WroteFront};
-ghost use Rattle.written_run.specs.declared.written.RunFault.TheVariants.{Writing};
+ghost use Rattle.report_out.specs.Opened.{IsOpened};
+ghost use Rattle.report_out.specs.Written.{Wrote, WroteFront};
+ghost use Rattle.report_out.specs.declared.fault.RunFault.TheVariants.{Writing, Memory};
+ghost use Rattle.plant_report.specs.Lines.{IsTextBy};
+ghost use Rattle.plant_report.specs.Eager.{IsRunTextBy};
 
+use crate::eager::write_kept;
 use crate::lines::hand_lines;
 use board::Board;
 use io_edge::{Sink, write_all};
-use plant_run::RunFault as PlantFault;
-use rt_base::{List, Names, Tick};
-use run_report::ReportWriter;
+use plant_run::{Run, RunFault as PlantFault};
+use report_out::{Report, RunFault, write_closing};
 use std::alloc::Global;
 use std::sync::Wait;
 use std::thread::Threads;
 use step_script::Body;
 use txn_threads::Gate;
-use written_run::{RunFault, write_closing};
-
-// How many bytes of lines are kept until they are handed to the sink.
-pub(crate) const LINES: usize = 65_536;
 
 // Why a report was not written whole, where its run was not.
 fn fault_of(fault: PlantFault) -> RunFault
@@ -37,11 +37,56 @@ fn fault_of(fault: PlantFault) -> RunFault
     }
 }
 
-/// Runs a workload on a new board by so many workers, each in a thread of its own where one can be made, and writes its
-/// report: the head, as one piece, then the lines of the entries as they come, then the closing lines. No transaction plans
-/// jobs itself: `own` is 0 for each. `writer` and `head` are as `ReportWriter::begin` left them. Ok has written the whole
-/// report of the workload's run, whatever the number of workers; else a prefix of it is written. Writing comes only where
-/// the sink counts a fault. It may wait.
+// Whether no transaction plans a job itself.
+fn none_own(own: &[u32]) -> bool
+    ensures { result ≡ true → (tx : ℕ) → own_at own.now tx ≡ 0 }
+{
+    for jobs in own {
+        if *jobs > 0 {
+            return false;
+        }
+    }
+    true
+}
+
+// Writes the report of a run in which no transaction is eager: the lines of the entries as they come.
+fn write_fixed<
+    R: Threads + Wait + Sync,
+    B: Board + Send + Drop,
+    Y: Body + Send + Drop,
+    G: Gate + Sync,
+    K: Sink,
+>(
+    rt: &R,
+    alloc: Global,
+    run: Run<B, Y>,
+    report: Report,
+    gate: &G,
+    sink: &mut K,
+) -> Result<(), RunFault>
+    requires ready { CanRun B.stands B.set B.room Y.gives run }
+    requires none_eager { (tx : ℕ) → own_in run tx ≡ 0 }
+    requires opened { IsOpened (B.set run.board) report }
+    requires places { sum (map length run.ticks.now) ≤ report.writer.room }
+    ensures whole { OnOk result (Wrote (IsTextBy report.entry.names.now report.entry.admitted (workload_in B.set Y.gives run.entry)) (K.taken sink.old) (K.taken sink.new)) }
+    ensures front { OnErr result (WroteFront (IsTextBy report.entry.names.now report.entry.admitted (workload_in B.set Y.gives run.entry)) (K.taken sink.old) (K.taken sink.new)) }
+    ensures fault { IsErrOf result Writing → Rose (K.faults sink.old) (K.faults sink.new) }
+    ensures later { K.faults sink.old ≤ K.faults sink.new }
+{
+    let names = report.names;
+    write_all(sink, report.head.as_slice())?;
+    match hand_lines(rt, alloc, run, report, gate, sink) {
+        Ok((board, writer, lines)) => write_closing(board, names, writer, lines, sink),
+        Err(fault) => Err(fault_of(fault)),
+    }
+}
+
+/// Runs a workload on a new board by workers, each in a thread of its own where one can be made, and writes its report: the
+/// head, as one piece, then the lines of the entries as they come, or, where a transaction is eager, when the run is over,
+/// then the closing lines. The report has places for all jobs, and its room for entries suffices for them. Ok has written the
+/// whole report of a run of the workload, which is the one run where no transaction is eager, whatever the number of workers.
+/// Writing, which comes only where the sink counts a fault, has written a prefix of one, and Memory nothing or a prefix of
+/// one. It may wait.
 pub fn write_run<
     R: Threads + Wait + Sync,
     B: Board + Send + Drop,
@@ -51,42 +96,24 @@ pub fn write_run<
 >(
     rt: &R,
     alloc: Global,
-    board: B,
-    names: &Names,
-    writer: ReportWriter,
-    head: &[u8],
-    bodies: Vec<Y>,
-    ticks: &[List<Tick>],
-    own: &[u32],
-    workers: u32,
+    run: Run<B, Y>,
+    report: Report,
     gate: &G,
     sink: &mut K,
 ) -> Result<(), RunFault>
-    requires opened { B.stands board [] }
-    requires each { (length bodies.items ≡ length (B.set board).txns) × (length own.now ≡ length (B.set board).txns) }
-    requires none_eager { (tx : ℕ) → own_at own.now tx ≡ 0 }
-    requires accepted { AreAccepted (B.set board) ticks.now }
-    requires obedient { IsObedient (workload (B.set board) (map Y.gives bodies.items) ticks.now) }
-    requires room { 1024 < B.room board }
-    requires workers { (1 ≤ workers) × (workers ≤ 64) }
-    requires one_each { NamesSet names.now (B.set board) }
-    requires rows { Follows (B.set board) writer [] }
-    requires places { sum (map length ticks.now) ≤ writer.room }
-    ensures whole { (admitted : Bool) → head.now ≡ opening_text names.now (B.set board) admitted →
-        OnOk result (Wrote (IsTextBy names.now admitted (workload (B.set board) (map Y.gives bodies.items) ticks.now)) (K.taken sink.old) (K.taken sink.new)) }
-    ensures front { (admitted : Bool) → head.now ≡ opening_text names.now (B.set board) admitted →
-        OnErr result (WroteFront (IsTextBy names.now admitted (workload (B.set board) (map Y.gives bodies.items) ticks.now)) (K.taken sink.old) (K.taken sink.new)) }
+    requires ready { CanRun B.stands B.set B.room Y.gives run }
+    requires opened { IsOpened (B.set run.board) report }
+    requires places { sum (map length run.ticks.now) + own_jobs (B.set run.board) (own_in run) ≤ report.writer.room }
+    requires entries { room_of_jobs (B.set run.board).txns (λ tx. length (ticks_of run.ticks.now tx) + own_in run tx) ≤ report.entries }
+    ensures whole { OnOk result (Wrote (IsRunTextBy report.entry.names.now report.entry.admitted (workload_in B.set Y.gives run.entry) (own_in run.entry)) (K.taken sink.old) (K.taken sink.new)) }
+    ensures cut { IsErrOf result Writing → WroteFront (IsRunTextBy report.entry.names.now report.entry.admitted (workload_in B.set Y.gives run.entry) (own_in run.entry)) (K.taken sink.old) (K.taken sink.new) }
+    ensures short { IsErrOf result Memory → Keeps (K.taken sink.old) (K.taken sink.new) ⊎ WroteFront (IsRunTextBy report.entry.names.now report.entry.admitted (workload_in B.set Y.gives run.entry) (own_in run.entry)) (K.taken sink.old) (K.taken sink.new) }
     ensures fault { IsErrOf result Writing → Rose (K.faults sink.old) (K.faults sink.new) }
     ensures later { K.faults sink.old ≤ K.faults sink.new }
 {
-    let mut spare = Vec::with_capacity(alloc, board.room())?;
-    let lines = Vec::with_capacity(alloc, LINES)?;
-    write_all(sink, head)?;
-    let handed = hand_lines(
-        rt, alloc, board, names, writer, lines, bodies, ticks, own, workers, &mut spare, gate, sink,
-    );
-    match handed {
-        Ok((board, writer, lines)) => write_closing(board, names, writer, lines, sink),
-        Err(fault) => Err(fault_of(fault)),
+    if none_own(run.own) {
+        write_fixed(rt, alloc, run, report, gate, sink)
+    } else {
+        write_kept(rt, alloc, run, report, gate, sink)
     }
 }

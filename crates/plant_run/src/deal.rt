@@ -12,6 +12,7 @@ use shared_plant::Seat;
 use std::alloc::Global;
 use step_script::Body;
 use txn_threads::{Member, Worker};
+use worker_count::Workers;
 
 // Places for the members of all transactions, a list for each worker, and places for the workers.
 #[derive(Drop)]
@@ -25,14 +26,14 @@ impl<B: Board, Y: Body + Drop> Crew<B, Y> {
     pub(crate) fn reserve(
         alloc: Global,
         txs: usize,
-        workers: u32,
+        workers: Workers,
     ) -> Result<Crew<B, Y>, OutOfMemory>
-        requires workers { 0 < workers }
         requires few { txs < 2 ^ 32 }
         ensures { IfOk result (λ c. IsReserved txs c) }
     {
-        let lists = empty_lists(alloc, txs, workers)?;
-        let workers = Vec::with_capacity(alloc, workers as usize)?;
+        let number = workers.get();
+        let lists = empty_lists(alloc, txs, number)?;
+        let workers = Vec::with_capacity(alloc, number as usize)?;
         Ok(Crew { lists, workers })
     }
 

@@ -5,7 +5,9 @@ mod deal;
 mod gather;
 mod laws;
 mod run;
+mod whole;
 mod work;
 
 pub use laws::fixed_runs;
-pub use run::{RunFault, run_workers};
+pub use run::{Run, RunFault};
+pub use whole::run_workers;

@@ -1,20 +1,18 @@
 //! Workers on a plant, from its start to its closing.
-ghost use Rattle.std.specs.Prelude.{◌≡◌, ℕ, ◌+◌, ◌≤◌, ◌<◌, ◌^◌, ◌++◌, ◌∷◌, [], None, length, map, All, IfOk, OnErr, IsErrOf, vec_capacity};
+ghost use Rattle.std.specs.Prelude.{◌≡◌, ◌+◌, ◌≤◌, ◌++◌, ◌∷◌, [], None, length, IfOk, IsErrOf, vec_capacity};
 ghost use Rattle.std.specs.Prelude.{List as Many};
 ghost use Rattle.io_edge.specs.Causes.{Rose};
 ghost use Rattle.step_journal.specs.declared.entry.Entry.{Entry as Noted};
 ghost use Rattle.shared_plant.specs.Seats.{AreOf, newcomer, newcomers};
 ghost use Rattle.sim_history.specs.Sim.{plans_from};
-ghost use Rattle.sim_run.specs.Workloads.{workload, ticks_of, IsObedient};
-ghost use Rattle.eager_laws.specs.Plannable.{ArePlannable};
 ghost use Rattle.plant_run.specs.Deals.{IsReserved};
 ghost use Rattle.plant_run.specs.Works.{HasWorked, WasCut, CanGoOn};
-ghost use Rattle.plant_run.specs.Runs.{own_at};
+ghost use Rattle.plant_run.specs.Ready.{IsPlanned, workload_in, own_in};
 
 use crate::deal::Crew;
 use crate::gather::{closed, gather};
 use crate::laws::stories_are;
-use crate::run::RunFault;
+use crate::run::{Run, RunFault};
 use board::Board;
 use eager_laws::never_unplanned;
 use entry_out::EntryOut;
@@ -73,6 +71,13 @@ fn fault_of(stop: RunStop) -> RunFault
     }
 }
 
+// A run whose releases were planned, and places for its members and workers.
+#[derive(Drop)]
+pub(crate) struct Staffed<'a, B: Board, Y: Body> {
+    pub(crate) run: Run<'a, B, Y>,
+    pub(crate) crew: Crew<B, Y>,
+}
+
 // Starts a plant on a board on which all releases were planned, lets workers run the bodies, and closes it.
 pub(crate) fn work<
     R: Threads + Wait + Sync,
@@ -83,47 +88,43 @@ pub(crate) fn work<
 >(
     rt: &R,
     alloc: Global,
-    board: B,
-    bodies: Vec<Y>,
-    releases: &[List<Tick>],
-    own: &[u32],
-    crew: Crew<B, Y>,
-    spare: &mut Vec<Entry>,
+    staffed: Staffed<B, Y>,
     gate: &G,
     out: &mut O,
-) -> Result<B, RunFault>
-    requires stands { B.stands board (plans_from 0 releases.now) }
-    requires each { (length bodies.items ≡ length releases.now) × (length own.now ≡ length releases.now) × (length releases.now ≡ length (B.set board).txns) }
-    requires few { All (λ ticks. length ticks < 2 ^ 32) releases.now }
-    requires obedient { IsObedient (workload (B.set board) (map Y.gives bodies.items) releases.now) }
-    requires eager { (tx : ℕ) → 0 < own_at own.now tx → ticks_of releases.now tx ≡ [] }
-    requires plannable { ArePlannable (workload (B.set board) (map Y.gives bodies.items) releases.now) (own_at own.now) }
-    requires crew { IsReserved (length releases.now) crew }
-    requires spare { spare.old.items ≡ [] }
+) -> Result<(B, Vec<Entry>), RunFault>
+    requires planned { IsPlanned B.stands B.set Y.gives staffed.run }
+    requires crew { IsReserved (length staffed.run.ticks.now) staffed.crew }
     requires nothing_lost { O.lost out.old [] }
-    requires good { let w = workload (B.set board) (map Y.gives bodies.items) releases.now in CanGoOn w (O.got out.old) (O.good out.old) (B.kept board) }
-    ensures worked { let w = workload (B.set board) (map Y.gives bodies.items) releases.now in
-        IfOk result (λ b. HasWorked w (own_at own.now) (B.stands b) (O.got out.old) (O.got out.new) (B.kept board) (B.kept b)) }
-    ensures fixed { IfOk result (λ b. (B.set b ≡ B.set board) × (B.room b ≡ B.room board)) }
+    requires good { CanGoOn (workload_in B.set Y.gives staffed.run) (O.got out.old) (O.good out.old) (B.kept staffed.run.board) }
+    ensures worked { IfOk result (λ r. HasWorked (workload_in B.set Y.gives staffed.entry.run) (own_in staffed.entry.run) (B.stands r.0) (O.got out.old) (O.got out.new) (B.kept staffed.entry.run.board) (B.kept r.0)) }
+    ensures fixed { IfOk result (λ r. (B.set r.0 ≡ B.set staffed.entry.run.board) × (B.room r.0 ≡ B.room staffed.entry.run.board)) }
     ensures none_lost { IfOk result (λ _. O.lost out.new []) }
-    ensures cut { let w = workload (B.set board) (map Y.gives bodies.items) releases.now in
-        IsErrOf result RunFault.Stopped → WasCut w (own_at own.now) (O.got out.old) (O.got out.new) (O.lost out.new) (B.kept board) }
+    ensures cut { IsErrOf result RunFault.Stopped → WasCut (workload_in B.set Y.gives staffed.entry.run) (own_in staffed.entry.run) (O.got out.old) (O.got out.new) (O.lost out.new) (B.kept staffed.entry.run.board) }
     ensures memory { IsErrOf result RunFault.Memory → out.new ≡ out.old }
     ensures cause { IsErrOf result RunFault.Stopped → Rose (O.stops out.old) (O.stops out.new) }
     ensures later { O.stops out.old ≤ O.stops out.new }
     ensures good { (story : Many Noted) → O.good out.old story → O.good out.new story }
-    ensures spare { (spare.new.items ≡ []) × (vec_capacity spare.new ≡ vec_capacity spare.old) }
+    ensures spare { IfOk result (λ r. (r.1.items ≡ []) × (vec_capacity r.1 ≡ vec_capacity staffed.entry.run.spare)) }
 {
     stories_are::<B>();
-    let (plant, mut seats) = start(alloc, board, releases)?;
+    let Staffed { run, crew } = staffed;
+    let Run {
+        board,
+        bodies,
+        ticks,
+        own,
+        workers: _,
+        mut spare,
+    } = run;
+    let (plant, mut seats) = start(alloc, board, ticks)?;
     let mut operator = seats.pop().unwrap();
-    let mut workers = crew.hire(&mut seats, bodies, releases, own);
+    let mut workers = crew.hire(&mut seats, bodies, ticks, own);
     let ran = run_all(
         rt,
         &plant,
         workers.as_mut_slice(),
         &mut operator,
-        spare,
+        &mut spare,
         gate,
         out,
     );
@@ -135,7 +136,7 @@ pub(crate) fn work<
     no_refusal::<B>();
     never_unplanned::<B, Y>();
     match ran {
-        Ok(()) => Ok(board),
+        Ok(()) => Ok((board, spare)),
         Err(stop) => Err(fault_of(stop)),
     }
 }

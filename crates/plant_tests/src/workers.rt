@@ -12,7 +12,7 @@ use board::Board;
 use board_calls::{call_of, make};
 use entry_out::{EntryOut, Stopped};
 use plain_core::PlainCore;
-use plant_run::{RunFault, run_workers};
+use plant_run::{Run, RunFault, run_workers};
 use rt_base::{List, OutOfMemory, Tick};
 use sim_run::run;
 use std::alloc::Global;
@@ -22,6 +22,7 @@ use std::thread::Threads;
 use step_journal::Entry;
 use txn_set::CompiledSet;
 use txn_threads::NoGate;
+use worker_count::Workers;
 
 const ROOM: usize = 1100;
 
@@ -85,6 +86,14 @@ fn releases(alloc: Global, fast: usize, slow: usize) -> Result<Option<Vec<List<T
     Ok(Some(releases))
 }
 
+// So many workers, from 1 to 64.
+fn few_workers(number: u32) -> Result<Workers, OutOfMemory> {
+    match Workers::new(number) {
+        Some(workers) => Ok(workers),
+        None => Err(OutOfMemory),
+    }
+}
+
 fn spare(alloc: Global) -> Result<Vec<Entry>, OutOfMemory>
     ensures { IfOk result (λ v. (v.items ≡ []) × (1100 ≤ vec_capacity v)) }
 {
@@ -117,12 +126,11 @@ fn alone(alloc: Global, fast: usize, slow: usize) -> Result<Vec<Entry>, OutOfMem
 fn by_workers<R: Threads + Wait + Sync>(
     rt: &R,
     alloc: Global,
-    workers: u32,
+    workers: Workers,
     releases: &[List<Tick>],
     own: &[u32],
     most: usize,
 ) -> Result<(Result<(), RunFault>, Vec<Entry>), OutOfMemory>
-    requires workers { (1 ≤ workers) × (workers ≤ 64) }
     requires accepted { AreAccepted set_of_two releases.now }
     requires each { length own.now ≡ 2 }
     requires eager { (tx : ℕ) → 0 < own_at own.now tx → ticks_of releases.now tx ≡ [] }
@@ -132,11 +140,16 @@ fn by_workers<R: Threads + Wait + Sync>(
     let mut bodies = Vec::new(alloc);
     bodies.push(Steady { computes: true })?;
     bodies.push(Steady { computes: false })?;
-    let mut spare = spare(alloc)?;
+    let run = Run {
+        board,
+        bodies,
+        ticks: releases,
+        own,
+        workers,
+        spare: spare(alloc)?,
+    };
     let mut out = few(alloc, most)?;
-    let ran = run_workers(
-        rt, alloc, board, bodies, releases, own, workers, &mut spare, &NoGate, &mut out,
-    );
+    let ran = run_workers(rt, alloc, run, &NoGate, &mut out);
     match ran {
         Ok(_) => Ok((Ok(()), out.entries)),
         Err(fault) => Ok((Err(fault), out.entries)),
@@ -147,12 +160,10 @@ fn by_workers<R: Threads + Wait + Sync>(
 fn of_fixed<R: Threads + Wait + Sync>(
     rt: &R,
     alloc: Global,
-    workers: u32,
+    workers: Workers,
     jobs: (usize, usize),
     most: usize,
-) -> Result<(Result<(), RunFault>, Vec<Entry>), OutOfMemory>
-    requires { (1 ≤ workers) × (workers ≤ 64) }
-{
+) -> Result<(Result<(), RunFault>, Vec<Entry>), OutOfMemory> {
     let Some(releases) = releases(alloc, jobs.0, jobs.1)? else {
         return Err(OutOfMemory);
     };
@@ -177,11 +188,9 @@ fn beside_eager(alloc: Global) -> Result<Vec<List<Tick>>, OutOfMemory>
 fn of_eager<R: Threads + Wait + Sync>(
     rt: &R,
     alloc: Global,
-    workers: u32,
+    workers: Workers,
     most: usize,
-) -> Result<(Result<(), RunFault>, Vec<Entry>), OutOfMemory>
-    requires { (1 ≤ workers) × (workers ≤ 64) }
-{
+) -> Result<(Result<(), RunFault>, Vec<Entry>), OutOfMemory> {
     let releases = beside_eager(alloc)?;
     by_workers(rt, alloc, workers, releases.as_slice(), &[0u32, 2], most)
 }
@@ -221,10 +230,8 @@ fn is_replayed(alloc: Global, entries: &[Entry]) -> Result<bool, OutOfMemory> {
 fn of_none<R: Threads + Wait + Sync>(
     rt: &R,
     alloc: Global,
-    workers: u32,
-) -> Result<(Result<(), RunFault>, Vec<Entry>), OutOfMemory>
-    requires { (1 ≤ workers) × (workers ≤ 64) }
-{
+    workers: Workers,
+) -> Result<(Result<(), RunFault>, Vec<Entry>), OutOfMemory> {
     let set = CompiledSet::of(
         Vec::new(alloc),
         Vec::new(alloc),
@@ -237,20 +244,16 @@ fn of_none<R: Threads + Wait + Sync>(
     };
     let bodies: Vec<Steady> = Vec::new(alloc);
     let releases: Vec<List<Tick>> = Vec::new(alloc);
-    let mut spare = spare(alloc)?;
-    let mut out = few(alloc, 0)?;
-    let ran = run_workers(
-        rt,
-        alloc,
+    let run = Run {
         board,
         bodies,
-        releases.as_slice(),
-        &[],
+        ticks: releases.as_slice(),
+        own: &[],
         workers,
-        &mut spare,
-        &NoGate,
-        &mut out,
-    );
+        spare: spare(alloc)?,
+    };
+    let mut out = few(alloc, 0)?;
+    let ran = run_workers(rt, alloc, run, &NoGate, &mut out);
     match ran {
         Ok(_) => Ok((Ok(()), out.entries)),
         Err(fault) => Ok((Err(fault), out.entries)),
@@ -269,7 +272,8 @@ fn any_number_of_workers(rt: HostRuntime) -> Result<(), Fail> {
     let alloc = rt.alloc();
     let whole = alone(alloc, 800, 400)?;
     assert_eq!(rt; whole.len(), 1200 + 1600 + 400 + 799);
-    for workers in 1..4 {
+    for number in 1..4 {
+        let workers = few_workers(number)?;
         let (ran, entries) = of_fixed(&rt, alloc, workers, (800, 400), 20000)?;
         assert_eq!(rt; ran, Ok(()));
         assert!(rt; entries.as_slice() == whole.as_slice());
@@ -283,7 +287,8 @@ fn an_out_that_stops(rt: HostRuntime) -> Result<(), Fail> {
     let whole = alone(alloc, 800, 400)?;
     // while releases are planned, at the first drain, and later
     for most in [1023usize, 1024, 3000] {
-        for workers in 1..4 {
+        for number in 1..4 {
+            let workers = few_workers(number)?;
             let (ran, entries) = of_fixed(&rt, alloc, workers, (800, 400), most)?;
             assert_eq!(rt; ran, Err(RunFault::Stopped));
             assert!(rt; entries.len() <= most);
@@ -296,7 +301,8 @@ fn an_out_that_stops(rt: HostRuntime) -> Result<(), Fail> {
 #[test]
 fn an_eager_transaction(rt: HostRuntime) -> Result<(), Fail> {
     let alloc = rt.alloc();
-    for workers in 1..4 {
+    for number in 1..4 {
+        let workers = few_workers(number)?;
         let (ran, entries) = of_eager(&rt, alloc, workers, 20000)?;
         assert_eq!(rt; ran, Ok(()));
         assert_eq!(rt; jobs_in(entries.as_slice(), 0), (3, 3));
@@ -308,7 +314,8 @@ fn an_eager_transaction(rt: HostRuntime) -> Result<(), Fail> {
 
 #[test]
 fn no_transaction(rt: HostRuntime) -> Result<(), Fail> {
-    for workers in 1..4 {
+    for number in 1..4 {
+        let workers = few_workers(number)?;
         let (ran, entries) = of_none(&rt, rt.alloc(), workers)?;
         assert_eq!(rt; ran, Ok(()));
         assert_eq!(rt; entries.len(), 0);

@@ -1,2 +1,4 @@
 pub mod Outs
 pub mod Laws
+pub mod Written
+pub mod Opened

@@ -28,6 +28,10 @@ nothing = record {
   room = 0;
 }
 
+-- with what the out of a run begins
+abbrev pub IsBegun : Begun → ℕ → Option (List ℕ) → Names → Set → ℕ → Type 0
+IsBegun begun sink front names set room = begun ≡ record { sink = sink; front = front; names = names; set = set; room = room }
+
 -- an out: how it stands, the names and the rows of its report, the lines that wait, how many bytes the lines of what it
 -- got have, and what its sink has taken
 pub record OutSeen : Type 0 where

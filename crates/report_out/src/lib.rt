@@ -1,13 +1,19 @@
-//! A report whose entry lines are handed to a sink as the entries come.
+//! A report whose entry lines are handed to a sink as the entries come, and its closing lines.
 #![tactic(auto)]
 
 ghost use Rattle.report_out.specs.Laws.{AfterCut, AfterFull, HasFront};
 
+mod closing;
+mod fault;
 mod lines;
 mod out;
+mod report;
 mod standing;
 
+pub use closing::write_closing;
+pub use fault::RunFault;
 pub use out::{ReportOut, Reported};
+pub use report::Report;
 pub use standing::Standing;
 
 /// After a fault of the sink it has all lines of what the out got, and then a front of the lines of what it lost.

@@ -17,7 +17,7 @@ use Rattle.scenario_reader.specs.Reading.{data_of, scenario_in}
 use Rattle.report_verdict.specs.declared.verdict.Verdict.TheVariants as verdicts
 use Rattle.report_verdict.specs.Verdict.{IsVerdict}
 use Rattle.report_verdict.proofs.OneOnly.{one_verdict}
-use Rattle.written_run.specs.Written.{WroteFront}
+use Rattle.report_out.specs.Written.{WroteFront}
 use Rattle.command_words.specs.declared.command.Command.{Command}
 use Rattle.command_words.specs.declared.command.Command.TheVariants.{Plain, Run, Load}
 use Rattle.command_words.specs.declared.command.PlainCommand.TheVariants.{Ceilings, Admit, Replay, Gen, Rates, Margin}

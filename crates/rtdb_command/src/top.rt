@@ -6,7 +6,7 @@ ghost use Rattle.scenario.specs.Shown.{shown};
 ghost use Rattle.scenario.specs.Scenarios.{IsScenario};
 ghost use Rattle.scenario_forms.specs.Root.{forms_view};
 ghost use Rattle.scenario_reader.specs.Reading.{data_of, scenario_in};
-ghost use Rattle.written_run.specs.Written.{Wrote, WroteFront};
+ghost use Rattle.report_out.specs.Written.{Wrote, WroteFront};
 ghost use Rattle.command_words.specs.Commands.{command_of, IsInRange};
 ghost use Rattle.rtdb_command.specs.Replies.{names_in, names_of_forms, generated_text};
 ghost use Rattle.rtdb_command.specs.Answers.{plain_command_of, IsAnswer, IsReadFrom, IsRefused, IsRefusedFrom, TakesNoInput, Told, CutShort, RanOut, Answers, IsGood};
@@ -21,12 +21,13 @@ use rt_base::{List, Names, OutOfMemory};
 use scenario::Scenario;
 use scenario_forms::{FormError, Forms, ItemTable, TextError, TxnTable, read_forms, read_value};
 use scenario_reader::{ScenarioError, read_scenario};
-use scenario_run::{Stop, load, run_scenario};
+use scenario_run::{RunMode, Stop, load, run_scenario};
 use scenario_writer::{generated, write_scenario};
 use std::alloc::Global;
 use std::sync::Wait;
 use std::thread::Threads;
 use txn_threads::Gate;
+use worker_count::Workers;
 
 // The most bytes of a scenario.
 const SCENARIO_LIMIT: usize = 4_194_304;
@@ -234,23 +235,21 @@ pub(crate) fn answer_no_command<K: Sink>(sink: &mut K) -> Status
 fn run<R: Threads + Wait + Sync, S: Source, K: Sink, G: Gate + Sync>(
     rt: &R,
     alloc: Global,
-    trial: bool,
-    workers: u32,
+    mode: RunMode,
     source: &mut S,
     sink: &mut K,
     gate: &G,
 ) -> Result<Option<Reply>, Stop>
-    requires { (1 ≤ workers) × (workers ≤ 64) }
-    ensures said { IfOk result (λ o. IfSome o (λ r. IsAnswer (Some (Command.Run trial workers)) (S.left source.old) (S.left source.new) r.status r.text.items × (sink.new ≡ sink.old))) }
-    ensures whole { IfOk result (λ o. o ≡ None → Told (IsAnswer (Some (Command.Run trial workers)) (S.left source.old) (S.left source.new)) (K.taken sink.old) (K.taken sink.new) Status.Ok) }
-    ensures cut { IsErrOf result Stop.Writing → CutShort (IsAnswer (Some (Command.Run trial workers)) (S.left source.old) (S.left source.new)) (K.taken sink.old) (K.taken sink.new) }
-    ensures short { IsErrOf result Stop.Memory → Keeps (K.taken sink.old) (K.taken sink.new) ⊎ CutShort (IsAnswer (Some (Command.Run trial workers)) (S.left source.old) (S.left source.new)) (K.taken sink.old) (K.taken sink.new) }
+    ensures said { IfOk result (λ o. IfSome o (λ r. IsAnswer (Some (Command.Run mode.trial mode.workers)) (S.left source.old) (S.left source.new) r.status r.text.items × (sink.new ≡ sink.old))) }
+    ensures whole { IfOk result (λ o. o ≡ None → Told (IsAnswer (Some (Command.Run mode.trial mode.workers)) (S.left source.old) (S.left source.new)) (K.taken sink.old) (K.taken sink.new) Status.Ok) }
+    ensures cut { IsErrOf result Stop.Writing → CutShort (IsAnswer (Some (Command.Run mode.trial mode.workers)) (S.left source.old) (S.left source.new)) (K.taken sink.old) (K.taken sink.new) }
+    ensures short { IsErrOf result Stop.Memory → Keeps (K.taken sink.old) (K.taken sink.new) ⊎ CutShort (IsAnswer (Some (Command.Run mode.trial mode.workers)) (S.left source.old) (S.left source.new)) (K.taken sink.old) (K.taken sink.new) }
     ensures unread { IsErrOf result Stop.Reading → sink.new ≡ sink.old }
     ensures read { IsErrOf result Stop.Reading → Rose (S.faults source.old) (S.faults source.new) }
     ensures fault { IsErrOf result Stop.Writing → Rose (K.faults sink.old) (K.faults sink.new) }
 {
     match scenario_from(alloc, source)? {
-        Ok(scenario) => run_scenario(rt, alloc, trial, workers, scenario, sink, gate),
+        Ok(scenario) => run_scenario(rt, alloc, mode, scenario, sink, gate),
         Err(reply) => Ok(Some(reply)),
     }
 }
@@ -258,18 +257,16 @@ fn run<R: Threads + Wait + Sync, S: Source, K: Sink, G: Gate + Sync>(
 fn answer_run<R: Threads + Wait + Sync, S: Source, K: Sink, G: Gate + Sync>(
     rt: &R,
     alloc: Global,
-    trial: bool,
-    workers: u32,
+    mode: RunMode,
     source: &mut S,
     sink: &mut K,
     gate: &G,
 ) -> Status
-    requires { (1 ≤ workers) × (workers ≤ 64) }
-    ensures answer { Answers (Some (Command.Run trial workers)) (S.left source.old) (S.left source.new) (K.taken sink.old) (K.taken sink.new) result }
+    ensures answer { Answers (Some (Command.Run mode.trial mode.workers)) (S.left source.old) (S.left source.new) (K.taken sink.old) (K.taken sink.new) result }
     ensures read { result ≡ Status.ReadFault → Rose (S.faults source.old) (S.faults source.new) }
     ensures write { result ≡ Status.WriteFault → Rose (K.faults sink.old) (K.faults sink.new) }
 {
-    match run(rt, alloc, trial, workers, source, sink, gate) {
+    match run(rt, alloc, mode, source, sink, gate) {
         Ok(None) => Status::Ok,
         Ok(Some(reply)) => match write_all(sink, &reply.text) {
             Ok(()) => reply.status,
@@ -285,12 +282,11 @@ fn answer_load<R: Threads + Wait + Sync, K: Sink, G: Gate + Sync>(
     rt: &R,
     alloc: Global,
     n: u32,
-    workers: u32,
+    workers: Workers,
     sink: &mut K,
     gate: &G,
 ) -> Status
     requires n { (1 ≤ n) × (n ≤ 64) }
-    requires workers { (1 ≤ workers) × (workers ≤ 64) }
     ensures answer { (left : Maybe (Many ℕ)) → Answers (Some (Command.Load n workers)) left left (K.taken sink.old) (K.taken sink.new) result }
     ensures read { result ≡ Status.ReadFault → ⊥ }
     ensures write { result ≡ Status.WriteFault → Rose (K.faults sink.old) (K.faults sink.new) }
@@ -361,7 +357,8 @@ pub fn rtdb<R: Threads + Wait + Sync, S: Source, K: Sink, G: Gate + Sync>(
 {
     match read_command(alloc, words) {
         Ok(Some(Command::Run { trial, workers })) => {
-            answer_run(rt, alloc, trial, workers, source, sink, gate)
+            let mode = RunMode { trial, workers };
+            answer_run(rt, alloc, mode, source, sink, gate)
         }
         Ok(Some(Command::Load { n, workers })) => answer_load(rt, alloc, n, workers, sink, gate),
         Ok(_) => rtdb_plain(alloc, words, source, sink),

@@ -1,7 +1,6 @@
 -- What a scenario declares can be run, and what its run leaves.
-use Rattle.std.proofs.Common.{◌≡◌, ◌⊎◌, inl, inr, ℕ, ◌+◌, ◌<◌, ◌≤◌, Bool, List, [], ◌∷◌, ◌++◌, map, Option, Result, Ok, Err, OnOk, refl, ap, sym, subst, ◌∙◌, length, arith}
+use Rattle.std.proofs.Common.{◌≡◌, ℕ, ◌+◌, ◌<◌, ◌≤◌, Bool, List, [], ◌∷◌, map, Result, Ok, Err, refl, ap, sym, subst, ◌∙◌, length, arith}
 use Rattle.std.specs.Result.{IsErrOf}
-use Rattle.std.specs.Io.KnownBytes.{Keeps}
 use Rattle.std.proofs.lemmas.List.{length-map}
 use Rattle.rt_base.specs.declared.name.Names.{Names}
 use Rattle.step_script.specs.declared.script.Script.{Script}
@@ -20,16 +19,14 @@ use Rattle.eager_laws.proofs.Fits.{scenario_room}
 use Rattle.workload_laws.specs.Runs.{workload_of}
 use Rattle.workload_laws.proofs.Obeys.{obeys}
 use Rattle.workload_laws.proofs.Accepted.{accepted}
-use Rattle.plant_history.proofs.Fixed.{sim_is_run}
-use Rattle.written_run.specs.Written.{IsTextBy, Wrote, WroteFront}
 use Rattle.plant_report.specs.Eager.{IsRunTextBy}
 use Rattle.plant_run.specs.Runs.{own_at}
-use Rattle.scenario_run.specs.Runs.{Declares, IsReady, functions_of}
+use Rattle.scenario_run.specs.Runs.{Declares, IsReady, asked_by, functions_of}
 use Rattle.scenario_run.proofs.Owned.{own_is, own_total}
 
-pub functions_same : (scripts : List Script) → map (λ s. next_of (program_of s)) scripts ≡ functions_of scripts
+pub functions_same : (scripts : List Script) → functions_of scripts ≡ map next_of (map program_of scripts)
 functions_same [] = refl
-functions_same (s ∷ scripts) = ap (λ (l : List Body). next_of (program_of s) ∷ l) (functions_same scripts)
+functions_same (s ∷ scripts) = ap (λ (l : List Body). asked_by s ∷ l) (functions_same scripts)
 
 -- what holds of a workload and its eager jobs holds of equal ones
 pub moved : (P : Workload → (ℕ → ℕ) → Type 0) (set set' : Set) (bodies bodies' : List Body) (ticks ticks' : List (List ℕ)) (own own' : ℕ → ℕ) → set ≡ set' → bodies ≡ bodies' → ticks ≡ ticks' → own ≡ own'
@@ -53,7 +50,7 @@ pub declared : (P : Workload → (ℕ → ℕ) → Type 0) (set : Set) (scripts 
     → P (workload_of d.scenario) (own_of d.scenario) → P (workload set (functions_of scripts') ticks) (own_at own)
 declared P set scripts releases d scripts' ticks own e f g h =
     let s = d.scenario in
-    let functions : map next_of s.programs ≡ functions_of scripts' = ap (map next_of) (sym d.programs_are) ∙ sym (ap functions_of e) in
+    let functions : map next_of s.programs ≡ functions_of scripts' = ap (map next_of) (sym d.programs_are) ∙ (sym (functions_same scripts) ∙ sym (ap functions_of e)) in
     moved P (set_of s) set (map next_of s.programs) (functions_of scripts') (fixed_ticks s.txns s.releases) ticks (own_of s) (own_at own)
     (sym d.set_is) functions (sym (ticks_same set scripts releases d ticks f)) (sym (own_same set scripts releases d own g)) h
 
@@ -63,7 +60,7 @@ pub of_scenario : (P : Workload → (ℕ → ℕ) → Type 0) (set : Set) (scrip
 of_scenario P set scripts releases d scripts' ticks own e f g h =
     let s = d.scenario in
     moved P set (set_of s) (functions_of scripts') (map next_of s.programs) ticks (fixed_ticks s.txns s.releases) (own_at own) (own_of s)
-    d.set_is (ap functions_of e ∙ ap (map next_of) d.programs_are) (ticks_same set scripts releases d ticks f) (own_same set scripts releases d own g) h
+    d.set_is (ap functions_of e ∙ (functions_same scripts ∙ ap (map next_of) d.programs_are)) (ticks_same set scripts releases d ticks f) (own_same set scripts releases d own g) h
 
 -- what the releases say of each transaction
 abbrev EagerAlone : Workload → (ℕ → ℕ) → Type 0
@@ -105,12 +102,12 @@ room_is set scripts releases d scripts' ticks own e f g =
     declared (HasRoom s.room) set scripts releases d scripts' ticks own e f g enough
 
 -- how many jobs there are
-pub places_for : (set : Set) (ticks ticks' : List (List ℕ)) (own own' : List ℕ) (room : ℕ) → ticks' ≡ ticks → own' ≡ own → length own ≡ length set.txns
-    → sum (map (λ l. length l) ticks) + sum own ≤ room → sum (map (λ l. length l) ticks') + own_jobs set (own_at own') ≤ room
-places_for set ticks ticks' own own' room e f same few =
+pub places_for : (set : Set) (ticks ticks' : List (List ℕ)) (own own' : List ℕ) (jobs room : ℕ) → ticks' ≡ ticks → own' ≡ own → length own' ≡ length set.txns
+    → jobs ≡ sum (map (λ l. length l) ticks) + sum own → room ≡ jobs → sum (map (λ l. length l) ticks') + own_jobs set (own_at own') ≤ room
+places_for set ticks ticks' own own' jobs room e f same all enough =
     let fixed : sum (map (λ l. length l) ticks') ≡ sum (map (λ l. length l) ticks) = ap (λ (t : List (List ℕ)). sum (map (λ l. length l) t)) e in
-    let all : own_jobs set (own_at own') ≡ sum own = ap (λ (o : List ℕ). own_jobs set (own_at o)) f ∙ own_total set own same in
-    omega (arith, fixed, all, few)
+    let mine : own_jobs set (own_at own') ≡ sum own = own_total set own' same ∙ ap sum f in
+    omega (arith, fixed, mine, all, enough)
 
 pub own_few : (set : Set) (scripts : List Script) (ticks : List (List ℕ)) (own : List ℕ) → IsReady set scripts ticks own → sum own ≤ 65536
 own_few set scripts ticks own r =
@@ -124,41 +121,12 @@ pub text_of : (names : Names) (admitted : Bool) (set : Set) (scripts : List Scri
 text_of names admitted set scripts releases d scripts' ticks own text e f g h =
     of_scenario (λ w o. IsRunTextBy names admitted w o text) set scripts releases d scripts' ticks own e f g h
 
--- the text on a board of an equal set
-pub text_on : (names : Names) (admitted : Bool) (set set' : Set) (bodies : List Body) (ticks : List (List ℕ)) (own : ℕ → ℕ) (text : List ℕ) → set ≡ set'
-    → IsRunTextBy names admitted (workload set bodies ticks) own text → IsRunTextBy names admitted (workload set' bodies ticks) own text
-text_on names admitted set set' bodies ticks own text e h = subst (λ (s : Set). IsRunTextBy names admitted (workload s bodies ticks) own text) e h
-
--- the text of scripts by their functions
-pub text_by : (names : Names) (admitted : Bool) (set : Set) (scripts : List Script) (ticks ticks' : List (List ℕ)) (own own' : List ℕ) (text : List ℕ) → ticks ≡ ticks' → own ≡ own'
-    → IsRunTextBy names admitted (workload set (map (λ s. next_of (program_of s)) scripts) ticks) (own_at own) text → IsRunTextBy names admitted (workload set (functions_of scripts) ticks') (own_at own') text
-text_by names admitted set scripts ticks ticks' own own' text e f h =
-    moved (λ w o. IsRunTextBy names admitted w o text) set set _ (functions_of scripts) ticks ticks' (own_at own) (own_at own') refl (functions_same scripts) e (ap own_at f) h
-
--- where no transaction is eager it is that of the one run
-pub fixed_text : (names : Names) (admitted : Bool) (w : Workload) (own : ℕ → ℕ) (text : List ℕ) → ((tx : ℕ) → own tx ≡ 0) → IsTextBy names admitted w text → IsRunTextBy names admitted w own text
-fixed_text names admitted w own text none h = record { history = h.history; run = sim_is_run w own h.history none h.sim; written = h.written }
-
--- what was written of the one is what was written of the other
-pub wrote_of : (P Q : List ℕ → Type 0) (taken taken' : Option (List ℕ)) → ((text : List ℕ) → P text → Q text) → Wrote P taken taken' → Wrote Q taken taken'
-wrote_of P Q taken taken' f h = record { text = h.text; is = f h.text h.is; written = h.written }
-
-pub front_of : (P Q : List ℕ → Type 0) (taken taken' : Option (List ℕ)) → ((text : List ℕ) → P text → Q text) → WroteFront P taken taken' → WroteFront Q taken taken'
-front_of P Q taken taken' f h = record { front = h.front; left = h.left; is = f (h.front ++ h.left) h.is; written = h.written }
-
-pub kept_or_front : (P Q : List ℕ → Type 0) (taken taken' : Option (List ℕ)) → ((text : List ℕ) → P text → Q text)
-    → Keeps taken taken' ⊎ WroteFront P taken taken' → Keeps taken taken' ⊎ WroteFront Q taken taken'
-kept_or_front P Q taken taken' f (inl h) = inl h
-kept_or_front P Q taken taken' f (inr h) = inr (front_of P Q taken taken' f h)
+-- the text by names that are the same
+pub text_as : (names names' : Names) (admitted admitted' : Bool) (w : Workload) (own : ℕ → ℕ) (text : List ℕ) → names ≡ names' → admitted ≡ admitted'
+    → IsRunTextBy names admitted w own text → IsRunTextBy names' admitted' w own text
+text_as names names' admitted admitted' w own text e f h =
+    subst (λ (n : Names). IsRunTextBy n admitted' w own text) e (subst (λ (b : Bool). IsRunTextBy names b w own text) f h)
 
 -- the stop and the fault behind it
 pub same_stop : {T E : Type 0} (a b : E) → IsErrOf {T = T} {E = E} (Err a) b → a ≡ b
 same_stop a b e = cc
-
-pub err_of : {T T' E : Type 0} (a b : E) → IsErrOf {T = T} {E = E} (Err a) b → IsErrOf {T = T'} {E = E} (Err a) b
-err_of a b e = ap Err (same_stop a b e)
-
--- what an answer leaves
-pub on_ok : {A E : Type 0} (r : Result A E) (P Q : Type 0) → (P → Q) → OnOk r P → OnOk r Q
-on_ok (Ok x) P Q f h = f h
-on_ok (Err e) P Q f h = tt

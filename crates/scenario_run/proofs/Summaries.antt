@@ -26,7 +26,7 @@ use Rattle.scenario_writer.specs.Generated.{generated_of, releases_each, each}
 use Rattle.plant_run.specs.Runs.{own_at}
 use Rattle.scenario_run.specs.Runs.{Declares, functions_of, IsSummaryBy, IsLoadText}
 use Rattle.scenario_run.proofs.Owned.{own_is}
-use Rattle.scenario_run.proofs.Ready.{moved, ticks_same}
+use Rattle.scenario_run.proofs.Ready.{functions_same, moved, ticks_same}
 use Rattle.command_replies.proofs.Compiles.{lists}
 
 pub not_refused : (s : Shown) → IsScenario s → IsCompiled (set_of s) → compile_refusal (set_of s) ≡ None
@@ -56,7 +56,7 @@ pub summary_as : (set : Set) (scripts : List Script) (releases : List Releases) 
 summary_as set scripts releases d scripts' ticks text e g h =
     let s = d.scenario in
     moved (λ w own. IsSummaryBy w text) set (set_of s) (functions_of scripts') (map next_of s.programs) ticks (fixed_ticks s.txns s.releases) (λ tx. 0) (λ tx. 0) d.set_is
-    (ap functions_of e ∙ ap (map next_of) d.programs_are) (ticks_same set scripts releases d ticks g) refl h
+    (ap functions_of e ∙ (functions_same scripts ∙ ap (map next_of) d.programs_are)) (ticks_same set scripts releases d ticks g) refl h
 
 pub legal_as : (set set' : Set) (h kept : List Entry) → set' ≡ set → kept ≡ h → IsLegal set h → IsLegal set' kept
 legal_as set set' h kept e f legal = subst (λ (q : Set). IsLegal q kept) (sym e) (subst (IsLegal set) (sym f) legal)
@@ -68,9 +68,6 @@ fixed_fits w own history ok none run =
     subst (λ (jobs : ℕ → ℕ). length history ≤ room_of_jobs w.set.txns jobs)
     (fun_ext {f = λ tx. length (ticks_of w.releases tx) + own tx} {g = λ tx. length (ticks_of w.releases tx)} (λ tx. omega (arith, none tx)))
     (run_fits w own history ok run.so_far)
-
-pub summary_on_set : (set set' : Set) (bodies : List Body) (ticks : List (List ℕ)) (text : List ℕ) → set' ≡ set → IsSummaryBy (workload set' bodies ticks) text → IsSummaryBy (workload set bodies ticks) text
-summary_on_set set set' bodies ticks text e h = subst (λ (q : Set). IsSummaryBy (workload q bodies ticks) text) e h
 
 -- a scenario in which no transaction is eager has more room than its releases need
 fixed_room : (s : Shown) → IsScenario s → list_any is_eager s.releases ≡ false

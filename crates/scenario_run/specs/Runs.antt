@@ -51,8 +51,12 @@ pub record Declares (set : Set) (scripts : List Script) (releases : List Release
   pub programs_are : map program_of scripts ≡ scenario.programs
   pub releases_are : releases ≡ scenario.releases
 
+-- what a script asks for
+abbrev pub asked_by : Script → Body
+asked_by script = next_of (program_of script)
+
 abbrev pub functions_of : List Script → List Body
-functions_of scripts = map next_of (map program_of scripts)
+functions_of scripts = map asked_by scripts
 
 -- scripts, ticks and own jobs with which a board of this set can be run
 pub record IsReady (set : Set) (scripts : List Script) (ticks : List (List ℕ)) (own : List ℕ) : Type 0 where

@@ -6,9 +6,8 @@ mod making;
 mod run;
 mod stop;
 mod ticks;
-mod written;
 
 pub use loading::load;
 pub use making::{BOARD_ROOM, Bodies, prepared};
-pub use run::run_scenario;
+pub use run::{RunMode, run_scenario};
 pub use stop::Stop;

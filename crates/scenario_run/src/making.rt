@@ -1,15 +1,19 @@
-//! What a run has but its board.
-ghost use Rattle.std.specs.Prelude.{◌≡◌, ◌+◌, ◌≤◌, map, length, IfOk};
+//! What a run has before it begins.
+ghost use Rattle.std.specs.Prelude.{◌≡◌, ◌+◌, ◌<◌, ◌≤◌, [], map, length, IfOk};
 ghost use Rattle.std.specs.List.{sum};
 ghost use Rattle.scenario.specs.Releases.{fixed_ticks, eager_of};
-ghost use Rattle.scenario_run.specs.Runs.{Declares, IsReady};
+ghost use Rattle.plant_run.specs.Ready.{CanRun};
+ghost use Rattle.scenario_run.specs.Runs.{Declares, IsReady, asked_by};
 
 use crate::ticks::{all_fixed, all_own, count, count_own};
+use board::Board;
+use plant_run::Run;
 use rt_base::{List, OutOfMemory, Tick};
 use scenario::Releases;
 use std::alloc::Global;
 use step_script::Script;
 use txn_set::CompiledSet;
+use worker_count::Workers;
 
 /// How many entries the board of a run keeps at most.
 pub const BOARD_ROOM: usize = 4_096;
@@ -54,5 +58,32 @@ pub fn prepared(
         scripts,
         ticks,
         own,
+    })
+}
+
+/// The run of scripts on a new board, by so many workers, with a place for all that the board keeps.
+pub(crate) fn run_on<'a, B: Board + Drop>(
+    alloc: Global,
+    board: B,
+    scripts: Vec<Script>,
+    ticks: &'a [List<Tick>],
+    own: &'a [u32],
+    workers: Workers,
+) -> Result<Run<'a, B, Script>, OutOfMemory>
+    requires opened { B.stands board [] }
+    requires room { 1024 < B.room board }
+    requires ready { IsReady (B.set board) scripts.items ticks.now own.now }
+    ensures ready { IfOk result (λ r. CanRun B.stands B.set B.room asked_by r) }
+    ensures board { IfOk result (λ r. r.board ≡ board) }
+    ensures parts { IfOk result (λ r. (r.bodies ≡ scripts) × (r.ticks.now ≡ ticks.now) × (r.own.now ≡ own.now)) }
+{
+    let spare = Vec::with_capacity(alloc, board.room())?;
+    Ok(Run {
+        board,
+        bodies: scripts,
+        ticks,
+        own,
+        workers,
+        spare,
     })
 }

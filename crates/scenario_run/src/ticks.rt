@@ -1,9 +1,8 @@
 //! The fixed releases of a scenario, and its eager jobs.
-ghost use Rattle.std.specs.Prelude.{◌≡◌, ◌≤◌, ◌<◌, ◌^◌, ℕ, length, map, IfOk, true, false};
+ghost use Rattle.std.specs.Prelude.{◌≡◌, ◌≤◌, length, map, IfOk};
 ghost use Rattle.std.specs.List.{All, sum};
 ghost use Rattle.scenario.specs.Releases.{jobs_of, eager_of, ticks_of, total_jobs, fixed_ticks};
 ghost use Rattle.scenario.specs.Scenarios.{HasTextTimes};
-ghost use Rattle.plant_run.specs.Runs.{own_at};
 
 use rt_base::{List, OutOfMemory, Tick};
 use scenario::Releases;
@@ -96,16 +95,4 @@ pub(crate) fn count_own(own: &[u32]) -> usize
         count += *jobs as usize;
     }
     count
-}
-
-/// Whether no transaction plans a job itself.
-pub(crate) fn none_own(own: &[u32]) -> bool
-    ensures { result ≡ true → (tx : ℕ) → own_at own.now tx ≡ 0 }
-{
-    for jobs in own {
-        if *jobs > 0 {
-            return false;
-        }
-    }
-    true
 }

@@ -4,7 +4,7 @@ use Rattle.txn_set.specs.Set.{Set}
 use Rattle.sim_history.specs.Sim.{Workload}
 use Rattle.sim_run.specs.Workloads.{workload}
 use Rattle.journal_out.specs.Outs.{Begun}
-use Rattle.written_run.proofs.Handing.{on_err}
+use Rattle.plant_report.proofs.Handing.{on_err}
 use Rattle.journal_run.proofs.Outs.{Got, made, none_got, can_take, got_front}
 use Rattle.journal_run.proofs.over.run_out.Goals as goal
 

@@ -7,7 +7,7 @@ use Rattle.step_script.specs.Scripts.{program_of, next_of}
 use Rattle.step_script.specs.declared.script.Script.{Script}
 use Rattle.job_rows.specs.Upkeep.{Follows}
 use Rattle.run_report.specs.Report.{opening_text}
-use Rattle.written_run.proofs.Plans.{planned_sim}
+use Rattle.plant_report.proofs.Plans.{planned_sim}
 use Rattle.scenario_run.specs.Runs.{functions_of}
 use Rattle.scenario_run.proofs.Ready.{own_few, functions_same}
 use Rattle.journal_run.proofs.run.equipped.Goals as goal
@@ -48,7 +48,7 @@ returns-clause-ready c =
     let each : length scripts ≡ length board.txns = ready.scripts_each ∙ ap (λ (q : Set). length q.txns) (sym set_on) in
     let serials : length c.in_ok-serials.serials.items ≡ length scripts = search rules in
     let same : workload c.args.plan.set (functions_of scripts) ticks ≡ workload board (map (λ (y : Script). next_of (program_of y)) scripts) ticks =
-    ap (λ (l : List Body). workload c.args.plan.set l ticks) (sym (functions_same scripts)) ∙ ap (λ (q : Set). workload q (map (λ (y : Script). next_of (program_of y)) scripts) ticks) (sym set_on) in
+    ap (λ (q : Set). workload q (map (λ (y : Script). next_of (program_of y)) scripts) ticks) (sym set_on) in
     record {
       opened = c.in-Ok.ensures.ok.3;
       bodies_each = each;

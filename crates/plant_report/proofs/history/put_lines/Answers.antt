@@ -8,7 +8,7 @@ use Rattle.report_out.specs.Outs.{Begun, OutSeen, IsGoing, seen}
 use Rattle.report_out.proofs.Taking.{opens, goes}
 use Rattle.report_out.proofs.Pieces.{all_going, both_ok}
 use Rattle.report_out.proofs.Stopping.{has_front}
-use Rattle.written_run.proofs.Handing.{not_full, sink_cause, if_ok}
+use Rattle.plant_report.proofs.Handing.{not_full, sink_cause, if_ok}
 use Rattle.plant_report.proofs.Parts.{by_answer, err_both}
 use Rattle.plant_report.proofs.history.put_lines.Goals as goal
 

@@ -11,31 +11,31 @@ use Rattle.plant_report.proofs.kept.run_into.Goals as goal
 
 pub no_memory-requires : goal.no_memory-requires
 no_memory-requires g c =
-    let w : Workload = workload (g.B.Board.set c.args.board) (map g.Y.Body.gives c.args.bodies.items) c.args.ticks.now in
+    let w : Workload = workload (g.B.Board.set c.args.run.board) (map g.Y.Body.gives c.args.run.bodies.items) c.args.run.ticks.now in
     let was = c.args.out.now in
     let q = c.run_workers.new.out in
     let out : Roomed = record { room = was.room; kept = was.entries.items; full = was.full } in
     let out' : Roomed = record { room = q.room; kept = q.entries.items; full = q.full } in
-    let fits : room_of_jobs w.set.txns (λ tx. length (ticks_of w.releases tx) + own_at c.args.own.now tx) ≤ g.T.Roomy.room =
-    subst (λ (n : ℕ). room_of_jobs w.set.txns (λ tx. length (ticks_of w.releases tx) + own_at c.args.own.now tx) ≤ n) c.requires.fresh.0 c.requires.entries in
+    let fits : room_of_jobs w.set.txns (λ tx. length (ticks_of w.releases tx) + own_at c.args.run.own.now tx) ≤ g.T.Roomy.room =
+    subst (λ (n : ℕ). room_of_jobs w.set.txns (λ tx. length (ticks_of w.releases tx) + own_at c.args.run.own.now tx) ≤ n) c.requires.fresh.0 c.requires.entries in
     only_memory c.in-Err.fault (λ e. (let is : IsErrOf c.run_workers.result Stopped = c.in-Err.is ∙ ap Err e in
-    never_stops w (own_at c.args.own.now) g.T.Roomy.room out out' c.requires.compiled (c.requires.fresh.0, c.requires.fresh.1) c.requires.fresh.2 fits
+    never_stops w (own_at c.args.run.own.now) g.T.Roomy.room out out' c.requires.compiled (c.requires.fresh.0, c.requires.fresh.1) c.requires.fresh.2 fits
     (c.run_workers.ensures.stopped is) (c.run_workers.ensures.cause is)))
 
 pub returns-in-Ok-clause-run : goal.returns-in-Ok-clause-run
 returns-in-Ok-clause-run g c =
-    let w : Workload = workload (g.B.Board.set c.args.board) (map g.Y.Body.gives c.args.bodies.items) c.args.ticks.now in
+    let w : Workload = workload (g.B.Board.set c.args.run.board) (map g.Y.Body.gives c.args.run.bodies.items) c.args.run.ticks.now in
     let was = c.args.out.now in
     let q = c.run_workers.new.out in
     let out : Roomed = record { room = was.room; kept = was.entries.items; full = was.full } in
     let out' : Roomed = record { room = q.room; kept = q.entries.items; full = q.full } in
-    (kept_run w (own_at c.args.own.now) g.T.Roomy.room (g.B.Board.stands c.in-Ok.board) out out' (c.requires.fresh.0, c.requires.fresh.1) c.in-Ok.ensures.whole).0
+    (kept_run w (own_at c.args.run.own.now) g.T.Roomy.room (g.B.Board.stands c.in-Ok.board) out out' (c.requires.fresh.0, c.requires.fresh.1) c.in-Ok.ensures.whole).0
 
 pub returns-in-Ok-clause-stood : goal.returns-in-Ok-clause-stood
 returns-in-Ok-clause-stood g c =
-    let w : Workload = workload (g.B.Board.set c.args.board) (map g.Y.Body.gives c.args.bodies.items) c.args.ticks.now in
+    let w : Workload = workload (g.B.Board.set c.args.run.board) (map g.Y.Body.gives c.args.run.bodies.items) c.args.run.ticks.now in
     let was = c.args.out.now in
     let q = c.run_workers.new.out in
     let out : Roomed = record { room = was.room; kept = was.entries.items; full = was.full } in
     let out' : Roomed = record { room = q.room; kept = q.entries.items; full = q.full } in
-    (kept_run w (own_at c.args.own.now) g.T.Roomy.room (g.B.Board.stands c.in-Ok.board) out out' (c.requires.fresh.0, c.requires.fresh.1) c.in-Ok.ensures.whole).1
+    (kept_run w (own_at c.args.run.own.now) g.T.Roomy.room (g.B.Board.stands c.in-Ok.board) out out' (c.requires.fresh.0, c.requires.fresh.1) c.in-Ok.ensures.whole).1

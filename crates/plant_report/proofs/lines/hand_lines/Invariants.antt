@@ -6,7 +6,7 @@ ghosts-run_lines g a = record {
     sink = a.out.now.sink.ghost_name;
     front = g.K.Sink.taken a.out.now.sink.now;
     names = a.out.now.names.now;
-    set = g.B.Board.set a.board;
+    set = g.B.Board.set a.run.board;
     room = a.out.now.writer.room;
   };
 }

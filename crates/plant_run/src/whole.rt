@@ -1,0 +1,76 @@
+//! The whole run.
+ghost use Rattle.std.specs.Prelude.{◌≡◌, ◌≤◌, [], IfOk, IsErrOf};
+ghost use Rattle.std.specs.Prelude.{List as Many};
+ghost use Rattle.io_edge.specs.Causes.{Rose};
+ghost use Rattle.step_journal.specs.declared.entry.Entry.{Entry as Noted};
+ghost use Rattle.step_journal.specs.History.{IsLegal};
+ghost use Rattle.sim_run.specs.Handed.{CanTake};
+ghost use Rattle.plant_run.specs.Ready.{CanRun, workload_in, own_in};
+ghost use Rattle.plant_run.specs.Runs.{IsWholeRun, IsStoppedRun, IsShortRun};
+
+use crate::deal::Crew;
+use crate::laws::stories_are;
+use crate::run::{Run, RunFault};
+use crate::work::{Staffed, work};
+use board::Board;
+use entry_out::EntryOut;
+use sim_run::{hand_on, plan_all};
+use std::alloc::Global;
+use std::sync::Wait;
+use std::thread::Threads;
+use step_script::Body;
+use txn_threads::Gate;
+
+/// Runs a workload by workers, each in a thread of its own where one can be made. It plans every release, by transaction and
+/// then by index, starts a plant on the board, deals the transactions out to the workers, that of index i with those of the
+/// same i modulo their number, lets them run the bodies until all jobs have ended, and closes the plant. An eager
+/// transaction plans its jobs itself, each when those before it have ended. The out gets the history in its order; it is a
+/// run of the workload, and where no transaction is eager the one run, whatever the number of workers (`fixed_runs`). The
+/// board is handed back with none left in it. Each body begins anew. `gate` is told of each question to a body.
+///
+/// Stopped comes only where the out stopped in this call: what it got, and after it what it lost, are how a run of the
+/// workload begins. Memory comes where a growth was refused, most of them before anything is planned: the out has then got
+/// the first entries of a run of the workload so far, and lost none. It may wait.
+pub fn run_workers<
+    R: Threads + Wait + Sync,
+    B: Board + Send + Drop,
+    Y: Body + Send + Drop,
+    G: Gate + Sync,
+    O: EntryOut,
+>(rt: &R, alloc: Global, run: Run<B, Y>, gate: &G, out: &mut O) -> Result<B, RunFault>
+    requires ready { CanRun B.stands B.set B.room Y.gives run }
+    requires nothing_lost { O.lost out.old [] }
+    requires good { (history : Many Noted) → IsLegal (B.set run.board) history → CanTake (O.got out.old) (O.good out.old) history }
+    ensures whole { IfOk result (λ b. IsWholeRun (workload_in B.set Y.gives run.entry) (own_in run.entry) (B.stands b) (O.got out.old) (O.got out.new)) }
+    ensures left { IfOk result (λ b. B.kept b ≡ []) }
+    ensures fixed { IfOk result (λ b. (B.set b ≡ B.set run.entry.board) × (B.room b ≡ B.room run.entry.board)) }
+    ensures none_lost { IfOk result (λ _. O.lost out.new []) }
+    ensures stopped { IsErrOf result RunFault.Stopped → IsStoppedRun (workload_in B.set Y.gives run.entry) (own_in run.entry) (O.got out.old) (O.got out.new) (O.lost out.new) }
+    ensures short { IsErrOf result RunFault.Memory → IsShortRun (workload_in B.set Y.gives run.entry) (own_in run.entry) (O.got out.old) (O.got out.new) (O.lost out.new) }
+    ensures cause { IsErrOf result RunFault.Stopped → Rose (O.stops out.old) (O.stops out.new) }
+    ensures later { O.stops out.old ≤ O.stops out.new }
+    ensures good { (story : Many Noted) → O.good out.old story → O.good out.new story }
+{
+    stories_are::<B>();
+    let Run {
+        mut board,
+        bodies,
+        ticks,
+        own,
+        workers,
+        mut spare,
+    } = run;
+    let crew = Crew::reserve(alloc, bodies.len(), workers)?;
+    plan_all(&mut board, ticks, &mut spare, out)?;
+    let run = Run {
+        board,
+        bodies,
+        ticks,
+        own,
+        workers,
+        spare,
+    };
+    let (mut board, mut spare) = work(rt, alloc, Staffed { run, crew }, gate, out)?;
+    hand_on(&mut board, &mut spare, out)?;
+    Ok(board)
+}

@@ -1,0 +1,6 @@
+-- How many workers there may be.
+use Rattle.std.specs.Prelude.{ℕ, nat_le, ◌&&◌, if◌then◌else◌, Option, Some, None}
+
+-- a number from 1 to 64 alone
+abbrev pub workers_of : ℕ → Option ℕ
+workers_of n = if nat_le 1 n && nat_le n 64 then Some n else None
