@@ -97,7 +97,7 @@ command_of (name ∷ words) = option_and_then (named name) (parts_of words)
 abbrev IsFromOneToMost : ℕ → Type 0
 IsFromOneToMost n = (1 ≤ n) × (n ≤ 64)
 
--- its number of transactions is from 1 to 64
+-- each number in it is from 1 to 64
 abbrev pub IsInRange : Command → Type 0
 IsInRange (Plain Ceilings) = Unit {0}
 IsInRange (Plain Admit) = Unit {0}
@@ -105,5 +105,5 @@ IsInRange (Plain Replay) = Unit {0}
 IsInRange (Plain (Gen n)) = IsFromOneToMost n
 IsInRange (Plain Rates) = Unit {0}
 IsInRange (Plain Margin) = Unit {0}
-IsInRange (Run on_trial k) = Unit {0}
-IsInRange (Load n k) = IsFromOneToMost n
+IsInRange (Run on_trial k) = IsFromOneToMost k
+IsInRange (Load n k) = IsFromOneToMost n × IsFromOneToMost k

@@ -13,7 +13,6 @@ use clap::error::ErrorKind;
 use line_fields::unsigned;
 use rt_base::OutOfMemory;
 use std::alloc::Global;
-use worker_count::Workers;
 
 // A number from 1 to 64.
 fn number(word: &[u8]) -> Option<u32>
@@ -116,20 +115,14 @@ fn number_in(matches: &ArgMatches<'_>) -> Option<u32>
     number(text_in(matches, "number")?.as_bytes())
 }
 
-// As the number of workers.
-fn workers(word: &[u8]) -> Option<Workers>
-    ensures { result ≡ number_of word.now }
-{
-    Workers::new(number(word)?)
-}
-
 // One worker where the option is not given.
-fn workers_in(matches: &ArgMatches<'_>) -> Option<Workers>
-    ensures { result ≡ workers_in_of (rows_of (found_of matches.now)) }
+fn workers_in(matches: &ArgMatches<'_>) -> Option<u32>
+    ensures number { result ≡ workers_in_of (rows_of (found_of matches.now)) }
+    ensures in_range { IfSome result (λ n. (1 ≤ n) × (n ≤ 64)) }
 {
     match text_in(matches, "workers") {
-        Some(text) => workers(text.as_bytes()),
-        None => Some(Workers::ONE),
+        Some(text) => number(text.as_bytes()),
+        None => Some(1),
     }
 }
 

@@ -1,5 +1,4 @@
 //! What the words of the command line ask for.
-use worker_count::Workers;
 
 /// A command that runs no workers, and so always returns.
 #[derive(Clone, Copy, PartialEq, Eq)]
@@ -24,7 +23,7 @@ pub enum Command {
     /// A command that runs no workers.
     Plain(PlainCommand),
     /// The run of the scenario that is read, as a trial or admitted, by so many workers.
-    Run { trial: bool, workers: Workers },
+    Run { trial: bool, workers: u32 },
     /// The run of the scenario that is generated of so many transactions, by so many workers.
-    Load { n: u32, workers: Workers },
+    Load { n: u32, workers: u32 },
 }

@@ -330,6 +330,28 @@ pub fn rtdb_plain<S: Source, K: Sink>(
     }
 }
 
+// So many workers.
+fn workers_of(number: u32) -> Workers
+    requires { (1 ≤ number) × (number ≤ 64) }
+    ensures { result ≡ number }
+{
+    match Workers::new(number) {
+        Some(workers) => workers,
+        None => unreachable!(),
+    }
+}
+
+// A run as a trial or admitted, by so many workers.
+fn mode_of(trial: bool, workers: u32) -> RunMode
+    requires { (1 ≤ workers) × (workers ≤ 64) }
+    ensures { result ≡ record { trial = trial; workers = workers } }
+{
+    RunMode {
+        trial,
+        workers: workers_of(workers),
+    }
+}
+
 /// Does what the words say, from the source to the sink. The words are looked at first, then the source is read, then its
 /// bytes are judged, then the scenario is run by workers, each in a thread of its own where one can be made; `gate` is told
 /// of each question to a script. The text is written as one piece, but for the report of a run: its declarations are
@@ -357,10 +379,11 @@ pub fn rtdb<R: Threads + Wait + Sync, S: Source, K: Sink, G: Gate + Sync>(
 {
     match read_command(alloc, words) {
         Ok(Some(Command::Run { trial, workers })) => {
-            let mode = RunMode { trial, workers };
-            answer_run(rt, alloc, mode, source, sink, gate)
+            answer_run(rt, alloc, mode_of(trial, workers), source, sink, gate)
         }
-        Ok(Some(Command::Load { n, workers })) => answer_load(rt, alloc, n, workers, sink, gate),
+        Ok(Some(Command::Load { n, workers })) => {
+            answer_load(rt, alloc, n, workers_of(workers), sink, gate)
+        }
         Ok(_) => rtdb_plain(alloc, words, source, sink),
         Err(OutOfMemory) => Status::OutOfMemory,
     }

@@ -16,12 +16,10 @@ pub fn command_text(alloc: Global, words: &[Word]) -> Option<String> {
         Command::Plain(PlainCommand::Rates) => "rates",
         Command::Plain(PlainCommand::Margin) => "margin",
         Command::Plain(PlainCommand::Gen { n }) => return format!(in alloc; "gen {n}").ok(),
-        Command::Load { n, workers } => {
-            return format!(in alloc; "load {n} {}", workers.get()).ok();
-        }
+        Command::Load { n, workers } => return format!(in alloc; "load {n} {workers}").ok(),
         Command::Run { trial, workers } => {
             let name = if trial { "trial" } else { "run" };
-            return format!(in alloc; "{name} {}", workers.get()).ok();
+            return format!(in alloc; "{name} {workers}").ok();
         }
     };
     String::from_str(alloc, name).ok()
