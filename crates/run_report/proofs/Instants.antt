@@ -13,7 +13,7 @@ use Rattle.counting_laws.specs.Counting.{TimeIsBounded}
 use Rattle.job_rows.proofs.Going.{state_next, next_legal}
 use Rattle.job_rows.proofs.Moved.{Moves, moves}
 use Rattle.run_report.specs.Counts.{instant_after}
-use Rattle.run_report.proofs.Fronts as fronts
+use Rattle.job_rows.proofs.Fronts as fronts
 
 pub opening_now : (set : Set) → 0 ≡ (opening set).now
 unfolding opening
