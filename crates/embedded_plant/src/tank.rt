@@ -1,6 +1,6 @@
 //! The set: a sampler that writes the level of a tank, and a controller that reads it and sets a valve.
 ghost use Rattle.std.specs.Prelude.{◌≡◌, length, IfOk};
-ghost use Rattle.set_admission.specs.Named.{AreNamed, IsNamed};
+ghost use Rattle.embedded_plant.specs.Named.{AreNamed, IsNamed};
 
 use crate::faults::Fault;
 use item_model::{ItemDecl, ItemKind};
