@@ -91,7 +91,7 @@ fn picture_of_document(
         first: _,
     } = document;
     match compile_head(alloc, head) {
-        Ok((names, set)) => picture_of(alloc, names.names(), &set, entries.as_slice(), wanted),
+        Ok((tables, set)) => picture_of(alloc, tables.names(), &set, entries.as_slice(), wanted),
         Err(error) => Err(not_compiled(error)),
     }
 }
