@@ -1,4 +1,6 @@
+mod Raised
 mod RowOrder
 mod Table
 mod Tops
+mod Turned
 mod Walks

@@ -129,7 +129,7 @@ below_seat_at p a r rows y c true e h k s =
     subst (λ (x : Above). row_above p a x ≡ true) is h
 below_seat_at p a r rows y c false e h k s = k s
 
-below_seat : (p : ℕ → ℕ) (a : Above) (rows : List Above) (y c : ℕ) → AllBelow p a rows → seat_of y rows ≡ Some c → row_above p a (record { holder = record { 0 = y }; ceiling = c }) ≡ true
+pub below_seat : (p : ℕ → ℕ) (a : Above) (rows : List Above) (y c : ℕ) → AllBelow p a rows → seat_of y rows ≡ Some c → row_above p a (record { holder = record { 0 = y }; ceiling = c }) ≡ true
 below_seat p a [] y c h s = absurd cc
 below_seat p a (r ∷ rows) y c h s = below_seat_at p a r rows y c (r.holder.0 == y) refl h.0 (below_seat p a rows y c h.1) s
 
@@ -244,14 +244,11 @@ lock_is_lock false Free = refl
 lock_is_lock false Read = refl
 lock_is_lock false Write = refl
 
-pub room_for_row : (cs : List CeilRow) (ps : List ℕ) (ls : List LockKind) (rows : Shelf Above) (tx : ℕ) → IsTable (table cs ps ls) rows → tx < length ps → (rows' : Shelf Above) → rows'.items ≡ unseated tx rows.items → rows'.room ≡ rows.room → length rows'.items < rows'.room
-room_for_row cs ps ls rows tx t lt rows' e r =
+-- there is room for the row of a transaction
+pub room_for_row : (cs : List CeilRow) (ps : List ℕ) (ls : List LockKind) (rows : Shelf Above) (tx : ℕ) → IsTable (table cs ps ls) rows → tx < length ps → length (unseated tx rows.items) < rows.room
+room_for_row cs ps ls rows tx t lt =
     let few : length (unseated tx rows.items) < length ps = fewer_rows (length ps) tx (unseated tx rows.items) lt (holders_unseated _ tx rows.items t.seated.holders) (unique_unseated tx rows.items t.seated.unique) (seat_unseated tx rows.items t.seated.unique) in
-    let same : length rows'.items ≡ length (unseated tx rows.items) = ap length e in
-    omega (arith, few, same, r, t.room)
-
-pub holders_left : (cs : List CeilRow) (ps : List ℕ) (ls : List LockKind) (rows : Shelf Above) (tx : ℕ) → IsTable (table cs ps ls) rows → (rows' : List Above) → rows' ≡ unseated tx rows.items → HoldersBelow (length ps) rows'
-holders_left cs ps ls rows tx t rows' e = subst (λ (k : List Above). HoldersBelow (length ps) k) (sym e) (holders_unseated _ tx rows.items t.seated.holders)
+    omega (arith, few, t.room)
 
 -- what stands at a place after one lock is set
 record IsSet (cs : List CeilRow) (ls ls' : List LockKind) (tx item : ℕ) (k : LockKind) : Type 0 where

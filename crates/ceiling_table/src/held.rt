@@ -5,8 +5,9 @@ ghost use Rattle.ceiling_table.specs.declared.LockKind.TheVariants.{Free};
 ghost use Rattle.ceiling_table.specs.Held.{lock_at, ceiling_of, refusal, needs_lock, HasItem, locked_at, released_at};
 ghost use Rattle.ceiling_table.specs.Seated.{Changes};
 
+use crate::holders::Holders;
 use crate::seats::{
-    added, all_free, ceiling_at, first_above, free_from, holds, row_ceiling, seat, unseat, writes,
+    added, all_free, ceiling_at, first_above, free_from, holds, raise, row_ceiling, unseat, writes,
 };
 use crate::{Above, CeilRow, LockKind};
 use rt_base::{ItemId, Looked, Op, OutOfMemory, Prio, Steps, TxId};
@@ -21,7 +22,7 @@ pub struct Held {
     ceilings: Looked<CeilRow>,
     prios: Looked<Prio>,
     locks: Looked<LockKind>,
-    rows: Looked<Above>,
+    rows: Holders,
 }
 
 impl Model for Held {
@@ -48,7 +49,7 @@ impl Held {
             return Err(OutOfMemory);
         };
         let locks = all_free(alloc, count)?;
-        let rows = Looked::with_room(alloc, prios.len())?;
+        let rows = Holders::with_room(alloc, prios.len())?;
         Ok(Held {
             ceilings: Looked::of(items),
             prios: Looked::of(prios),
@@ -161,10 +162,8 @@ impl Held {
         let place = tx.0 as usize * self.ceilings.len() + item.0 as usize;
         let lock = added(self.locks.at(place, &mut steps), writes);
         self.locks.set(place, lock);
-        let of_lock = ceiling_at(self.ceilings.at(item.0 as usize, &mut steps), lock);
-        let ceiling = of_lock.max(row_ceiling(&self.rows, tx, &mut steps));
-        unseat(&mut self.rows, tx, &mut steps);
-        seat(
+        let ceiling = ceiling_at(self.ceilings.at(item.0 as usize, &mut steps), lock);
+        raise(
             &mut self.rows,
             &self.prios,
             Above {

@@ -2,6 +2,7 @@
 #![tactic(auto)]
 
 mod held;
+mod holders;
 mod seats;
 
 pub use held::Held;
