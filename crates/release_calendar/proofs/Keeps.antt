@@ -1,5 +1,5 @@
 -- What is kept of the queues over a release more and a release less.
-use Rattle.std.proofs.Common.{not, ◌≡◌, ◌≢◌, refl, ℕ, zero, suc, ◌+◌, ◌-◌, ◌<◌, ◌≤◌, ◌==◌, Bool, true, false, cond, List, [], ◌∷◌, ◌++◌, length, get_or, set, map, replicate, slice_get, take, drop, ap, sym, ◌∙◌, subst, inl, inr, Option, Some, arith, Global}
+use Rattle.std.proofs.Common.{not, ◌≡◌, ◌≢◌, refl, ℕ, zero, suc, ◌+◌, ◌-◌, ◌<◌, ◌≤◌, ◌==◌, Bool, true, false, cond, List, [], ◌∷◌, ◌++◌, length, get_or, set, map, replicate, slice_get, take, drop, ap, sym, ◌∙◌, subst, inl, inr, Some, arith, Global}
 use Rattle.std.proofs.lemmas.Bool.{cases_eq, cases_lt, eq-eqb, ne_eqb}
 use Rattle.std.proofs.lemmas.List.{get_or-set_same, get_or-set_other, length-set, length-map, map-set}
 use Rattle.std.proofs.lemmas.List.Edits.{get_or-remove_below, get_or-remove_above, length-remove}
@@ -9,7 +9,6 @@ use Rattle.std.proofs.lemmas.List.Sums.{sum_by-cons}
 use Rattle.std.specs.List.{All, Contains, filter, remove}
 use Rattle.std.specs.List.Sorted.{IsPermutation, IsNonDecreasingBy}
 use Rattle.std.specs.BinaryHeap.{IsHeap}
-use Rattle.std.specs.Option.{OnSome}
 use Rattle.std.specs.VecDeque.{deque_items, deque_capacity}
 use Rattle.std.specs.declared.collections.VecDeque.{VecDeque}
 use Rattle.std.specs.declared.cmp.Reverse.{Reverse}
@@ -271,20 +270,18 @@ pub record Took (vs : List (VecDeque Planned Global)) (tx index : ℕ) (v' : Vec
   pub now : contents (set vs tx v') ≡ set (contents vs) tx (remove (queue_of (contents vs) tx) index)
   pub rooms : All (λ q. room ≤ deque_capacity q) (set vs tx v')
 
-pub took : (vs : List (VecDeque Planned Global)) (tx index : ℕ) (v v' : VecDeque Planned Global) (p : Planned) (r : Option Planned) (room : ℕ) → tx < length (contents vs) → index < length (queue_of (contents vs) tx) → v ≡ get_or vs tx v → ((d : Planned) → index < v.len → r ≡ Some (get_or v.items index d)) → r ≡ Some p → OnSome r (v'.items ≡ remove v.items index)
+pub took : (vs : List (VecDeque Planned Global)) (tx index : ℕ) (v v' : VecDeque Planned Global) (p : Planned) (room : ℕ) → tx < length (contents vs) → index < length (queue_of (contents vs) tx) → v ≡ get_or vs tx v → ((d : Planned) → p ≡ get_or v.items index d) → v'.items ≡ remove v.items index
     → deque_capacity v' ≡ deque_capacity v → All (λ q. room ≤ deque_capacity q) vs → Took vs tx index v' p room
-took vs tx index v v' p r room known within e got is items same rooms =
+took vs tx index v v' p room known within e at items same rooms =
     let lt : tx < length vs = omega (arith, known, length-map vs deque_items) in
     let here : queue_of (contents vs) tx ≡ v.items = queue_at vs tx v v lt e in
-    let some : r ≡ Some (get_or v.items index p) = got p (omega (arith, within, ap length here, v.ok)) in
-    let at : p ≡ get_or v.items index p = cc in
     let fits : room ≤ deque_capacity v = subst (λ q. room ≤ deque_capacity q) (sym e) (rooms tx v lt) in
     record {
       known = known;
       within = within;
-      at = at ∙ ap (λ (q : List Planned). get_or q index p) (sym here);
-      left = subst (λ (o : Option Planned). OnSome o (v'.items ≡ remove v.items index)) is items ∙ ap (λ (q : List Planned). remove q index) (sym here);
-      now = contents_set vs tx v v' (λ q. remove q index) lt e (subst (λ (o : Option Planned). OnSome o (v'.items ≡ remove v.items index)) is items);
+      at = at p ∙ ap (λ (q : List Planned). get_or q index p) (sym here);
+      left = items ∙ ap (λ (q : List Planned). remove q index) (sym here);
+      now = contents_set vs tx v v' (λ q. remove q index) lt e items;
       rooms = All-set (λ q. room ≤ deque_capacity q) vs tx v' (omega (arith, fits, same)) rooms;
     }
 

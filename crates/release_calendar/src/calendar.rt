@@ -1,5 +1,5 @@
 //! The calendar.
-ghost use Rattle.std.specs.Prelude.{◌≡◌, ℕ, ◌+◌, ◌*◌, ◌^◌, ◌<◌, ◌≤◌, [], ◌∷◌, List, max, length, replicate, slice_index_or, None, Some, IfOk, IfErr, OnErr, MatchResult, MatchOption, IsTrue};
+ghost use Rattle.std.specs.Prelude.{◌≡◌, ℕ, ◌+◌, ◌*◌, ◌^◌, ◌<◌, ◌≤◌, [], ◌∷◌, List, false, max, length, replicate, slice_index_or, None, Some, IfOk, IfErr, OnErr, MatchResult, MatchOption, IsTrue};
 ghost use Rattle.rt_base.specs.declared.release.Release.{Release};
 ghost use Rattle.release_calendar.specs.Agenda.{Agenda, Holds, ArePeriods, no_plans, plans_of, earliest, refusal, next_for, IsPlanned, SamePlans, NothingDue, IsDue, left, least_tick, comes_later};
 
@@ -120,6 +120,14 @@ impl Calendar {
         let tick = self.next_for(tx, now);
         let serial = self.plan(tx, tick, now)?;
         Ok((serial, tick))
+    }
+
+    /// Whether a release may be planned for a tick. It costs one comparison, and is false wherever nothing is planned up to
+    /// that tick.
+    pub fn may_be_due(&self, tick: Tick) -> bool
+        ensures { (planned : List Release) → Holds self.now planned → result ≡ false → NothingDue tick planned }
+    {
+        self.planned.may_have(tick)
     }
 
     /// Takes out one release that is planned for a tick, the one with the least transaction number; None exactly where there

@@ -1,5 +1,5 @@
 //! The planned releases: a queue for each transaction, and a heap of the queues' heads.
-ghost use Rattle.std.specs.Prelude.{◌≡◌, ℕ, ◌<◌, ◌≤◌, [], ◌∷◌, ◌++◌, List, drop, length, replicate, slice_get, slice_set, slice_index_or, Some, MatchOption, IfOk, IsTrue};
+ghost use Rattle.std.specs.Prelude.{◌≡◌, ℕ, ◌<◌, ◌≤◌, [], ◌∷◌, ◌++◌, List, false, drop, length, replicate, slice_get, slice_set, slice_index_or, Some, MatchOption, IfOk, IsTrue};
 ghost use Rattle.std.specs.BinaryHeap.{IsHeap, heap_items, heap_len, heap_capacity};
 ghost use Rattle.std.specs.List.{All, Contains, remove};
 ghost use Rattle.std.specs.List.Sorted.{IsPermutation};
@@ -109,6 +109,14 @@ impl Queues {
         self.waiting += 1;
     }
 
+    /// Whether there may be a release for a tick. One comparison tells that there is none where nothing is planned up to that
+    /// tick.
+    pub fn may_have(&self, tick: Tick) -> bool
+        ensures { result ≡ false → NoneAt tick (queued self.now.queues) }
+    {
+        self.least <= tick
+    }
+
     /// Where the release for a tick of the least transaction stands. One comparison tells that there is none where nothing is
     /// planned up to that tick, and one look at the head of the heap finds it where nothing is planned before; else it goes
     /// over the queues.
@@ -174,12 +182,26 @@ impl Queues {
         ensures room { self.new.room ≡ self.old.room }
     {
         let queue = &mut self.queues[place.tx];
-        let taken = queue.remove(place.index).unwrap();
+        let taken = out_of(queue, place.index);
         if place.index == 0 {
             leave(&mut self.heads, queue, taken);
         }
         self.waiting -= 1;
         taken
+    }
+}
+
+/// Takes the release at a place out of a queue. The first one is taken without a move of the others.
+fn out_of(queue: &mut VecDeque<Planned>, index: usize) -> Planned
+    requires { index < length queue.old.items }
+    ensures value { (d : Planned) → result ≡ slice_index_or queue.old.items index d }
+    ensures items { queue.new.items ≡ remove queue.old.items index }
+    ensures capacity { deque_capacity queue.new ≡ deque_capacity queue.old }
+{
+    if index == 0 {
+        queue.pop_front().unwrap()
+    } else {
+        queue.remove(index).unwrap()
     }
 }
 
