@@ -24,7 +24,7 @@ pub fn put_field(into: &mut Vec<u8>, word: &[u8])
     ensures len { vec_len into.new ≡ vec_len into.old + length word.now + 1 }
     ensures room { vec_capacity into.old ≤ vec_capacity into.new }
 {
-    put(into, b" ");
+    into.push_reserved(b' ');
     put(into, word);
 }
 
@@ -82,6 +82,6 @@ pub fn put_job(into: &mut Vec<u8>, txns: &[Name], job: JobId)
     ensures room { vec_capacity into.old ≤ vec_capacity into.new }
 {
     put_name(into, txns, job.tx.0);
-    put(into, b"/");
+    into.push_reserved(b'/');
     put(into, Buffer::new().format(job.serial).as_bytes());
 }
