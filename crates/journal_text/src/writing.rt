@@ -169,5 +169,5 @@ pub fn write_entry(names: &Names, entry: &Entry, into: &mut Vec<u8>)
     ensures room { vec_capacity into.old ≤ vec_capacity into.new }
 {
     put_entry(into, names, *entry);
-    put(into, b"\n");
+    into.push_reserved(b'\n');
 }
