@@ -1,7 +1,17 @@
 use Rattle.core_tables.proofs.Releases.{less_kept, release_there, release_free}
-use Rattle.core_tables.proofs.Arrivals.{releases, released_rows, released_planned, left_some, nothing_due, stays_as}
+use Rattle.core_tables.proofs.Arrivals.{releasing_nothing, releases, released_rows, released_planned, left_some, nothing_due, stays_as}
 use Rattle.core_tables.proofs.Cancels.{default_none}
 use Rattle.core_tables.proofs.arrive.release.Goals as goal
+
+pub returns-then-not-may_be_due-clause-rows : goal.returns-then-not-may_be_due-clause-rows
+returns-then-not-may_be_due-clause-rows c =
+    released_rows c.args.tick c.args.pending.now c.args.pending.now c.args.calendar.now c.args.calendar.now (releasing_nothing c.args.tick c.args.pending.now c.args.calendar.now)
+    (λ planned holds. c.may_be_due.ensures planned holds c.if-not-may_be_due.true)
+
+pub returns-then-not-may_be_due-clause-planned : goal.returns-then-not-may_be_due-clause-planned
+returns-then-not-may_be_due-clause-planned c =
+    released_planned c.args.tick c.args.pending.now c.args.pending.now c.args.calendar.now c.args.calendar.now c.args.calendar.now (releasing_nothing c.args.tick c.args.pending.now c.args.calendar.now)
+    (λ planned holds. c.may_be_due.ensures planned holds c.if-not-may_be_due.true) (λ planned holds. holds)
 
 pub release-requires-clause-tx : goal.release-requires-clause-tx
 release-requires-clause-tx c =
