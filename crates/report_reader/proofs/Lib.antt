@@ -1,3 +1,4 @@
 pub mod Walking
 pub mod Counted
 pub mod Reading
+pub mod Places

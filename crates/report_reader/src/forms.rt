@@ -1,6 +1,7 @@
 //! The forms of a report's lines after its declarations.
-ghost use Rattle.std.specs.Prelude.{◌≡◌, option_map};
+ghost use Rattle.std.specs.Prelude.{◌≡◌, option_map, IfSome};
 ghost use Rattle.line_fields.specs.Cuts.{next};
+ghost use Rattle.journal_text.specs.Lines.{entry_line};
 ghost use Rattle.report_reader.specs.Forms.{begins as begins_with, where_true, ceiling_form, bound_form, age_form, may_end as end_allowed, may_be_over as over_allowed, may_be as entry_allowed, entry_form, pending_form, ended_form, close_form, by_form, job_form, final_form, section_form, is_end as is_last};
 
 use journal_text::{next_end, read_entry};
@@ -114,7 +115,8 @@ fn may_be(second: bool, entry: Entry) -> bool
 /// The entry that a line is in a report of this version; None where it is no entry's line there.
 #[tactic(auto, unfolding(crate::specs::Forms::entry_form))]
 pub(crate) fn entry_in(second: bool, names: &NameTables, line: &[u8]) -> Option<Entry>
-    ensures { result ≡ entry_form second names.now line.now }
+    ensures value { result ≡ entry_form second names.now line.now }
+    ensures line { IfSome result (λ e. entry_line names.now e ≡ line.now) }
 {
     let entry = read_entry(names, line)?;
     allowed(may_be(second, entry))?;

@@ -6,5 +6,5 @@ mod document;
 mod forms;
 mod parts;
 
-pub use document::{Document, DocumentError, read_document};
+pub use document::{Document, DocumentError, Placed, read_document, read_placed};
 pub use forms::{Kind, Section, final_item};

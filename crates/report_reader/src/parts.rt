@@ -3,6 +3,7 @@ ghost use Rattle.std.specs.Prelude.{◌≡◌, ◌<◌, ◌≤◌, ◌+◌, ◌^
 ghost use Rattle.report_reader.specs.declared.forms.Section.TheVariants.{Jobs, Finals};
 ghost use Rattle.report_reader.specs.Forms.{section_form, entry_form};
 ghost use Rattle.report_reader.specs.Document.{lines_of, front, after, from_entries, after_parts, end_at, over_at, Moves};
+ghost use Rattle.report_reader.specs.Placed.{entry_lines, EndsWith};
 
 use crate::document::DocumentError;
 use crate::forms::{Kind, Section, entry_in, is_end, line_in};
@@ -20,7 +21,8 @@ fn skip<'a>(
     first: usize,
 ) -> (&'a [u8], usize)
     requires { first + length text.now < 2 ^ 33 }
-    ensures { Moves first text.now result.1 result.0.now (after (section_form section kind names.now) (lines_of text.now).0) }
+    ensures moves { Moves first text.now result.1 result.0.now (after (section_form section kind names.now) (lines_of text.now).0) }
+    ensures ends { EndsWith text.now result.0.now }
 {
     let mut rest = text;
     let mut n = first;
@@ -45,7 +47,8 @@ pub(crate) fn to_entries<'a>(
     first: usize,
 ) -> (&'a [u8], usize)
     requires { first + length text.now < 2 ^ 33 }
-    ensures { Moves first text.now result.1 result.0.now (from_entries kind names.now (lines_of text.now).0) }
+    ensures moves { Moves first text.now result.1 result.0.now (from_entries kind names.now (lines_of text.now).0) }
+    ensures ends { EndsWith text.now result.0.now }
 {
     let (bounds, n) = skip(Section::Ceilings, kind, names, text, first);
     let (ages, n) = skip(Section::Bounds, kind, names, bounds, n);
@@ -63,6 +66,7 @@ pub(crate) fn add_entries<'a>(
 ) -> Result<(&'a [u8], usize), OutOfMemory>
     requires { first + length text.now < 2 ^ 33 }
     ensures entries { OnOk result (entries.new.items ≡ entries.old.items ++ front (entry_form second names.now) (lines_of text.now).0) }
+    ensures lines { IfOk result (λ r. entry_lines names.now entries.old.items ++ text.now ≡ entry_lines names.now entries.new.items ++ r.0.now) }
     ensures after { IfOk result (λ r. Moves first text.now r.1 r.0.now (after (entry_form second names.now) (lines_of text.now).0)) }
 {
     let mut rest = text;

@@ -1,5 +1,6 @@
 use Rattle.std.proofs.Common.{sym, ap, drop, ◌∙◌, rules}
 use Rattle.report_reader.proofs.Walking.{first_line, same_last, no_line}
+use Rattle.report_reader.proofs.Places.{whole, past_line}
 use Rattle.report_reader.proofs.document.after_line.Goals as goal
 
 pub returns-in-Some-clause-left : goal.returns-in-Some-clause-left
@@ -8,6 +9,10 @@ returns-in-Some-clause-left c =
 
 pub returns-in-Some-clause-last : goal.returns-in-Some-clause-last
 returns-in-Some-clause-last c = sym (same_last c.args.bytes.now c.in-Some.field-0-0.now c.in-Some.rest.now (search rules))
+
+pub returns-in-Some-clause-ends : goal.returns-in-Some-clause-ends
+returns-in-Some-clause-ends c =
+    past_line c.args.bytes.now c.args.bytes.now c.in-Some.field-0-0.now c.in-Some.rest.now (search rules) (whole c.args.bytes.now)
 
 pub returns-in-None-clause-left : goal.returns-in-None-clause-left
 returns-in-None-clause-left c =

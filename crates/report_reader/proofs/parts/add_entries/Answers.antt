@@ -1,6 +1,8 @@
 use Rattle.std.proofs.Common.{◌≡◌, ◌∷◌, [], ◌++◌, rules}
 use Rattle.report_reader.specs.Forms.{entry_form}
 use Rattle.report_reader.specs.Document.{lines_of, front}
+use Rattle.report_reader.specs.Placed.{entry_lines}
+use Rattle.report_reader.proofs.Places.{one_entry}
 use Rattle.report_reader.proofs.Walking.{goes_on, stops, ends, one_more, read_stops, read_ends}
 use Rattle.report_reader.proofs.parts.add_entries.Goals as goal
 
@@ -24,6 +26,9 @@ loop-line-preserved c =
           c.loop-line.invariant.0),
       goes_on (entry_form c.args.second c.args.names.now) c.args.first c.args.text.now c.loop-line.n c.loop-line.rest.now
           c.in-Some.line.now c.in-Some.more.now c.in-Some-entry_in.entry (search rules) (search rules) c.loop-line.invariant.1,
+      rw pushed (one_entry c.args.names.now c.loop-line.entries.items c.loop-line.rest.now c.in-Some.line.now c.in-Some.more.now
+          c.in-Some-entry_in.entry (entry_lines c.args.names.now c.args.entries.now.items ++ c.args.text.now) (search rules)
+          (search rules) c.loop-line.invariant.2),
     )
 
 pub returns-clause-entries : goal.returns-clause-entries
