@@ -13,7 +13,7 @@ mod writer;
 pub use declared::compile_head;
 pub use limits::{admit_text, ceilings_text};
 pub use summing::summary;
-pub use whole::{report, report_with_items};
+pub use whole::{report, report_ends, report_with_items};
 pub use writer::ReportWriter;
 
 /// Every entry of a legal history of a compiled set has a line: its ids have names, and its outcome answers its operation.

@@ -3,13 +3,14 @@ ghost use Rattle.std.specs.Prelude.{◌≡◌, ◌≤◌, ◌++◌, ◌∷◌, [
 ghost use Rattle.txn_set.specs.Set.{Set};
 ghost use Rattle.step_journal.specs.declared.entry.Entry.{Entry as Noted};
 ghost use Rattle.step_journal.specs.History.{IsLegal, state_of};
+ghost use Rattle.job_rows.specs.Rows.{job_rows};
 ghost use Rattle.job_rows.specs.Upkeep.{Follows};
 ghost use Rattle.report_lines.specs.Texts.{NamesSet, whole_entry_line};
-ghost use Rattle.run_report.specs.Report.{Writes, report_of};
+ghost use Rattle.run_report.specs.Report.{Writes, opening_text, closing_text, report_of};
 
-use crate::writer::ReportWriter;
+use crate::writer::{ReportWriter, add_closing, add_opening};
 use item_model::Items;
-use job_rows::planned;
+use job_rows::{planned, rows_of};
 use rt_base::{Names, OutOfMemory};
 use serial_replay::{ReplayError, last_items};
 use set_admission::AdmittedSet;
@@ -76,4 +77,30 @@ pub fn report_with_items(
     }
     writer.finish(names, items, &mut text)?;
     Ok(text)
+}
+
+/// What stands in that report before its entries, and what stands after them. Each entry is gone through twice, and none is
+/// written.
+pub fn report_ends(
+    alloc: Global,
+    names: &Names,
+    set: &CompiledSet,
+    bounds: Option<&AdmittedSet>,
+    entries: &[Entry],
+    items: &Items,
+) -> Result<(Vec<u8>, Vec<u8>), OutOfMemory>
+    requires names { NamesSet names.now set.now }
+    requires same { IfSome bounds (λ b. b.now ≡ set.now) }
+    requires legal { IsLegal set.now entries.now }
+    requires last { items.now ≡ (state_of set.now entries.now).items }
+    ensures opening { IfOk result (λ ends. ends.0.items ≡ opening_text names.now set.now (is_some bounds.entry)) }
+    ensures closing { IfOk result (λ ends. ends.1.items ≡ closing_text names.now (job_rows set.now entries.now) (state_of set.now entries.now).items) }
+{
+    set.is_compiled();
+    let mut opening = Vec::new(alloc);
+    add_opening(&mut opening, names, set, bounds)?;
+    let rows = rows_of(alloc, set, entries)?;
+    let mut closing = Vec::new(alloc);
+    add_closing(&mut closing, names, rows.as_slice(), items.as_slice())?;
+    Ok((opening, closing))
 }

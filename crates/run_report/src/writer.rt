@@ -52,7 +52,7 @@ fn add_mode_limits(
     }
 }
 
-fn add_opening(
+pub(crate) fn add_opening(
     into: &mut Vec<u8>,
     names: &Names,
     set: &CompiledSet,
@@ -67,7 +67,7 @@ fn add_opening(
     add_mode_limits(into, names, set, bounds)
 }
 
-fn add_closing(
+pub(crate) fn add_closing(
     into: &mut Vec<u8>,
     names: &Names,
     rows: &[JobRow],
