@@ -4,3 +4,4 @@ pub mod Documents
 pub mod Judging
 pub mod OneOnly
 pub mod Sound
+pub mod Between

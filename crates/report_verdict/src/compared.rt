@@ -1,5 +1,5 @@
 //! A document and a report, line by line.
-ghost use Rattle.std.specs.Prelude.{◌≡◌, ◌<◌, ◌^◌, [], length};
+ghost use Rattle.std.specs.Prelude.{◌≡◌, ◌≤◌, ◌<◌, ◌-◌, ◌^◌, [], length, take, drop, IsTrue};
 ghost use Rattle.std.specs.Str.{bytes_eq};
 ghost use Rattle.rt_base.specs.declared.name.Names.{Names as AllNames};
 ghost use Rattle.report_reader.specs.Document.{lines_of};
@@ -60,6 +60,23 @@ fn over(n: usize, report: &[u8]) -> Verdict
         Some((_, _)) => Verdict::WrongLine { n },
         None => Verdict::Legal,
     }
+}
+
+/// Whether what stands before the last `left` bytes of a document is one text, and its last `after` bytes are another.
+pub(crate) fn is_between(
+    document: &[u8],
+    left: usize,
+    after: usize,
+    opening: &[u8],
+    closing: &[u8],
+) -> bool
+    requires left { left ≤ length document.now }
+    requires after { after ≤ length document.now }
+    ensures opening { IsTrue result → take (length document.now - left) document.now ≡ opening.now }
+    ensures closing { IsTrue result → drop (length document.now - after) document.now ≡ closing.now }
+{
+    let len = document.len();
+    same(&document[..len - left], opening) && same(&document[len - after..], closing)
 }
 
 /// How the lines of a document differ from those of a report; Legal where they do not. It compares the bytes, and goes over the

@@ -5,16 +5,19 @@ ghost use Rattle.txn_compiler.specs.declared.error.CompileError.TheVariants.{Out
 ghost use Rattle.set_admission.specs.declared.error.AdmitError.TheVariants.{OutOfMemory as NoMemoryToAdmit};
 ghost use Rattle.report_lines.specs.Texts.{NamesSet};
 ghost use Rattle.report_head.specs.IsHead.{IsHead};
+ghost use Rattle.step_journal.specs.History.{IsLegal, state_of};
 ghost use Rattle.report_reader.specs.Document.{document_of};
+ghost use Rattle.report_reader.specs.Placed.{Stand};
 ghost use Rattle.report_verdict.specs.declared.verdict.SetError.TheVariants.{Compile, Admit};
 ghost use Rattle.report_verdict.specs.declared.verdict.Verdict.TheVariants.{BadSet};
 ghost use Rattle.report_verdict.specs.Verdict.{refusal_in, IsVerdict, HasParts};
 
-use crate::compared::compared;
+use crate::compared::{compared, is_between};
+use item_model::Items;
 use name_table::NameTables;
-use report_reader::{Document, DocumentError, read_document};
+use report_reader::{Document, DocumentError, Placed, read_placed};
 use rt_base::{Name, OutOfMemory};
-use run_report::{compile_head, report_with_items};
+use run_report::{compile_head, report_ends, report_with_items};
 use serial_replay::{ReplayError, last_items};
 use set_admission::{AdmitError, AdmittedSet, admit, admitted_unless_refused};
 use std::alloc::Global;
@@ -70,6 +73,44 @@ fn not_admitted(error: AdmitError) -> Result<Verdict, OutOfMemory>
     }
 }
 
+// The entries of a document, the number of the line of the first, and how many bytes are left where their lines begin and
+// where they have ended.
+#[derive(Clone, Copy)]
+struct Told<'a> {
+    entries: &'a [Entry],
+    first: usize,
+    left: usize,
+    after: usize,
+}
+
+// The verdict on the lines around the entries, which are a legal history. The lines of the entries are those of the report.
+fn judge_lines(
+    alloc: Global,
+    bytes: &[u8],
+    names: &NameTables,
+    set: &CompiledSet,
+    bounds: Option<&AdmittedSet>,
+    told: Told,
+    items: &Items,
+) -> Result<Verdict, OutOfMemory>
+    requires bytes { length bytes.now < 2 ^ 32 }
+    requires parts { HasParts bytes.now names.now set.now (is_some bounds) told.entries.now told.first }
+    requires stand { Stand names.now told.entries.now bytes.now told.left told.after }
+    requires admitted { refusal_in (is_some bounds) set.now ≡ None }
+    requires names { NamesSet names.now set.now }
+    requires same { IfSome bounds (λ b. b.now ≡ set.now) }
+    requires legal { IsLegal set.now told.entries.now }
+    requires last { items.now ≡ (state_of set.now told.entries.now).items }
+    ensures { IfOk result (IsVerdict bytes.now) }
+{
+    let (opening, closing) = report_ends(alloc, names.names(), set, bounds, told.entries, items)?;
+    if is_between(bytes, told.left, told.after, &opening, &closing) {
+        return Ok(Verdict::Legal);
+    }
+    let text = report_with_items(alloc, names.names(), set, bounds, told.entries, items)?;
+    Ok(compared(names, bytes, &text))
+}
+
 // The verdict on the entries and the lines around them.
 fn judge_entries(
     alloc: Global,
@@ -77,25 +118,23 @@ fn judge_entries(
     names: &NameTables,
     set: &CompiledSet,
     bounds: Option<&AdmittedSet>,
-    entries: &[Entry],
-    first: usize,
+    told: Told,
 ) -> Result<Verdict, OutOfMemory>
     requires bytes { length bytes.now < 2 ^ 32 }
-    requires first { first < 2 ^ 33 }
-    requires parts { HasParts bytes.now names.now set.now (is_some bounds) entries.now first }
+    requires first { told.first < 2 ^ 33 }
+    requires parts { HasParts bytes.now names.now set.now (is_some bounds) told.entries.now told.first }
+    requires stand { Stand names.now told.entries.now bytes.now told.left told.after }
     requires admitted { refusal_in (is_some bounds) set.now ≡ None }
     requires names { NamesSet names.now set.now }
     requires same { IfSome bounds (λ b. b.now ≡ set.now) }
     ensures { IfOk result (IsVerdict bytes.now) }
 {
     set.is_compiled();
-    match last_items(alloc, set, entries) {
+    let first = told.first;
+    match last_items(alloc, set, told.entries) {
         Err(ReplayError::OutOfMemory) => Err(OutOfMemory),
         Err(ReplayError::NotLegal { index }) => Ok(Verdict::NotALegalStep { n: first + index }),
-        Ok(items) => {
-            let text = report_with_items(alloc, names.names(), set, bounds, entries, &items)?;
-            Ok(compared(names, bytes, &text))
-        }
+        Ok(items) => judge_lines(alloc, bytes, names, set, bounds, told, &items),
     }
 }
 
@@ -106,41 +145,39 @@ fn judge_mode(
     names: &NameTables,
     set: CompiledSet,
     admitted: bool,
-    entries: &[Entry],
-    first: usize,
+    told: Told,
 ) -> Result<Verdict, OutOfMemory>
     requires bytes { length bytes.now < 2 ^ 32 }
-    requires first { first < 2 ^ 33 }
-    requires parts { HasParts bytes.now names.now set admitted entries.now first }
+    requires first { told.first < 2 ^ 33 }
+    requires parts { HasParts bytes.now names.now set admitted told.entries.now told.first }
+    requires stand { Stand names.now told.entries.now bytes.now told.left told.after }
     requires names { NamesSet names.now set }
     ensures { IfOk result (IsVerdict bytes.now) }
 {
     if !admitted {
-        return judge_entries(alloc, bytes, names, &set, None, entries, first);
+        return judge_entries(alloc, bytes, names, &set, None, told);
     }
     set.is_compiled();
     admitted_unless_refused();
     match admit(alloc, set) {
         Err((_, error)) => not_admitted(error),
-        Ok(admitted) => judge_entries(
-            alloc,
-            bytes,
-            names,
-            admitted.set(),
-            Some(&admitted),
-            entries,
-            first,
-        ),
+        Ok(admitted) => judge_entries(alloc, bytes, names, admitted.set(), Some(&admitted), told),
     }
 }
 
 // The verdict on a document that was read.
-fn judge(alloc: Global, bytes: &[u8], document: Document) -> Result<Verdict, OutOfMemory>
+fn judge(alloc: Global, bytes: &[u8], placed: Placed) -> Result<Verdict, OutOfMemory>
     requires bytes { length bytes.now < 2 ^ 32 }
-    requires read { document_of bytes.now ≡ Ok document }
-    requires good { IsHead document.head }
+    requires read { document_of bytes.now ≡ Ok placed.document }
+    requires good { IsHead placed.document.head }
+    requires stand { Stand placed.document.head.names placed.document.entries bytes.now placed.left placed.after }
     ensures { IfOk result (IsVerdict bytes.now) }
 {
+    let Placed {
+        document,
+        left,
+        after,
+    } = placed;
     let Document {
         head,
         second: _,
@@ -151,23 +188,29 @@ fn judge(alloc: Global, bytes: &[u8], document: Document) -> Result<Verdict, Out
     match compile_head(alloc, head) {
         Err(error) => not_compiled(error),
         Ok((names, set)) => {
-            let entries = entries.as_slice();
-            judge_mode(alloc, bytes, &names, set, admitted, entries, first)
+            let told = Told {
+                entries: entries.as_slice(),
+                first,
+                left,
+                after,
+            };
+            judge_mode(alloc, bytes, &names, set, admitted, told)
         }
     }
 }
 
 /// Judges a document that is to be a report, by its bytes alone: it reads the document, compiles the declared set and admits
-/// it where the mode says so, replays the entries, and compares each line with the report of the set and the entries. It
-/// takes memory for the entries and for that report.
+/// it where the mode says so, replays the entries, and compares the lines around the entries with those of the report of the
+/// set and the entries. The line of an entry was read as this entry, and so is its line there. It takes memory for the
+/// entries and for the lines around them, and for the whole report where the document differs from it.
 pub fn check_document(alloc: Global, bytes: &[u8]) -> Result<Verdict, OutOfMemory>
     requires { length bytes.now < 2 ^ 32 }
     ensures { IfOk result (IsVerdict bytes.now) }
 {
-    match read_document(alloc, bytes) {
+    match read_placed(alloc, bytes) {
         Err(DocumentError::BadLine { n }) => Ok(Verdict::BadLine { n }),
         Err(DocumentError::Unfinished) => Ok(Verdict::Unfinished),
         Err(DocumentError::OutOfMemory) => Err(OutOfMemory),
-        Ok(document) => judge(alloc, bytes, document),
+        Ok(placed) => judge(alloc, bytes, placed),
     }
 }

@@ -4,4 +4,4 @@ use Rattle.report_verdict.proofs.verdict.judge.Goals as goal
 
 pub judge_mode-requires-clause-first : goal.judge_mode-requires-clause-first
 judge_mode-requires-clause-first c =
-    omega (arith, (is_read c.args.bytes.now c.args.document c.requires.read).first, c.requires.bytes)
+    omega (arith, (is_read c.args.bytes.now c.args.placed.document c.requires.read).first, c.requires.bytes)
