@@ -2,3 +2,4 @@ pub mod CutLaws
 pub mod NumberLaws
 pub mod IdLaws
 pub mod Words
+pub mod FrontLaws

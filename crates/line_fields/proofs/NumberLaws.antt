@@ -62,7 +62,7 @@ not_led [] n lt e = refl
 not_led (b ∷ []) n lt e = first_is_digit n b [] lt e
 not_led (b ∷ c ∷ bs) n lt e = rw (first_is_digit n b (c ∷ bs) lt e, first_is_no_zero n b c bs lt e) refl
 
-written : (ds : List ℕ) (n : ℕ) → (get_or ds 0 0 ≡ 48 → length ds ≡ 1) → IsNumeral 10 ds → n ≡ digits_value 10 ds → n < 2 ^ 64 → decimal n ≡ ds
+pub written : (ds : List ℕ) (n : ℕ) → (get_or ds 0 0 ≡ 48 → length ds ≡ 1) → IsNumeral 10 ds → n ≡ digits_value 10 ds → n < 2 ^ 64 → decimal n ≡ ds
 written ds n lead is value lt =
     let below : digits_value 10 ds < 2 ^ 64 = subst (λ (k : ℕ). k < 2 ^ 64) value lt in
     ap decimal value ∙ decimal-digits_value own ds is.1 is.0 lead below

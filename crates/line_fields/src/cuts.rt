@@ -1,6 +1,7 @@
 //! A line is a word, and then fields, each after one blank.
 ghost use Rattle.std.specs.Prelude.{◌≡◌, ◌≤◌, ◌<◌, ◌==◌, length, option_map, position, IfSome};
 ghost use Rattle.std.specs.List.{position_or_len};
+ghost use Rattle.std.specs.Str.{bytes_eq};
 ghost use Rattle.line_fields.specs.Cuts.{word_of, field_of, next, word_is, done_of, cut_at};
 
 fn find(byte: u8, bytes: &[u8]) -> Option<usize>
@@ -51,11 +52,26 @@ pub fn field(bytes: &[u8]) -> Option<(&[u8], &[u8])>
     }
 }
 
+/// Whether a word is the one that is wanted. It compares byte after byte, which costs least where the words are short.
+pub fn is_word(want: &[u8], word: &[u8]) -> bool
+    ensures { result ≡ bytes_eq word.now want.now }
+{
+    if word.len() != want.len() {
+        return false;
+    }
+    for i in 0..want.len() {
+        if word[i] != want[i] {
+            return false;
+        }
+    }
+    true
+}
+
 #[tactic(auto, unfolding(crate::specs::Cuts::word_is))]
 fn same(want: &[u8], word: &[u8]) -> Option<()>
     ensures { result ≡ word_is want.now word.now }
 {
-    if word == want { Some(()) } else { None }
+    if is_word(want, word) { Some(()) } else { None }
 }
 
 /// The rest after a field that is this word; None where the next field is another or there is none.

@@ -8,7 +8,7 @@ mod ids;
 mod numbers;
 mod writing;
 
-pub use cuts::{cut, done, field, next_word, word};
+pub use cuts::{cut, done, field, is_word, next_word, word};
 pub use ids::{item, job, next_item, next_job, next_tx, tx};
 pub use numbers::{next_short, next_signed, next_unsigned, short, signed, unsigned};
 pub use writing::{put, put_field, put_job, put_name, put_short, put_signed, put_unsigned};

@@ -1,6 +1,7 @@
 //! Numbers in decimal digits, without leading zeros.
-ghost use Rattle.std.specs.Prelude.{◌≡◌, ℕ, ◌^◌, ◌<◌, Some, decimal, pos, nat_lt, option_map, if◌then◌else◌, IfSome};
-ghost use Rattle.line_fields.specs.Cuts.{next};
+ghost use Rattle.std.specs.Prelude.{◌≡◌, ℕ, ◌^◌, ◌<◌, ◌≤◌, ◌++◌, Some, decimal, pos, nat_lt, option_map, if◌then◌else◌, IfSome, IsTrue, length, take, drop, slice_index_or};
+ghost use Rattle.std.specs.Str.Parse.{AllDigits, digits_value};
+ghost use Rattle.line_fields.specs.Cuts.{next, field as after_a_blank, Ends};
 ghost use Rattle.line_fields.specs.Numbers.{IsRead, is_led, unsigned_of, short_of, below_zero, signed_of};
 
 use crate::cuts::field;
@@ -36,11 +37,73 @@ fn is_led(word: &[u8]) -> bool
     }
 }
 
+// Ten times this, and any digit, is below 2^64.
+const MOST: u64 = 1_844_674_407_370_955_160;
+
+// The number that the digits at the front write, and how many they are; not all of them where the number could be too large.
+fn front(bytes: &[u8]) -> (u64, usize)
+    ensures value { result.0 ≡ digits_value 10 (take result.1 bytes.now) }
+    ensures digits { AllDigits 10 (take result.1 bytes.now) }
+    ensures within { result.1 ≤ length bytes.now }
+{
+    let mut n: u64 = 0;
+    for i in 0..bytes.len() {
+        let byte = bytes[i];
+        if byte < b'0' || byte > b'9' || n > MOST {
+            return (n, i);
+        }
+        n = n * 10 + (byte - b'0') as u64;
+    }
+    (n, bytes.len())
+}
+
+// Whether so many digits at the front are a word without a leading zero.
+fn is_number(bytes: &[u8], len: usize) -> bool
+    requires { len ≤ length bytes.now }
+    ensures some { IsTrue result → 0 < len }
+    ensures lead { IsTrue result → slice_index_or bytes.now 0 0 ≡ 48 → len ≡ 1 }
+    ensures ends { IsTrue result → Ends (drop len bytes.now) }
+{
+    if len == 0 || (bytes[0] == b'0' && len > 1) {
+        return false;
+    }
+    len == bytes.len() || bytes[len] == b' '
+}
+
+// The number at the front in one pass, and the rest. None where the word there is no number or could be too large.
+fn at_front(bytes: &[u8]) -> Option<(u64, &[u8])>
+    ensures fits { IfSome result (λ p. p.0 < 2 ^ 64) }
+    ensures written { IfSome result (λ p. bytes.now ≡ decimal p.0 ++ p.1.now) }
+    ensures ends { IfSome result (λ p. Ends p.1.now) }
+{
+    let (n, len) = front(bytes);
+    if is_number(bytes, len) {
+        Some((n, &bytes[len..]))
+    } else {
+        None
+    }
+}
+
+// The same after a blank.
+fn after_blank(bytes: &[u8]) -> Option<(u64, &[u8])>
+    ensures fits { IfSome result (λ p. p.0 < 2 ^ 64) }
+    ensures written { IfSome result (λ p. bytes.now ≡ after_a_blank (decimal p.0) ++ p.1.now) }
+    ensures ends { IfSome result (λ p. Ends p.1.now) }
+{
+    match bytes {
+        [b' ', rest @ ..] => at_front(rest),
+        _ => None,
+    }
+}
+
 /// The number below 2^64 that the word is in decimal digits, without a sign or a leading zero.
 #[tactic(auto, unfolding(crate::specs::Numbers::unsigned_of))]
 pub fn unsigned(word: &[u8]) -> Option<u64>
     ensures { result ≡ unsigned_of word.now }
 {
+    if let Some((n, [])) = at_front(word) {
+        return Some(n);
+    }
     if is_led(word) {
         return None;
     }
@@ -89,6 +152,9 @@ pub fn signed(word: &[u8]) -> Option<i64>
 pub fn next_unsigned(bytes: &[u8]) -> Option<(u64, &[u8])>
     ensures { option_map (λ p. (p.0, p.1.now)) result ≡ next unsigned_of bytes.now }
 {
+    if let Some((n, rest)) = after_blank(bytes) {
+        return Some((n, rest));
+    }
     let (word, rest) = field(bytes)?;
     let n = unsigned(word)?;
     Some((n, rest))
@@ -109,6 +175,11 @@ pub fn next_short(bytes: &[u8]) -> Option<(u32, &[u8])>
 pub fn next_signed(bytes: &[u8]) -> Option<(i64, &[u8])>
     ensures { option_map (λ p. (p.0, p.1.now)) result ≡ next signed_of bytes.now }
 {
+    if let Some((n, rest)) = after_blank(bytes) {
+        if n < 1 << 63 {
+            return Some((n as i64, rest));
+        }
+    }
     let (word, rest) = field(bytes)?;
     let n = signed(word)?;
     Some((n, rest))

@@ -1,0 +1,38 @@
+-- Numbers at the front of a text.
+use Rattle.std.proofs.Common.{◌≡◌, ℕ, pos, ◌^◌, ◌<◌, ◌≤◌, ◌-◌, List, [], ◌∷◌, ◌++◌, length, take, drop, get_or, Some, decimal, sym, ap, ◌∙◌, arith}
+use Rattle.std.specs.Str.Parse.{digits_value, AllDigits}
+use Rattle.std.proofs.lemmas.List.{take-append-drop, append-nil, length-take-le, get_or-take}
+use Rattle.line_fields.specs.Cuts.{next, field, Ends}
+use Rattle.line_fields.specs.Numbers.{unsigned_of, signed_of}
+use Rattle.line_fields.proofs.CutLaws.{rest_of, next_again}
+use Rattle.line_fields.proofs.NumberLaws.{written, unsigned_found, unsigned_again, unsigned_lacks, signed_again}
+
+-- digits at the front without a leading zero are what is written of their number
+pub front_written : (bs : List ℕ) (len n : ℕ) → len ≤ length bs → 0 < len → (get_or bs 0 0 ≡ 48 → len ≡ 1)
+    → AllDigits 10 (take len bs) → n ≡ digits_value 10 (take len bs) → n < 2 ^ 64
+    → bs ≡ decimal n ++ take (length bs - len) (drop len bs)
+front_written bs len n within some lead digits value lt =
+    let size : length (take len bs) ≡ len = length-take-le len bs within in
+    let is : decimal n ≡ take len bs =
+    written (take len bs) n (λ zero. size ∙ lead (sym (get_or-take len bs 0 0 some) ∙ zero)) (omega (arith, size, some), digits) value lt in
+    sym (take-append-drop len bs) ∙ (ap (λ (w : List ℕ). w ++ drop len bs) (sym is)
+    ∙ ap (λ (r : List ℕ). decimal n ++ r) (sym (rest_of len bs)))
+
+only : (w ds rest : List ℕ) → w ≡ ds ++ rest → length rest < 1 → ds ≡ w
+only w ds [] e lt = sym (e ∙ append-nil ds)
+only w ds (b ∷ rest) e lt = absurd (omega (arith, lt))
+
+-- a number that is all of a word
+pub word_found : (w : List ℕ) (n : ℕ) (rest : List ℕ) → n < 2 ^ 64 → w ≡ decimal n ++ rest → length rest < 1 → Some n ≡ unsigned_of w
+word_found w n rest lt e none = unsigned_found w n lt (only w (decimal n) rest e none)
+
+pub next_found : (bs : List ℕ) (n : ℕ) (rest : List ℕ) → n < 2 ^ 64 → bs ≡ field (decimal n) ++ rest → Ends rest
+    → Some (n, rest) ≡ next unsigned_of bs
+next_found bs n rest lt e ends =
+    sym (ap (next unsigned_of) e ∙ next_again unsigned_of (decimal n) rest n (unsigned_again n lt) (unsigned_lacks n lt) ends)
+
+pub signed_found : (bs : List ℕ) (n : ℕ) (rest : List ℕ) → n < 2 ^ 63 → bs ≡ field (decimal n) ++ rest → Ends rest
+    → Some (pos n, rest) ≡ next signed_of bs
+signed_found bs n rest lt e ends =
+    sym (ap (next signed_of) e
+    ∙ next_again signed_of (decimal n) rest (pos n) (signed_again (pos n) lt) (unsigned_lacks n (omega arith)) ends)
