@@ -6,8 +6,8 @@ ghost use Rattle.journal_text.specs.Lines.{entry_line, HasLine, IsEntryOf, IsWri
 ghost use Rattle.journal_text.specs.Reading.{read_of, write_of, op_form, op_of, stamp_of, got_of, outcome_of, stale_of, apart_of, end_form, end_of, over_of, plan_of, step_of, block_of, idle_of, form_of, entry_of};
 
 use line_fields::{
-    done, field, next_item, next_job, next_short, next_signed, next_tx, next_unsigned, next_word,
-    unsigned, word,
+    done, field, is_word, next_item, next_job, next_short, next_signed, next_tx, next_unsigned,
+    next_word, unsigned, word,
 };
 use name_table::NameTables;
 use rt_base::{End, Op, Outcome};
@@ -34,15 +34,15 @@ fn write<'a>(names: &NameTables, rest: &'a [u8]) -> Option<(Op, &'a [u8])>
 fn op_after<'a>(names: &NameTables, word: &[u8], rest: &'a [u8]) -> Option<(Op, &'a [u8])>
     ensures { option_map (λ p. (p.0, p.1.now)) result ≡ op_form names.now word.now rest.now }
 {
-    if word == b"read".as_slice() {
+    if is_word(b"read", word) {
         read(names, rest)
-    } else if word == b"write".as_slice() {
+    } else if is_word(b"write", word) {
         write(names, rest)
-    } else if word == b"compute".as_slice() {
+    } else if is_word(b"compute", word) {
         Some((Op::Compute, rest))
-    } else if word == b"commit".as_slice() {
+    } else if is_word(b"commit", word) {
         Some((Op::Commit, rest))
-    } else if word == b"quit".as_slice() {
+    } else if is_word(b"quit", word) {
         Some((Op::Quit, rest))
     } else {
         None
@@ -61,7 +61,7 @@ fn op<'a>(names: &NameTables, rest: &'a [u8]) -> Option<(Op, &'a [u8])>
 fn stamp(word: &[u8]) -> Option<Option<u64>>
     ensures { result ≡ stamp_of word.now }
 {
-    if word == b"own".as_slice() {
+    if is_word(b"own", word) {
         Some(None)
     } else {
         Some(Some(unsigned(word)?))
@@ -121,17 +121,17 @@ fn apart<'a>(names: &NameTables, rest: &'a [u8]) -> Option<(End, &'a [u8])>
 fn end_after<'a>(names: &NameTables, word: &[u8], rest: &'a [u8]) -> Option<(End, &'a [u8])>
     ensures { option_map (λ p. (p.0, p.1.now)) result ≡ end_form names.now word.now rest.now }
 {
-    if word == b"committed".as_slice() {
+    if is_word(b"committed", word) {
         Some((End::Committed, rest))
-    } else if word == b"overrun".as_slice() {
+    } else if is_word(b"overrun", word) {
         Some((End::Overrun, rest))
-    } else if word == b"late".as_slice() {
+    } else if is_word(b"late", word) {
         Some((End::Late, rest))
-    } else if word == b"stale".as_slice() {
+    } else if is_word(b"stale", word) {
         stale(names, rest)
-    } else if word == b"apart".as_slice() {
+    } else if is_word(b"apart", word) {
         apart(names, rest)
-    } else if word == b"quit".as_slice() {
+    } else if is_word(b"quit", word) {
         Some((End::Quit, rest))
     } else {
         None
@@ -224,13 +224,13 @@ fn idle(rest: &[u8]) -> Option<Entry>
 fn form(names: &NameTables, word: &[u8], rest: &[u8]) -> Option<Entry>
     ensures { result ≡ form_of names.now word.now rest.now }
 {
-    if word == b"plan".as_slice() {
+    if is_word(b"plan", word) {
         plan(names, rest)
-    } else if word == b"step".as_slice() {
+    } else if is_word(b"step", word) {
         step(names, rest)
-    } else if word == b"block".as_slice() {
+    } else if is_word(b"block", word) {
         block(names, rest)
-    } else if word == b"idle".as_slice() {
+    } else if is_word(b"idle", word) {
         idle(rest)
     } else {
         None
