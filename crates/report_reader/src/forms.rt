@@ -6,8 +6,8 @@ ghost use Rattle.report_reader.specs.Forms.{begins as begins_with, where_true, c
 
 use journal_text::{next_end, read_entry};
 use line_fields::{
-    done, field, job, next_item, next_job, next_short, next_signed, next_tx, next_unsigned,
-    next_word, word,
+    done, field, is_word, job, next_item, next_job, next_short, next_signed, next_tx,
+    next_unsigned, next_word, word,
 };
 use name_table::NameTables;
 use rt_base::{End, ItemId, JobId};
@@ -35,7 +35,11 @@ fn begins<'a>(want: &[u8], line: &'a [u8]) -> Option<&'a [u8]>
     ensures { option_map (λ r. r.now) result ≡ begins_with want.now line.now }
 {
     let (word, rest) = word(line);
-    if word == want { Some(rest) } else { None }
+    if is_word(want, word) {
+        Some(rest)
+    } else {
+        None
+    }
 }
 
 fn allowed(test: bool) -> Option<()>
@@ -158,7 +162,7 @@ fn close<'a>(second: bool, names: &NameTables, rest: &'a [u8]) -> Option<&'a [u8
 fn by(names: &NameTables, word: &[u8]) -> Option<Option<JobId>>
     ensures { result ≡ by_form names.now.txns word.now }
 {
-    if word == b"-".as_slice() {
+    if is_word(b"-", word) {
         Some(None)
     } else {
         Some(Some(job(names, word)?))
@@ -227,5 +231,5 @@ pub(crate) fn line_in(section: Section, kind: Kind, names: &NameTables, line: &[
 pub(crate) fn is_end(line: &[u8]) -> bool
     ensures { result ≡ is_last line.now }
 {
-    line == b"end".as_slice()
+    is_word(b"end", line)
 }
