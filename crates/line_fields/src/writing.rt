@@ -7,6 +7,9 @@ ghost use Rattle.line_fields.specs.Ids.{name_at, job_text};
 use itoa::Buffer;
 use rt_base::{JobId, Name};
 
+// Up to so many bytes are added one by one, which costs less than a copy.
+const FEW: usize = 16;
+
 /// Adds bytes for which there is room.
 pub fn put(into: &mut Vec<u8>, bytes: &[u8])
     requires { vec_len into.old + length bytes.now ≤ vec_capacity into.old }
@@ -14,7 +17,13 @@ pub fn put(into: &mut Vec<u8>, bytes: &[u8])
     ensures len { vec_len into.new ≡ vec_len into.old + length bytes.now }
     ensures room { vec_capacity into.old ≤ vec_capacity into.new }
 {
-    into.extend_from_slice(bytes).unwrap();
+    if bytes.len() > FEW {
+        into.extend_from_slice(bytes).unwrap();
+        return;
+    }
+    for i in 0..bytes.len() {
+        into.push_reserved(bytes[i]);
+    }
 }
 
 /// Adds a blank and a word.
