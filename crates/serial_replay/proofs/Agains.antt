@@ -1,6 +1,5 @@
 -- The loop over the entries.
-use Rattle.std.proofs.Common.{◌≡◌, ℕ, ◌<◌, List, [], ◌∷◌, ◌++◌, length, take, drop, min, Some, get_or, ap, ◌∙◌, arith}
-use Rattle.std.proofs.Math.Nat.{min-eq_left}
+use Rattle.std.proofs.Common.{◌≡◌, ℕ, ◌<◌, ◌≤◌, List, [], ◌∷◌, ◌++◌, length, take, drop, min, Some, get_or, ap, ◌∙◌, arith, length-drop}
 use Rattle.std.proofs.Math.ListN.{drop_of_length-le}
 use Rattle.std.proofs.lemmas.Option.{slice_get-get_or}
 use Rattle.txn_set.specs.Set.{Set}
@@ -21,7 +20,8 @@ first_illegal set entries i d lt before refused =
 pub nothing_kept : (kept : List Entry) (first : ℕ) → kept ≡ drop first [] → kept ≡ []
 nothing_kept kept first e = e ∙ drop_of_length-le [] (omega arith)
 
-pub drained : (kept : List Entry) (count free : ℕ) → length kept ≡ 1 → 0 < free → count ≡ min 1 (min (length kept) free) → drop count kept ≡ []
-drained kept count free one pos e =
-    let c : count ≡ 1 = e ∙ (ap (λ (n : ℕ). min 1 (min n free)) one ∙ ap (min 1) (min-eq_left {n = 1} {m = free} pos)) in
-    drop_of_length-le kept (omega (arith, one, c))
+-- some entries go where there is a place for one
+pub some_go : (kept left : List Entry) (count room most free now : ℕ) → count ≡ min most (min (length kept) free) → left ≡ drop count kept
+    → 0 < room → 0 < free → length kept ≤ room → (most ≡ room) × (now ≡ room) → length left < now
+some_go kept left count room most free now is rest some place few same =
+    omega (arith, is, ap length rest, length-drop count kept, some, place, few, same.0, same.1)

@@ -130,9 +130,17 @@ entry_self (Step j o r v t) = and_from _ _ (job_self j) (and_from _ _ (op_self o
 entry_self (Blocked j o b c t) = and_from _ _ (job_self j) (and_from _ _ (op_self o) (and_from _ _ (job_self b) (and_from _ _ (eq-eqb c c refl) (eq-eqb t t refl))))
 entry_self (Idle f t) = and_from _ _ (eq-eqb f f refl) (eq-eqb t t refl)
 
-pub made_same : (made : Option Entry) (e : Entry) → option_eq entry.eq-value.it made (Some e) ≡ true → made ≡ Some e
-made_same None e h = absurd cc
-made_same (Some a) e h = ap Some (entry_same a e h)
+abbrev pub Made : Type 0
+Made = Option Entry
 
-pub same_made : (made : Option Entry) (e : Entry) → made ≡ Some e → option_eq entry.eq-value.it made (Some e) ≡ true
-same_made made e is = ap (λ (o : Option Entry). option_eq entry.eq-value.it o (Some e)) is ∙ entry_self e
+pub made_same : (a e : Entry) → entry.eq-value.it a e ≡ true → ◌≡◌ {A = Made} (Some a) (Some e)
+made_same a e h = ap Some (entry_same a e h)
+
+entry_in : Made → Entry → Entry
+entry_in None e = e
+entry_in (Some a) e = a
+
+pub same_made : (a e : Entry) → ◌≡◌ {A = Made} (Some a) (Some e) → entry.eq-value.it a e ≡ true
+unfolding entry_in
+same_made a e is =
+    let same : a ≡ e = ap (λ (o : Made). entry_in o e) is in ap (λ (x : Entry). entry.eq-value.it x e) same ∙ entry_self e

@@ -1,5 +1,5 @@
 //! The calls of a history made again on a board.
-ghost use Rattle.std.specs.Prelude.{◌≡◌, ◌<◌, [], ℕ, List as Many, length, nat_lt, Some, IsTrue, ◌↔◌, MatchOption, vec_capacity};
+ghost use Rattle.std.specs.Prelude.{◌≡◌, ◌<◌, ◌≤◌, [], ℕ, List as Many, length, nat_lt, Some, IsTrue, ◌↔◌, MatchOption, vec_capacity};
 ghost use Rattle.step_journal.specs.declared.entry.Entry.{Entry as Noted};
 ghost use Rattle.step_journal.specs.Step.{plan as planning, ask as asking, idle as idling, step};
 ghost use Rattle.step_journal.specs.History.{event_of, entry_given, state_of};
@@ -93,13 +93,13 @@ fn made_idle<B: Board>(board: &mut B) -> Option<Entry>
 }
 
 /// The entry that the board makes at the event of this one, by the same call; None where the event is not legal.
-fn made<B: Board>(board: &mut B, entry: Entry) -> Option<Entry>
+fn made<B: Board>(board: &mut B, entry: &Entry) -> Option<Entry>
     requires { length (B.kept board.old) < B.room board.old }
-    ensures made { (story : Many Noted) → B.stands board.old story → result ≡ entry_given (step (B.set board.old) (state_of (B.set board.old) story) (event_of entry)) }
+    ensures made { (story : Many Noted) → B.stands board.old story → result ≡ entry_given (step (B.set board.old) (state_of (B.set board.old) story) (event_of entry.now)) }
     ensures after { (story : Many Noted) → B.stands board.old story → B.stands board.new (noted story result) }
     ensures fixed { (B.set board.new ≡ B.set board.old) × (B.room board.new ≡ B.room board.old) × (B.first board.new ≡ B.first board.old) }
 {
-    match entry {
+    match *entry {
         Entry::Planned { tx, tick } => made_plan(board, tx, tick),
         Entry::Step { job, op, .. } => made_step(board, job, op),
         Entry::Blocked { job, op, .. } => made_step(board, job, op),
@@ -108,14 +108,37 @@ fn made<B: Board>(board: &mut B, entry: Entry) -> Option<Entry>
 }
 
 // Whether it is this entry.
-fn is_this(made: Option<Entry>, entry: Entry) -> bool
-    ensures { IsTrue result ↔ (made ≡ Some entry) }
+fn is_this(made: Option<Entry>, entry: &Entry) -> bool
+    ensures { IsTrue result ↔ (made ≡ Some entry.now) }
 {
-    made == Some(entry)
+    match made {
+        Some(made) => made == *entry,
+        None => false,
+    }
+}
+
+// Lets go of the entries of a board that has room for no more.
+fn make_room<B: Board>(board: &mut B, spare: &mut Vec<Entry>)
+    requires some { 0 < B.room board.old }
+    requires kept { length (B.kept board.old) ≤ B.room board.old }
+    requires spare { spare.old.items ≡ [] }
+    requires place { 0 < vec_capacity spare.old }
+    ensures stands { (story : Many Noted) → B.stands board.old story → B.stands board.new story }
+    ensures fixed { (B.set board.new ≡ B.set board.old) × (B.room board.new ≡ B.room board.old) }
+    ensures kept { length (B.kept board.new) < B.room board.new }
+    ensures spare { spare.new.items ≡ [] }
+    ensures place { 0 < vec_capacity spare.new }
+{
+    let room = board.room();
+    if board.entries().len() < room {
+        return;
+    }
+    board.drain(room, spare);
+    spare.clear();
 }
 
 /// Makes the call of each entry again on a new board. The answer is the index of the first entry that the board does not make
-/// so, if there is one. The board keeps one entry at a time.
+/// so, if there is one. The board keeps as many entries at a time as it has room for.
 pub fn again<B: Board>(board: &mut B, entries: &[Entry], spare: &mut Vec<Entry>) -> Option<usize>
     requires stands { B.stands board.old [] }
     requires room { 0 < B.room board.old }
@@ -125,11 +148,10 @@ pub fn again<B: Board>(board: &mut B, entries: &[Entry], spare: &mut Vec<Entry>)
 {
     spare.clear();
     for (i, entry) in entries.iter().enumerate() {
-        if !is_this(made(board, *entry), *entry) {
+        if !is_this(made(board, entry), entry) {
             return Some(i);
         }
-        board.drain(1, spare);
-        spare.clear();
+        make_room(board, spare);
     }
     None
 }

@@ -52,7 +52,7 @@ pub fn last_items(alloc: Global, set: &CompiledSet, entries: &[Entry]) -> Result
     ensures items { IfOk result (λ items. items ≡ (state_of set.now entries.now).items) }
     ensures err { IfErr result (Explains set.now entries.now) }
 {
-    let mut spare = one_place(alloc)?;
+    let mut spare = places(alloc)?;
     let mut board = new_board(alloc, set)?;
     match again(&mut board, entries, &mut spare) {
         Some(index) => Err(ReplayError::NotLegal { index }),
@@ -83,20 +83,23 @@ pub fn replay(
     Ok(SerialResult { items, jobs })
 }
 
+// How many entries the board keeps at once.
+const AT_ONCE: usize = 256;
+
 // A board of the set at the opening state.
 fn new_board(alloc: Global, set: &CompiledSet) -> Result<Core, OutOfMemory>
-    ensures { IfOk result (λ b. (b.set ≡ set.now) × (b.journal.room ≡ 1) × Stands b []) }
+    ensures { IfOk result (λ b. (b.set ≡ set.now) × (b.journal.room ≡ 256) × Stands b []) }
 {
     let set = set.copy(alloc)?;
-    match Core::new(alloc, set, 1) {
+    match Core::new(alloc, set, AT_ONCE) {
         Ok(board) => Ok(board),
         Err((_, e)) => Err(e),
     }
 }
 
-// No entries, with a place for one.
-fn one_place(alloc: Global) -> Result<Vec<Entry>, OutOfMemory>
+// No entries, with places for as many as the board keeps at once.
+fn places(alloc: Global) -> Result<Vec<Entry>, OutOfMemory>
     ensures { IfOk result (λ v. 0 < vec_capacity v) }
 {
-    Ok(Vec::with_capacity(alloc, 1)?)
+    Ok(Vec::with_capacity(alloc, AT_ONCE)?)
 }

@@ -1,4 +1,4 @@
-use Rattle.std.proofs.Common.{◌≡◌, ◌-◌, ◌<◌, ◌∷◌, ◌++◌, [], Bool, true, false, ap, sym, ◌∙◌, subst, arith, length, take, get_or, length-append, vec_len, vec_capacity, List, Option, Some}
+use Rattle.std.proofs.Common.{◌≡◌, ◌∷◌, ◌++◌, [], Bool, true, false, sym, ◌∙◌, subst, arith, take, get_or, length-append, List, Option, Some}
 use Rattle.std.proofs.lemmas.List.{take_more}
 use Rattle.txn_set.specs.Set.{Set}
 use Rattle.step_journal.specs.declared.entry.Entry.{Entry}
@@ -6,7 +6,7 @@ use Rattle.step_journal.specs.declared.entry.Entry.TheVariants.{Planned}
 use Rattle.step_journal.specs.Step.{step}
 use Rattle.step_journal.specs.History.{event_of, entry_given, IsLegal, state_of}
 use Rattle.board.specs.Stories.{noted}
-use Rattle.serial_replay.proofs.Agains.{first_illegal, drained}
+use Rattle.serial_replay.proofs.Agains.{first_illegal}
 use Rattle.serial_replay.proofs.again.again.Goals as goal
 
 abbrev filler : Entry
@@ -26,6 +26,17 @@ returns-then-not-is_this-clause-answer g c =
     first_illegal (g.B.Board.set c.args.board.now) c.args.entries.now c.loop-i.i filler c.loop-i-test.true legal
     (λ so. clash c.is_this.result (c.is_this.ensures.1 (made ∙ so)) c.if-not-is_this.true)
 
+pub make_room-requires-clause-kept : goal.make_room-requires-clause-kept
+make_room-requires-clause-kept g c =
+    let inv = c.loop-i.invariant in
+    let story : List Entry = take c.loop-i.i c.args.entries.now in
+    let e : Entry = get_or c.args.entries.now c.loop-i.i filler in
+    let made : c.made.result ≡ Some e = c.is_this.ensures.0 c.if-not-is_this.false in
+    let stands = subst (λ (o : Option Entry). g.B.Board.stands c.made.new.board (noted story o)) made (c.made.ensures.after story inv.stands) in
+    let was = g.met.B.Board.is_story c.loop-i.board story inv.stands in
+    let is = g.met.B.Board.is_story c.made.new.board (story ++ e ∷ []) stands in
+    omega (arith, was.counted, is.counted, c.made.ensures.fixed.1, c.made.ensures.fixed.2, inv.kept, length-append story (e ∷ []))
+
 pub loop-i-preserved : goal.loop-i-preserved
 loop-i-preserved g c =
     let inv = c.loop-i.invariant in
@@ -34,15 +45,11 @@ loop-i-preserved g c =
     let more = take_more c.args.entries.now c.loop-i.i filler c.loop-i-test.true in
     let made : c.made.result ≡ Some e = c.is_this.ensures.0 c.if-not-is_this.false in
     let stands = subst (λ (o : Option Entry). g.B.Board.stands c.made.new.board (noted story o)) made (c.made.ensures.after story inv.stands) in
-    let was = g.met.B.Board.is_story c.loop-i.board story inv.stands in
-    let is = g.met.B.Board.is_story c.made.new.board (story ++ e ∷ []) stands in
-    let one : length (g.B.Board.kept c.made.new.board) ≡ 1 = omega (arith, was.counted, is.counted, c.made.ensures.fixed.2, ap length inv.kept, length-append story (e ∷ [])) in
-    let free : 0 < vec_capacity c.loop-i.spare - vec_len c.loop-i.spare = omega (arith, inv.place, ap length inv.spare, c.loop-i.spare.ok.0) in
     record {
-      stands = subst (g.B.Board.stands c.drain.new.self) (sym more) (c.drain.ensures.after (story ++ e ∷ []) stands);
-      set = c.drain.ensures.fixed.0 ∙ (c.made.ensures.fixed.0 ∙ inv.set);
-      room = c.drain.ensures.fixed.1 ∙ (c.made.ensures.fixed.1 ∙ inv.room);
-      kept = c.drain.ensures.left ∙ drained (g.B.Board.kept c.made.new.board) c.drain.result _ one free c.drain.ensures.count;
-      spare = c.clear-in-loop-i.ensures.items;
-      place = omega (arith, c.clear-in-loop-i.ensures.capacity, c.drain.ensures.places, inv.place);
+      stands = subst (g.B.Board.stands c.make_room.new.board) (sym more) (c.make_room.ensures.stands (story ++ e ∷ []) stands);
+      set = c.make_room.ensures.fixed.0 ∙ (c.made.ensures.fixed.0 ∙ inv.set);
+      room = c.make_room.ensures.fixed.1 ∙ (c.made.ensures.fixed.1 ∙ inv.room);
+      kept = c.make_room.ensures.kept;
+      spare = c.make_room.ensures.spare;
+      place = c.make_room.ensures.place;
     }
