@@ -5,6 +5,7 @@ mod analysis;
 mod reply;
 mod sets;
 mod status;
+mod unanswered;
 mod verdict;
 
 pub use analysis::{margins, rates};
@@ -14,4 +15,5 @@ pub use reply::{
 };
 pub use sets::{admitted, bounds, ceilings, compiled};
 pub use status::Status;
+pub use unanswered::Unanswered;
 pub use verdict::{REPORT_LIMIT, replayed};

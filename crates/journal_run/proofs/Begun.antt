@@ -40,7 +40,7 @@ use Rattle.durable_journal.specs.declared.log.LogError.TheVariants.{DiskFault, B
 use Rattle.journal_out.specs.Compared.{Begins, IsOtherRecord}
 use Rattle.journal_run.specs.Found.{IsFound, TakesUp, IsBadFor, Holds, RefusedAt}
 use Rattle.journal_run.specs.Ran.{HasOther}
-use Rattle.journal_run.specs.Replies.{first_eager, Unhurried, JournalReply, TookUp, HasBad, HoldsRun, Journaled, bad_line}
+use Rattle.journal_run.specs.Replies.{first_eager, Unhurried, JournalReply, TookUp, HasBad, HoldsRun, Journaled, LeavesDisk, bad_line}
 use Rattle.journal_run.specs.Plans.{IsCalm, IsBegunOf}
 use Rattle.journal_run.specs.Refused.{IsNamed, NamesRecord}
 
@@ -202,3 +202,16 @@ journal_reply s told status text calm h =
     subst (λ (o : Option CompileError). Compiling (Admitting (Unhurried (Journaled s told) s.names (first_eager s)) s.names (refusal (set_of s))) s.names o status text) (sym calm.compiles)
     (subst (λ (o : Option AdmitError). Admitting (Unhurried (Journaled s told) s.names (first_eager s)) s.names o status text) (sym calm.admits)
     (subst (λ (o : Option ℕ). Unhurried (Journaled s told) s.names o status text) (sym calm.none_eager) h))
+
+-- a run that was begun is answered Ok or names a bad record
+pub journaled_begun : (s : Shown) (told : Option (List ℕ)) (status : Status) (text : List ℕ) → Journaled s told status text → LeavesDisk status → ⊥
+journaled_begun s told statuses.Ok text h leaves = leaves
+journaled_begun s told statuses.Refused text h leaves = h
+journaled_begun s told statuses.Usage text h leaves = h
+journaled_begun s told statuses.ReadFault text h leaves = h
+journaled_begun s told statuses.WriteFault text h leaves = h
+journaled_begun s told statuses.OutOfMemory text h leaves = h
+journaled_begun s told statuses.TooLong text h leaves = h
+journaled_begun s told statuses.NotLegal text h leaves = h
+journaled_begun s told statuses.DiskFault text h leaves = h
+journaled_begun s told statuses.BadJournal text h leaves = leaves

@@ -1,5 +1,5 @@
 -- The status and the text of the answer of a run over a journal.
-use Rattle.std.specs.Prelude.{◌≡◌, ℕ, ◌<◌, List, ◌++◌, length, codes, decimal, Option, None, Some, IfSome, false}
+use Rattle.std.specs.Prelude.{◌≡◌, ℕ, ◌<◌, List, ◌++◌, length, codes, decimal, Option, None, Some, IfSome, false, ⊤}
 use Rattle.std.specs.List.{position}
 use Rattle.rt_base.specs.declared.name.Names.{Names}
 use Rattle.step_journal.specs.declared.entry.Entry.{Entry}
@@ -10,6 +10,7 @@ use Rattle.scenario.specs.Shown.{Shown, set_of}
 use Rattle.scenario.specs.Releases.{is_eager}
 use Rattle.workload_laws.specs.Runs.{workload_of}
 use Rattle.refusal_lines.specs.Causes.{txn}
+use Rattle.command_replies.specs.declared.status.Status.{Status}
 use Rattle.command_replies.specs.declared.status.Status.TheVariants as statuses
 use Rattle.command_replies.specs.Replies.{Reply, Refused, Compiling, Admitting}
 use Rattle.scenario_run.specs.Runs.{IsRunText}
@@ -56,6 +57,19 @@ abbrev pub JournalReply : Shown → Option (List ℕ) → Reply
 JournalReply s told =
     Compiling (Admitting (Unhurried (Journaled s told) s.names (first_eager s)) s.names (refusal (set_of s))) s.names
     (compile_refusal (set_of s))
+
+-- a status before which nothing was done to the disk
+abbrev pub LeavesDisk : Status → Type 0
+LeavesDisk statuses.Ok = ⊥
+LeavesDisk statuses.Refused = ⊤
+LeavesDisk statuses.Usage = ⊤
+LeavesDisk statuses.ReadFault = ⊤
+LeavesDisk statuses.WriteFault = ⊥
+LeavesDisk statuses.OutOfMemory = ⊥
+LeavesDisk statuses.TooLong = ⊤
+LeavesDisk statuses.NotLegal = ⊤
+LeavesDisk statuses.DiskFault = ⊥
+LeavesDisk statuses.BadJournal = ⊥
 
 -- a disk that tells holds the run of the scenario, and so does what a crash leaves of it
 pub record HoldsRun (s : Shown) (seen : Option (List ℕ)) (may_leave : List ℕ → Type 0) : Type 0 where

@@ -9,7 +9,5 @@ mod refusals;
 mod report;
 mod run;
 mod runner;
-mod stop;
 
 pub use run::run_journal;
-pub use stop::JournalStop;

@@ -14,7 +14,7 @@ ghost use Rattle.durable_journal.specs.Opened.{IfFull};
 ghost use Rattle.scenario_run.specs.Runs.{asked_by};
 ghost use Rattle.journal_run.specs.Ready.{CanRun, workload_in};
 ghost use Rattle.journal_run.specs.Plans.{IsPlan, HasBegun};
-ghost use Rattle.journal_run.specs.Replies.{JournalReply, Journaled, HoldsRun, bad_line};
+ghost use Rattle.journal_run.specs.Replies.{JournalReply, Journaled, HoldsRun, LeavesDisk, bad_line};
 ghost use Rattle.journal_run.specs.Refused.{IsNamed};
 
 use crate::beside::number_beside;
@@ -24,7 +24,6 @@ use crate::plan::{Plan, planned};
 use crate::refusals::bad_record;
 use crate::report::ended_report;
 use crate::runner::Runner;
-use crate::stop::JournalStop;
 use admitted_core::AdmittedCore;
 use board::Board;
 use command_replies::{Reply, Status, written};
@@ -32,6 +31,7 @@ use durable_disk::Disk;
 use durable_journal::LogError;
 use entry_out::KeptEntries;
 use rt_base::{Names, OutOfMemory};
+use run_fault::RunFault;
 use run_report::ReportWriter;
 use scenario::Scenario;
 use scenario_run::{BOARD_ROOM, Bodies};
@@ -95,9 +95,9 @@ fn equipped(alloc: Global, plan: Plan) -> Result<(Begun, Runner<AdmittedCore, Sc
 }
 
 // The reply that names a bad record.
-fn bad(alloc: Global, number: u64) -> Result<Reply, JournalStop>
+fn bad(alloc: Global, number: u64) -> Result<Reply, RunFault>
     ensures reply { IfOk result (λ r. (r.status ≡ Status.BadJournal) × (r.text.items ≡ bad_line number)) }
-    ensures memory { IsErrOf result JournalStop.Disk → ⊥ }
+    ensures memory { IsErrOf result RunFault.Writing → ⊥ }
 {
     Ok(bad_record(alloc, number)?)
 }
@@ -109,7 +109,7 @@ fn reported<B: Board>(
     set: &CompiledSet,
     report: (ReportWriter, Vec<u8>),
     history: &[Entry],
-) -> Result<Reply, JournalStop>
+) -> Result<Reply, RunFault>
     requires names { NamesSet names.now set.now }
     requires rows { Follows set.now report.0 [] }
     requires head { report.1.items ≡ opening_text names.now set.now true }
@@ -118,7 +118,7 @@ fn reported<B: Board>(
     requires stood { B.stands board history.now }
     requires same { B.set board ≡ set.now }
     ensures reply { IfOk result (λ r. (r.status ≡ Status.Ok) × (r.text.items ≡ report_of names.now set.now true history.now)) }
-    ensures memory { IsErrOf result JournalStop.Disk → ⊥ }
+    ensures memory { IsErrOf result RunFault.Writing → ⊥ }
 {
     let (items, _) = board.into_parts();
     Ok(written(ended_report(names, set, report, history, &items)?))
@@ -131,21 +131,21 @@ fn unopened<B: Board, Y: Body>(
     runner: &mut Runner<B, Y>,
     room: usize,
     error: LogError,
-) -> Result<Reply, JournalStop>
+) -> Result<Reply, RunFault>
     requires ready { CanRun B.stands B.set B.room Y.gives runner.old }
     requires places { (history : Many Noted) → IsSim (workload_in B.set Y.gives runner.old) history → length history < room }
     requires full { IfFull error (λ first. length first ≡ room) }
     ensures reply { IfOk result (λ r. IsNamed (workload_in B.set Y.gives runner.old) error r.status r.text.items) }
-    ensures fault { IsErrOf result JournalStop.Disk → error ≡ LogError.DiskFault }
+    ensures fault { IsErrOf result RunFault.Writing → error ≡ LogError.DiskFault }
 {
     match error {
-        LogError::DiskFault => Err(JournalStop::Disk),
+        LogError::DiskFault => Err(RunFault::Writing),
         LogError::BadRecord { number } => bad(alloc, number),
         LogError::Full { first, .. } => {
             let kept = KeptEntries::with_room(alloc, room)?;
             bad(alloc, number_beside(runner, kept, first.as_slice()))
         }
-        LogError::Stopped | LogError::OutOfMemory => Err(JournalStop::Memory),
+        LogError::Stopped | LogError::OutOfMemory => Err(RunFault::Memory),
     }
 }
 
@@ -154,12 +154,12 @@ fn run_over<B: Board + Drop, Y: Body + Drop, D: Disk>(
     begun: Begun,
     runner: Runner<B, Y>,
     disk: D,
-) -> (Result<Reply, JournalStop>, D)
+) -> (Result<Reply, RunFault>, D)
     requires ready { CanRun B.stands B.set B.room Y.gives runner }
     requires begun { (s : Shown) × HasBegun s (workload_in B.set Y.gives runner) begun }
     ensures reply { (s : Shown) → HasBegun s (workload_in B.set Y.gives runner) begun → IfOk result.0 (λ r. Journaled s (D.seen disk) r.status r.text.items) }
     ensures holds { (s : Shown) → HasBegun s (workload_in B.set Y.gives runner) begun → IfOk result.0 (λ r. r.status ≡ Status.Ok → HoldsRun s (D.seen result.1) (D.may_leave result.1)) }
-    ensures fault { IsErrOf result.0 JournalStop.Disk → Rose (D.faults disk) (D.faults result.1) }
+    ensures fault { IsErrOf result.0 RunFault.Writing → Rose (D.faults disk) (D.faults result.1) }
     ensures told { IfOk result.0 (λ r. r.status ≡ Status.Ok → (IsSome (D.seen disk) ↔ IsSome (D.seen result.1))) }
 {
     let Begun {
@@ -181,7 +181,7 @@ fn run_over<B: Board + Drop, Y: Body + Drop, D: Disk>(
             (reported(board, &names, &set, report, &history), disk)
         }
         Err(Halt::Other { number }) => (bad(alloc, number), disk),
-        Err(Halt::Fault) => (Err(JournalStop::Disk), disk),
+        Err(Halt::Fault) => (Err(RunFault::Writing), disk),
     }
 }
 
@@ -193,20 +193,22 @@ pub fn run_journal<D: Disk>(
     alloc: Global,
     scenario: Scenario,
     disk: D,
-) -> (Result<Reply, JournalStop>, D)
+) -> (Result<Reply, RunFault>, D)
     requires { IsScenario (shown scenario) }
     ensures reply { IfOk result.0 (λ r. JournalReply (shown scenario) (D.seen disk) r.status r.text.items) }
     ensures holds { IfOk result.0 (λ r. r.status ≡ Status.Ok → HoldsRun (shown scenario) (D.seen result.1) (D.may_leave result.1)) }
     // The disk's fault is told only where it counted one.
-    ensures fault { IsErrOf result.0 JournalStop.Disk → Rose (D.faults disk) (D.faults result.1) }
+    ensures fault { IsErrOf result.0 RunFault.Writing → Rose (D.faults disk) (D.faults result.1) }
     ensures told { IfOk result.0 (λ r. r.status ≡ Status.Ok → (IsSome (D.seen disk) ↔ IsSome (D.seen result.1))) }
+    // A scenario that is refused leaves the disk as it was.
+    ensures untouched { IfOk result.0 (λ r. LeavesDisk r.status → result.1 ≡ disk) }
 {
     match planned(alloc, scenario) {
         Ok(Ok(plan)) => match equipped(alloc, plan) {
             Ok((begun, runner)) => run_over(alloc, begun, runner, disk),
-            Err(_) => (Err(JournalStop::Memory), disk),
+            Err(_) => (Err(RunFault::Memory), disk),
         },
         Ok(Err(reply)) => (Ok(reply), disk),
-        Err(_) => (Err(JournalStop::Memory), disk),
+        Err(_) => (Err(RunFault::Memory), disk),
     }
 }

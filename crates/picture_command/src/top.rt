@@ -6,42 +6,24 @@ ghost use Rattle.picture_command.specs.Answers.{IsAnswer, Answers, IsDue};
 
 use crate::drawn::drawn;
 use crate::wanted::{Wanted, read_wanted};
-use command_replies::{REPORT_LIMIT, Reply, Status, refused};
+use command_replies::{REPORT_LIMIT, Reply, Status, Unanswered, refused};
 use command_words::Word;
 use io_edge::{ReadError, Sink, Source, read_all, write_all};
-use rt_base::OutOfMemory;
 use std::alloc::Global;
 
 const USAGE: &[u8] = b"usage: rtdb-picture [--from TICK --to TICK]\n";
 
-// Why no text was made.
-#[derive(Clone, Copy, PartialEq, Eq)]
-enum Stop {
-    Reading,
-    Memory,
-}
-
-impl From<OutOfMemory> for Stop {
-    ghost use Rattle.picture_command.specs.declared.top.Stop.TheVariants as stops;
-
-    ghost from_gives = { λ _ e. e ≡ stops.Memory };
-
-    fn from(_e: OutOfMemory) -> Stop {
-        Stop::Memory
-    }
-}
-
 // The reply to the report that is read.
-fn reply_to<S: Source>(alloc: Global, wanted: Wanted, source: &mut S) -> Result<Reply, Stop>
+fn reply_to<S: Source>(alloc: Global, wanted: Wanted, source: &mut S) -> Result<Reply, Unanswered>
     requires { IsEarly wanted }
     ensures said { IfOk result (λ r. IsAnswer (Some wanted) (S.left source.old) (S.left source.new) r.status r.text.items) }
-    ensures read { IsErrOf result Stop.Reading → Rose (S.faults source.old) (S.faults source.new) }
+    ensures read { IsErrOf result Unanswered.Reading → Rose (S.faults source.old) (S.faults source.new) }
 {
     match read_all(alloc, source, REPORT_LIMIT) {
         Ok(input) => Ok(drawn(alloc, &input, wanted)?),
         Err(ReadError::TooLong) => Ok(refused(alloc, Status::TooLong, b"TooLong")?),
-        Err(ReadError::ReadFault) => Err(Stop::Reading),
-        Err(ReadError::OutOfMemory) => Err(Stop::Memory),
+        Err(ReadError::ReadFault) => Err(Unanswered::Reading),
+        Err(ReadError::OutOfMemory) => Err(Unanswered::Memory),
     }
 }
 
@@ -56,8 +38,8 @@ fn answer<S: Source, K: Sink>(alloc: Global, wanted: Wanted, source: &mut S, sin
             Ok(()) => reply.status,
             Err(_) => Status::WriteFault,
         },
-        Err(Stop::Reading) => Status::ReadFault,
-        Err(Stop::Memory) => Status::OutOfMemory,
+        Err(Unanswered::Reading) => Status::ReadFault,
+        Err(Unanswered::Memory) => Status::OutOfMemory,
     }
 }
 

@@ -10,8 +10,8 @@ use Rattle.sim_run.specs.Workloads.{ticks_of}
 use Rattle.plant_report.specs.Kept.{Roomed, IsRefused, stops_of}
 use Rattle.plant_history.specs.Histories.{IsRunOf}
 use Rattle.eager_laws.proofs.Fits.{run_fits}
-use Rattle.plant_run.specs.declared.run.RunFault.{RunFault}
-use Rattle.plant_run.specs.declared.run.RunFault.TheVariants.{Stopped, Memory}
+use Rattle.run_fault.specs.declared.fault.RunFault.{RunFault}
+use Rattle.run_fault.specs.declared.fault.RunFault.TheVariants.{Writing, Memory}
 use Rattle.plant_run.specs.Runs.{IsWholeRun, IsStoppedRun}
 
 -- what an out of so much room got
@@ -51,6 +51,6 @@ kept_run w own room stands out out' fresh h =
     let is : out'.kept ≡ h.history = (h.grown [] fresh).1 in
     (subst (IsRunOf w own) (sym is) h.run, subst stands (sym is) h.stood)
 
-pub only_memory : (fault : RunFault) → (fault ≡ Stopped → ⊥) → fault ≡ Memory
-only_memory Stopped h = absurd (h refl)
+pub only_memory : (fault : RunFault) → (fault ≡ Writing → ⊥) → fault ≡ Memory
+only_memory Writing h = absurd (h refl)
 only_memory Memory h = refl

@@ -4,12 +4,12 @@ use Rattle.std.specs.Io.KnownBytes.{Appends}
 use Rattle.std.proofs.lemmas.List.{take-append-drop}
 use Rattle.io_edge.proofs.Known.{appends_then}
 use Rattle.rt_base.specs.declared.name.Names.{Names}
-use Rattle.txn_set.specs.Set.{IsCompiled}
+use Rattle.txn_set.specs.Set.{Set, IsCompiled}
 use Rattle.step_journal.specs.declared.entry.Entry.{Entry}
 use Rattle.sim_history.specs.Sim.{Workload, IsSim}
 use Rattle.sim_run.specs.Workloads.{AreAccepted, IsObedient}
 use Rattle.sim_run.proofs.Exist.{runs_are as runs}
-use Rattle.job_rows.specs.Upkeep.{RowsSeen}
+use Rattle.job_rows.specs.Upkeep.{RowsSeen, Follows}
 use Rattle.report_lines.specs.Texts.{entries_text}
 use Rattle.run_report.specs.Report.{opening_text}
 use Rattle.report_out.proofs.Texts.{appends_none}
@@ -17,6 +17,7 @@ use Rattle.plant_report.specs.Lines.{IsTextBy}
 use Rattle.report_out.specs.Written.{Wrote, WroteFront}
 use Rattle.plant_report.specs.Lines.{HasLines, HasFirstLines}
 use Rattle.report_out.specs.Written.{closing_of}
+use Rattle.plant_report.proofs.Handing.{on_err}
 
 module _ (names : Names) (admitted : Bool) (w : Workload) (head : List ℕ) (taken : Option (List ℕ)) (is_head : head ≡ opening_text names w.set admitted) where
   abbrev closing : List Entry → List ℕ
@@ -109,6 +110,26 @@ always_err (Err e) h = h
 pub on_ok : {A E : Type 0} {P Q : Type 0} (r : Result A E) → (P → Q) → OnOk r P → OnOk r Q
 on_ok (Ok x) f h = f h
 on_ok (Err e) f h = tt
+
+-- with closing lines that are written of a board's set
+
+module _ {A E : Type 0} (result : Result A E) (names : Names) (admitted : Bool) (w : Workload) (head : List ℕ) (taken mid then taken' : Option (List ℕ)) (is_head : head ≡ opening_text names w.set admitted)
+    (stands : List Entry → Type 0) (set : Set) (rows : RowsSeen) (lines : List ℕ) where
+  pub closed_whole : ((history : List Entry) → stands history → Follows set rows history → OnOk result (Appends then taken' (closing_of names set history)))
+      → set ≡ w.set → Appends taken mid head → HasLines w stands names rows lines mid then → OnOk result (Wrote (IsTextBy names admitted w) taken taken')
+  closed_whole all same first h =
+      on_ok result
+      (λ has. whole names admitted w head taken is_head stands mid rows lines then first h taken'
+      (subst (λ (s : Set). Appends then taken' (closing_of names s h.history)) same has))
+      (all h.history h.stood (subst (λ (s : Set). Follows s rows h.history) (sym same) h.follows))
+
+  pub closed_front : ((history : List Entry) → stands history → Follows set rows history → OnErr result ((n : ℕ) × Appends then taken' (take n (closing_of names set history))))
+      → set ≡ w.set → Appends taken mid head → HasLines w stands names rows lines mid then → OnErr result (WroteFront (IsTextBy names admitted w) taken taken')
+  closed_front all same first h =
+      on_err result
+      (λ has. in_closing names admitted w head taken is_head stands mid rows lines then first h taken' has.0
+      (subst (λ (s : Set). Appends then taken' (take has.0 (closing_of names s h.history))) same has.1))
+      (all h.history h.stood (subst (λ (s : Set). Follows s rows h.history) (sym same) h.follows))
 
 -- by names and bytes that are the same
 

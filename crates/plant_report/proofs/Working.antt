@@ -8,8 +8,8 @@ use Rattle.sim_history.specs.Sim.{Workload}
 use Rattle.report_out.specs.declared.standing.Standing.{Standing}
 use Rattle.report_out.specs.declared.standing.Standing.TheVariants.{Going, Full}
 use Rattle.report_out.specs.Outs.{Begun, OutSeen, IsLost, full_stops}
-use Rattle.plant_run.specs.declared.run.RunFault.{RunFault}
-use Rattle.plant_run.specs.declared.run.RunFault.TheVariants.{Stopped, Memory}
+use Rattle.run_fault.specs.declared.fault.RunFault.{RunFault}
+use Rattle.run_fault.specs.declared.fault.RunFault.TheVariants.{Writing, Memory}
 use Rattle.plant_run.specs.Runs.{IsCutShort}
 use Rattle.plant_report.specs.Lines.{HasFirstLines}
 use Rattle.plant_report.proofs.Handing.{Got, first_lines, sink_cause}
@@ -35,14 +35,14 @@ later_as old new before now e not later =
 
 -- by the answer
 
-pub any : {B P : Type 0} (r : Result B RunFault) → IfOk r (λ _. P) → (IsErrOf r Stopped → P) → (IsErrOf r Memory → P) → P
+pub any : {B P : Type 0} (r : Result B RunFault) → IfOk r (λ _. P) → (IsErrOf r Writing → P) → (IsErrOf r Memory → P) → P
 any (Ok b) ok s m = ok
-any (Err Stopped) ok s m = s refl
+any (Err Writing) ok s m = s refl
 any (Err Memory) ok s m = m refl
 
-pub any_err : {B P : Type 0} (r : Result B RunFault) → (IsErrOf r Stopped → P) → (IsErrOf r Memory → P) → OnErr r P
+pub any_err : {B P : Type 0} (r : Result B RunFault) → (IsErrOf r Writing → P) → (IsErrOf r Memory → P) → OnErr r P
 any_err (Ok b) s m = tt
-any_err (Err Stopped) s m = s refl
+any_err (Err Writing) s m = s refl
 any_err (Err Memory) s m = m refl
 
 pub map_ok : {B Q : Type 0} {P : B → Type 0} (r : Result B RunFault) → ((b : B) → P b → Q) → IfOk r P → IfOk r (λ _. Q)

@@ -9,14 +9,15 @@ ghost use Rattle.report_out.specs.declared.standing.Standing.TheVariants.{Going}
 ghost use Rattle.report_out.specs.Outs.{IsBegun};
 ghost use Rattle.report_out.specs.Opened.{IsOpened};
 ghost use Rattle.report_out.specs.Written.{WroteFront};
-ghost use Rattle.report_out.specs.declared.fault.RunFault.TheVariants.{Writing};
+ghost use Rattle.run_fault.specs.declared.fault.RunFault.TheVariants.{Writing};
 ghost use Rattle.plant_report.specs.Eager.{after_head};
 
 use board::Board;
 use entry_out::{EntryOut, Stopped};
 use io_edge::{Sink, write_all};
-use report_out::{Report, ReportOut, Reported, RunFault, write_closing};
+use report_out::{Report, ReportOut, Reported, write_closing};
 use rt_base::Names;
+use run_fault::RunFault;
 use run_report::ReportWriter;
 use std::marker::Brand;
 use step_journal::Entry;

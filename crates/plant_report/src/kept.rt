@@ -5,12 +5,13 @@ ghost use Rattle.counting_laws.specs.Counting.{room_of_jobs};
 ghost use Rattle.sim_run.specs.Workloads.{ticks_of};
 ghost use Rattle.plant_history.specs.Histories.{IsRunOf};
 ghost use Rattle.plant_run.specs.Ready.{CanRun, workload_in, own_in};
-ghost use Rattle.plant_run.specs.declared.run.RunFault.TheVariants as faults;
+ghost use Rattle.run_fault.specs.declared.fault.RunFault.TheVariants as faults;
 
 use board::Board;
 use entry_out::{EntryOut, Stopped, append};
-use plant_run::{Run, RunFault, run_workers};
+use plant_run::{Run, run_workers};
 use rt_base::OutOfMemory;
+use run_fault::RunFault;
 use std::alloc::Global;
 use std::marker::{Brand, PhantomData};
 use std::sync::Wait;
@@ -68,7 +69,7 @@ fn no_memory(fault: RunFault) -> OutOfMemory
 {
     match fault {
         RunFault::Memory => OutOfMemory,
-        RunFault::Stopped => unreachable!(),
+        RunFault::Writing => unreachable!(),
     }
 }
 

@@ -1,7 +1,6 @@
 //! A run by workers on a shared plant, whose report is written while it goes on.
 #![tactic(auto)]
 
-mod eager;
 mod history;
 mod kept;
 mod lines;

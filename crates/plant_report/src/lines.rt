@@ -6,25 +6,24 @@ ghost use Rattle.job_rows.specs.Upkeep.{Follows};
 ghost use Rattle.report_lines.specs.Texts.{NamesSet};
 ghost use Rattle.report_out.specs.declared.standing.Standing.TheVariants.{Going};
 ghost use Rattle.report_out.specs.Outs.{IsBegun};
-ghost use Rattle.report_out.specs.Opened.{IsOpened};
-ghost use Rattle.plant_run.specs.declared.run.RunFault.TheVariants as faults;
+ghost use Rattle.run_fault.specs.declared.fault.RunFault.TheVariants.{Writing};
 ghost use Rattle.plant_run.specs.Ready.{CanRun, workload_in, own_in};
 ghost use Rattle.plant_report.specs.Lines.{HasLines, HasFirstLines};
 
 use board::Board;
 use io_edge::Sink;
-use plant_run::{Run, RunFault, run_workers};
-use report_out::{Report, ReportOut, Reported};
-use run_report::ReportWriter;
+use plant_run::{Run, run_workers};
+use report_out::{ReportOut, Reported};
+use run_fault::RunFault;
 use std::alloc::Global;
-use std::marker::Brand;
 use std::sync::Wait;
 use std::thread::Threads;
 use step_script::Body;
 use txn_threads::Gate;
 
-// Runs a workload by workers on a new board. The lines of its entries go to the sink of the out as they come.
-fn run_lines<
+/// Runs a workload by workers on a new board. The lines of its entries go to the sink of the out as they come. Writing comes
+/// only where the sink counts a fault. It may wait.
+pub(crate) fn run_lines<
     R: Threads + Wait + Sync,
     B: Board + Send + Drop,
     Y: Body + Send + Drop,
@@ -42,60 +41,9 @@ fn run_lines<
     ensures same_sink { out.new.sink.ghost_name ≡ out.old.sink.ghost_name }
     ensures lines { IfOk result (λ b. HasLines (workload_in B.set Y.gives run.entry) (B.stands b) out.old.names.now out.new.writer out.new.lines.items (K.taken out.old.sink.now) (K.taken out.new.sink.now)) }
     ensures front { OnErr result (HasFirstLines (workload_in B.set Y.gives run.entry) out.old.names.now (K.taken out.old.sink.now) (K.taken out.new.sink.now)) }
-    ensures cause { IsErrOf result faults.Stopped → Rose (K.faults out.old.sink.now) (K.faults out.new.sink.now) }
+    ensures cause { IsErrOf result Writing → Rose (K.faults out.old.sink.now) (K.faults out.new.sink.now) }
     ensures later { K.faults out.old.sink.now ≤ K.faults out.new.sink.now }
     ensures set { IfOk result (λ b. B.set b ≡ B.set run.entry.board) }
 {
     run_workers(rt, alloc, run, gate, out)
-}
-
-/// Runs a workload by workers on a new board, and hands the lines of its entries to a sink as they come. The board is handed
-/// back, with the rows of the report and its place for lines. Stopped comes only where the sink counts a fault. It may wait.
-pub(crate) fn hand_lines<
-    R: Threads + Wait + Sync,
-    B: Board + Send + Drop,
-    Y: Body + Send + Drop,
-    G: Gate + Sync,
-    K: Sink,
->(
-    rt: &R,
-    alloc: Global,
-    run: Run<B, Y>,
-    report: Report,
-    gate: &G,
-    sink: &mut K,
-) -> Result<(B, ReportWriter, Vec<u8>), RunFault>
-    requires ready { CanRun B.stands B.set B.room Y.gives run }
-    requires none_eager { (tx : ℕ) → own_in run tx ≡ 0 }
-    requires opened { IsOpened (B.set run.board) report }
-    requires places { sum (map length run.ticks.now) ≤ report.writer.room }
-    ensures lines { IfOk result (λ r. HasLines (workload_in B.set Y.gives run.entry) (B.stands r.0) report.entry.names.now r.1 r.2.items (K.taken sink.old) (K.taken sink.new)) }
-    ensures front { OnErr result (HasFirstLines (workload_in B.set Y.gives run.entry) report.entry.names.now (K.taken sink.old) (K.taken sink.new)) }
-    ensures cause { IsErrOf result faults.Stopped → Rose (K.faults sink.old) (K.faults sink.new) }
-    ensures later { K.faults sink.old ≤ K.faults sink.new }
-    ensures set { IfOk result (λ r. B.set r.0 ≡ B.set run.entry.board) }
-{
-    let Report {
-        names,
-        admitted: _,
-        writer,
-        head: _,
-        lines,
-        entries: _,
-    } = report;
-    let mut out: ReportOut<K, Brand> = ReportOut::new(names, writer, lines, sink);
-    let ran = run_lines::<R, B, Y, G, K, Brand>(rt, alloc, run, gate, &mut out);
-    let ReportOut {
-        names: _,
-        writer,
-        lines,
-        bytes: _,
-        standing: _,
-        sink: _sink,
-        of: _,
-    } = out;
-    match ran {
-        Ok(board) => Ok((board, writer, lines)),
-        Err(fault) => Err(fault),
-    }
 }

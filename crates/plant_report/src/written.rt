@@ -6,36 +6,28 @@ ghost use Rattle.io_edge.specs.Causes.{Rose};
 ghost use Rattle.counting_laws.specs.Counting.{room_of_jobs};
 ghost use Rattle.sim_run.specs.Workloads.{ticks_of};
 ghost use Rattle.eager_laws.specs.Plannable.{own_jobs};
-ghost use Rattle.plant_run.specs.declared.run.RunFault.TheVariants as faults;
 ghost use Rattle.plant_run.specs.Ready.{CanRun, workload_in, own_in};
 ghost use Rattle.plant_run.specs.Runs.{own_at};
 ghost use Rattle.report_out.specs.Opened.{IsOpened};
 ghost use Rattle.report_out.specs.Written.{Wrote, WroteFront};
-ghost use Rattle.report_out.specs.declared.fault.RunFault.TheVariants.{Writing, Memory};
+ghost use Rattle.run_fault.specs.declared.fault.RunFault.TheVariants.{Writing, Memory};
 ghost use Rattle.plant_report.specs.Lines.{IsTextBy};
 ghost use Rattle.plant_report.specs.Eager.{IsRunTextBy};
 
-use crate::eager::write_kept;
-use crate::lines::hand_lines;
+use crate::history::write_history;
+use crate::kept::keep_run;
+use crate::lines::run_lines;
 use board::Board;
 use io_edge::{Sink, write_all};
-use plant_run::{Run, RunFault as PlantFault};
-use report_out::{Report, RunFault, write_closing};
+use plant_run::Run;
+use report_out::{Report, ReportOut, write_closing};
+use run_fault::RunFault;
 use std::alloc::Global;
+use std::marker::Brand;
 use std::sync::Wait;
 use std::thread::Threads;
 use step_script::Body;
 use txn_threads::Gate;
-
-// Why a report was not written whole, where its run was not.
-fn fault_of(fault: PlantFault) -> RunFault
-    ensures { result ≡ Writing → fault ≡ faults.Stopped }
-{
-    match fault {
-        PlantFault::Stopped => RunFault::Writing,
-        PlantFault::Memory => RunFault::Memory,
-    }
-}
 
 // Whether no transaction plans a job itself.
 fn none_own(own: &[u32]) -> bool
@@ -73,11 +65,29 @@ fn write_fixed<
     ensures fault { IsErrOf result Writing → Rose (K.faults sink.old) (K.faults sink.new) }
     ensures later { K.faults sink.old ≤ K.faults sink.new }
 {
-    let names = report.names;
-    write_all(sink, report.head.as_slice())?;
-    match hand_lines(rt, alloc, run, report, gate, sink) {
-        Ok((board, writer, lines)) => write_closing(board, names, writer, lines, sink),
-        Err(fault) => Err(fault_of(fault)),
+    let Report {
+        names,
+        admitted: _,
+        writer,
+        head,
+        lines,
+        entries: _,
+    } = report;
+    write_all(sink, head.as_slice())?;
+    let mut out: ReportOut<K, Brand> = ReportOut::new(names, writer, lines, sink);
+    let ran = run_lines::<R, B, Y, G, K, Brand>(rt, alloc, run, gate, &mut out);
+    let ReportOut {
+        names: _,
+        writer,
+        lines,
+        bytes: _,
+        standing: _,
+        sink: _sink,
+        of: _,
+    } = out;
+    match ran {
+        Ok(board) => write_closing(board, names, writer, lines, sink),
+        Err(fault) => Err(fault),
     }
 }
 
@@ -114,6 +124,7 @@ pub fn write_run<
     if none_own(run.own) {
         write_fixed(rt, alloc, run, report, gate, sink)
     } else {
-        write_kept(rt, alloc, run, report, gate, sink)
+        let (board, history) = keep_run(rt, alloc, run, report.entries, gate)?;
+        write_history(board, report, history.as_slice(), sink)
     }
 }

@@ -9,5 +9,5 @@ mod whole;
 mod work;
 
 pub use laws::fixed_runs;
-pub use run::{Run, RunFault};
+pub use run::Run;
 pub use whole::run_workers;

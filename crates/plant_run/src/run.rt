@@ -1,9 +1,5 @@
-//! What is run, and why it may have no whole history.
-ghost use Rattle.std.specs.Prelude.{◌≡◌};
-ghost use Rattle.plant_run.specs.declared.run.RunFault.TheVariants.{Memory};
-
-use entry_out::Stopped;
-use rt_base::{List, OutOfMemory, Tick};
+//! What is run.
+use rt_base::{List, Tick};
 use step_journal::Entry;
 use worker_count::Workers;
 
@@ -20,31 +16,4 @@ pub struct Run<'a, B, Y> {
     pub workers: Workers,
     /// A place for all entries that the board keeps; it holds none.
     pub spare: Vec<Entry>,
-}
-
-/// Why a run on a plant has no whole history.
-#[derive(Clone, Copy, Debug, PartialEq, Eq)]
-pub enum RunFault {
-    /// The out stopped.
-    Stopped,
-    /// A growth was refused.
-    Memory,
-}
-
-impl From<OutOfMemory> for RunFault {
-    ghost from_gives = { λ _ e. e ≡ Memory };
-
-    fn from(_e: OutOfMemory) -> RunFault {
-        RunFault::Memory
-    }
-}
-
-impl From<Stopped> for RunFault {
-    ghost use Rattle.plant_run.specs.declared.run.RunFault.TheVariants as faults;
-
-    ghost from_gives = { λ _ e. e ≡ faults.Stopped };
-
-    fn from(_e: Stopped) -> RunFault {
-        RunFault::Stopped
-    }
 }

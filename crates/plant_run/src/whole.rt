@@ -10,10 +10,11 @@ ghost use Rattle.plant_run.specs.Runs.{IsWholeRun, IsStoppedRun, IsShortRun};
 
 use crate::deal::Crew;
 use crate::laws::stories_are;
-use crate::run::{Run, RunFault};
+use crate::run::Run;
 use crate::work::{Staffed, work};
 use board::Board;
 use entry_out::EntryOut;
+use run_fault::RunFault;
 use sim_run::{hand_on, plan_all};
 use std::alloc::Global;
 use std::sync::Wait;
@@ -28,7 +29,7 @@ use txn_threads::Gate;
 /// run of the workload, and where no transaction is eager the one run, whatever the number of workers (`fixed_runs`). The
 /// board is handed back with none left in it. Each body begins anew. `gate` is told of each question to a body.
 ///
-/// Stopped comes only where the out stopped in this call: what it got, and after it what it lost, are how a run of the
+/// Writing comes only where the out stopped in this call: what it got, and after it what it lost, are how a run of the
 /// workload begins. Memory comes where a growth was refused, most of them before anything is planned: the out has then got
 /// the first entries of a run of the workload so far, and lost none. It may wait.
 pub fn run_workers<
@@ -45,9 +46,9 @@ pub fn run_workers<
     ensures left { IfOk result (λ b. B.kept b ≡ []) }
     ensures fixed { IfOk result (λ b. (B.set b ≡ B.set run.entry.board) × (B.room b ≡ B.room run.entry.board)) }
     ensures none_lost { IfOk result (λ _. O.lost out.new []) }
-    ensures stopped { IsErrOf result RunFault.Stopped → IsStoppedRun (workload_in B.set Y.gives run.entry) (own_in run.entry) (O.got out.old) (O.got out.new) (O.lost out.new) }
+    ensures stopped { IsErrOf result RunFault.Writing → IsStoppedRun (workload_in B.set Y.gives run.entry) (own_in run.entry) (O.got out.old) (O.got out.new) (O.lost out.new) }
     ensures short { IsErrOf result RunFault.Memory → IsShortRun (workload_in B.set Y.gives run.entry) (own_in run.entry) (O.got out.old) (O.got out.new) (O.lost out.new) }
-    ensures cause { IsErrOf result RunFault.Stopped → Rose (O.stops out.old) (O.stops out.new) }
+    ensures cause { IsErrOf result RunFault.Writing → Rose (O.stops out.old) (O.stops out.new) }
     ensures later { O.stops out.old ≤ O.stops out.new }
     ensures good { (story : Many Noted) → O.good out.old story → O.good out.new story }
 {

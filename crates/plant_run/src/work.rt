@@ -12,12 +12,13 @@ ghost use Rattle.plant_run.specs.Ready.{IsPlanned, workload_in, own_in};
 use crate::deal::Crew;
 use crate::gather::{closed, gather};
 use crate::laws::stories_are;
-use crate::run::{Run, RunFault};
+use crate::run::Run;
 use board::Board;
 use eager_laws::never_unplanned;
 use entry_out::EntryOut;
 use plant_history::{closed_so_far, closed_whole, no_refusal};
 use rt_base::{List, OutOfMemory, Tick};
+use run_fault::RunFault;
 use shared_plant::{Plant, Seat};
 use std::alloc::Global;
 use std::marker::Brand;
@@ -63,10 +64,10 @@ fn start<B: Board + Drop>(
 // Only the out stops a run of an obedient workload whose eager jobs can be planned.
 fn fault_of(stop: RunStop) -> RunFault
     requires { stop ≡ RunStop.Stopped }
-    ensures { result ≡ RunFault.Stopped }
+    ensures { result ≡ RunFault.Writing }
 {
     match stop {
-        RunStop::Stopped => RunFault::Stopped,
+        RunStop::Stopped => RunFault::Writing,
         _ => unreachable!(),
     }
 }
@@ -99,9 +100,9 @@ pub(crate) fn work<
     ensures worked { IfOk result (λ r. HasWorked (workload_in B.set Y.gives staffed.entry.run) (own_in staffed.entry.run) (B.stands r.0) (O.got out.old) (O.got out.new) (B.kept staffed.entry.run.board) (B.kept r.0)) }
     ensures fixed { IfOk result (λ r. (B.set r.0 ≡ B.set staffed.entry.run.board) × (B.room r.0 ≡ B.room staffed.entry.run.board)) }
     ensures none_lost { IfOk result (λ _. O.lost out.new []) }
-    ensures cut { IsErrOf result RunFault.Stopped → WasCut (workload_in B.set Y.gives staffed.entry.run) (own_in staffed.entry.run) (O.got out.old) (O.got out.new) (O.lost out.new) (B.kept staffed.entry.run.board) }
+    ensures cut { IsErrOf result RunFault.Writing → WasCut (workload_in B.set Y.gives staffed.entry.run) (own_in staffed.entry.run) (O.got out.old) (O.got out.new) (O.lost out.new) (B.kept staffed.entry.run.board) }
     ensures memory { IsErrOf result RunFault.Memory → out.new ≡ out.old }
-    ensures cause { IsErrOf result RunFault.Stopped → Rose (O.stops out.old) (O.stops out.new) }
+    ensures cause { IsErrOf result RunFault.Writing → Rose (O.stops out.old) (O.stops out.new) }
     ensures later { O.stops out.old ≤ O.stops out.new }
     ensures good { (story : Many Noted) → O.good out.old story → O.good out.new story }
     ensures spare { IfOk result (λ r. (r.1.items ≡ []) × (vec_capacity r.1 ≡ vec_capacity staffed.entry.run.spare)) }

@@ -7,10 +7,10 @@ ghost use Rattle.job_rows.specs.Upkeep.{Follows};
 ghost use Rattle.report_lines.specs.Texts.{NamesSet};
 ghost use Rattle.report_out.specs.Written.{closing_of};
 
-use crate::fault::RunFault;
 use board::Board;
 use io_edge::{Sink, write_all};
 use rt_base::Names;
+use run_fault::RunFault;
 use run_report::ReportWriter;
 
 /// Writes what stands after the entries in the report of a history: the history is one for which the board stands, and

@@ -4,14 +4,12 @@
 ghost use Rattle.report_out.specs.Laws.{AfterCut, AfterFull, HasFront};
 
 mod closing;
-mod fault;
 mod lines;
 mod out;
 mod report;
 mod standing;
 
 pub use closing::write_closing;
-pub use fault::RunFault;
 pub use out::{ReportOut, Reported};
 pub use report::Report;
 pub use standing::Standing;

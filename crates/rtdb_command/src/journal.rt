@@ -1,16 +1,17 @@
 //! The call for a journal.
 ghost use Rattle.std.specs.Prelude.{◌≡◌, ◌⊎◌, ◌↔◌, true, IfOk, IfErr, IsErrOf, IsSome, IsTrue};
 ghost use Rattle.io_edge.specs.Causes.{Rose};
+ghost use Rattle.journal_run.specs.Replies.{LeavesDisk};
 ghost use Rattle.rtdb_command.specs.Journals.{is_path as is_path_of, is_journal as is_journal_of, IsAnswerFor, JournalAnswers, HoldsFrom, IsGoodFor, IsMute};
 
 use crate::top::{answer_no_command, scenario_from};
-use command_replies::{Reply, Status};
+use command_replies::{Reply, Status, Unanswered};
 use command_words::Word;
 use durable_disk::Disk;
 use durable_journal::opened_again;
 use io_edge::{Sink, Source, write_all};
-use journal_run::{JournalStop, run_journal};
-use scenario_run::Stop;
+use journal_run::run_journal;
+use run_fault::RunFault;
 use sim_history::one_run_at_most;
 use std::alloc::Global;
 
@@ -33,25 +34,23 @@ pub fn is_journal(words: &[Word]) -> bool
     }
 }
 
-fn stopped_reading(stop: Stop) -> Status
-    requires { stop ≡ Stop.Writing → ⊥ }
-    ensures reading { result ≡ Status.ReadFault → stop ≡ Stop.Reading }
+fn unread(stop: Unanswered) -> Status
+    ensures reading { result ≡ Status.ReadFault → stop ≡ Unanswered.Reading }
     ensures memory { (result ≡ Status.ReadFault) ⊎ (result ≡ Status.OutOfMemory) }
 {
     match stop {
-        Stop::Reading => Status::ReadFault,
-        Stop::Writing => unreachable!(),
-        Stop::Memory => Status::OutOfMemory,
+        Unanswered::Reading => Status::ReadFault,
+        Unanswered::Memory => Status::OutOfMemory,
     }
 }
 
-fn stopped_running(stop: JournalStop) -> Status
-    ensures disk { result ≡ Status.DiskFault → stop ≡ JournalStop.Disk }
+fn unended(fault: RunFault) -> Status
+    ensures disk { result ≡ Status.DiskFault → fault ≡ RunFault.Writing }
     ensures memory { (result ≡ Status.DiskFault) ⊎ (result ≡ Status.OutOfMemory) }
 {
-    match stop {
-        JournalStop::Disk => Status::DiskFault,
-        JournalStop::Memory => Status::OutOfMemory,
+    match fault {
+        RunFault::Writing => Status::DiskFault,
+        RunFault::Memory => Status::OutOfMemory,
     }
 }
 
@@ -67,16 +66,18 @@ fn journal_reply<S: Source, D: Disk>(
     ensures read { IsErrOf result.0 Status.ReadFault → Rose (S.faults source.old) (S.faults source.new) }
     ensures fault { IsErrOf result.0 Status.DiskFault → Rose (D.faults disk) (D.faults result.1) }
     ensures told { IfOk result.0 (λ r. r.status ≡ Status.Ok → (IsSome (D.seen disk) ↔ IsSome (D.seen result.1))) }
+    ensures refused { IfOk result.0 (λ r. LeavesDisk r.status → result.1 ≡ disk) }
+    ensures unread { IfErr result.0 (λ status. LeavesDisk status → result.1 ≡ disk) }
 {
     let scenario = match scenario_from(alloc, source) {
         Ok(Ok(scenario)) => scenario,
         Ok(Err(reply)) => return (Ok(reply), disk),
-        Err(stop) => return (Err(stopped_reading(stop)), disk),
+        Err(stop) => return (Err(unread(stop)), disk),
     };
     let (ran, disk) = run_journal(alloc, scenario, disk);
     match ran {
         Ok(reply) => (Ok(reply), disk),
-        Err(stop) => (Err(stopped_running(stop)), disk),
+        Err(stop) => (Err(unended(stop)), disk),
     }
 }
 
@@ -100,6 +101,8 @@ pub fn rtdb_journal<S: Source, K: Sink, D: Disk>(
     ensures write { result.0 ≡ Status.WriteFault → Rose (K.faults sink.old) (K.faults sink.new) }
     ensures fault { result.0 ≡ Status.DiskFault → Rose (D.faults disk) (D.faults result.1) }
     ensures told { result.0 ≡ Status.Ok → (IsSome (D.seen disk) ↔ IsSome (D.seen result.1)) }
+    // With other words, an input that is not read or too long, or a scenario that is refused, the disk is as it was.
+    ensures untouched { LeavesDisk result.0 → result.1 ≡ disk }
     // What can be answered is, unless memory runs out.
     ensures complete { IsGoodFor (is_journal_of words.now) (D.seen disk) (S.left source.old)
         → ¬ Rose (S.faults source.old) (S.faults source.new) → ¬ Rose (K.faults sink.old) (K.faults sink.new)

@@ -12,16 +12,17 @@ ghost use Rattle.rtdb_command.specs.Replies.{names_in, names_of_forms, generated
 ghost use Rattle.rtdb_command.specs.Answers.{plain_command_of, IsAnswer, IsReadFrom, IsRefused, IsRefusedFrom, TakesNoInput, Told, CutShort, RanOut, Answers, IsGood};
 
 use command_replies::{
-    REPORT_LIMIT, Reply, Status, bounds, ceilings, margins, no_names, rates, refused,
+    REPORT_LIMIT, Reply, Status, Unanswered, bounds, ceilings, margins, no_names, rates, refused,
     refused_scenario, replayed, written,
 };
 use command_words::{Command, PlainCommand, Word, read_command};
 use io_edge::{ReadError, Sink, Source, read_all, write_all};
 use rt_base::{List, Names, OutOfMemory};
+use run_fault::RunFault;
 use scenario::Scenario;
 use scenario_forms::{FormError, Forms, ItemTable, TextError, TxnTable, read_forms, read_value};
 use scenario_reader::{ScenarioError, read_scenario};
-use scenario_run::{RunMode, Stop, load, run_scenario};
+use scenario_run::{load, run_admitted, run_trial};
 use scenario_writer::{generated, write_scenario};
 use std::alloc::Global;
 use std::sync::Wait;
@@ -95,31 +96,29 @@ fn judged(alloc: Global, input: &[u8]) -> Result<Result<Scenario, Reply>, OutOfM
 pub(crate) fn scenario_from<S: Source>(
     alloc: Global,
     source: &mut S,
-) -> Result<Result<Scenario, Reply>, Stop>
+) -> Result<Result<Scenario, Reply>, Unanswered>
     ensures scenario { IfOk result (λ r. IfOk r (λ s. IsReadFrom (S.left source.old) (S.left source.new) (shown s))) }
     ensures refused { IfOk result (λ r. IfErr r (λ p. IsRefusedFrom (S.left source.old) (S.left source.new) p.status p.text.items)) }
-    ensures read { IsErrOf result Stop.Reading → Rose (S.faults source.old) (S.faults source.new) }
-    ensures writing { IsErrOf result Stop.Writing → ⊥ }
+    ensures read { IsErrOf result Unanswered.Reading → Rose (S.faults source.old) (S.faults source.new) }
 {
     match read_all(alloc, source, SCENARIO_LIMIT) {
         Ok(input) => Ok(judged(alloc, &input)?),
         Err(ReadError::TooLong) => Ok(Err(refused(alloc, Status::TooLong, b"TooLong")?)),
-        Err(ReadError::ReadFault) => Err(Stop::Reading),
-        Err(ReadError::OutOfMemory) => Err(Stop::Memory),
+        Err(ReadError::ReadFault) => Err(Unanswered::Reading),
+        Err(ReadError::OutOfMemory) => Err(Unanswered::Memory),
     }
 }
 
 // The verdict on the report that is read.
-fn replay<S: Source>(alloc: Global, source: &mut S) -> Result<Reply, Stop>
+fn replay<S: Source>(alloc: Global, source: &mut S) -> Result<Reply, Unanswered>
     ensures said { IfOk result (λ r. IsAnswer (Some (Command.Plain PlainCommand.Replay)) (S.left source.old) (S.left source.new) r.status r.text.items) }
-    ensures read { IsErrOf result Stop.Reading → Rose (S.faults source.old) (S.faults source.new) }
-    ensures writing { IsErrOf result Stop.Writing → ⊥ }
+    ensures read { IsErrOf result Unanswered.Reading → Rose (S.faults source.old) (S.faults source.new) }
 {
     match read_all(alloc, source, REPORT_LIMIT) {
         Ok(input) => Ok(replayed(alloc, &input)?),
         Err(ReadError::TooLong) => Ok(refused(alloc, Status::TooLong, b"TooLong")?),
-        Err(ReadError::ReadFault) => Err(Stop::Reading),
-        Err(ReadError::OutOfMemory) => Err(Stop::Memory),
+        Err(ReadError::ReadFault) => Err(Unanswered::Reading),
+        Err(ReadError::OutOfMemory) => Err(Unanswered::Memory),
     }
 }
 
@@ -134,10 +133,9 @@ fn generate(alloc: Global, n: u32) -> Result<Reply, OutOfMemory>
     Ok(written(text))
 }
 
-fn ask_ceilings<S: Source>(alloc: Global, source: &mut S) -> Result<Reply, Stop>
+fn ask_ceilings<S: Source>(alloc: Global, source: &mut S) -> Result<Reply, Unanswered>
     ensures said { IfOk result (λ r. IsAnswer (Some (Command.Plain PlainCommand.Ceilings)) (S.left source.old) (S.left source.new) r.status r.text.items) }
-    ensures read { IsErrOf result Stop.Reading → Rose (S.faults source.old) (S.faults source.new) }
-    ensures writing { IsErrOf result Stop.Writing → ⊥ }
+    ensures read { IsErrOf result Unanswered.Reading → Rose (S.faults source.old) (S.faults source.new) }
 {
     match scenario_from(alloc, source)? {
         Ok(scenario) => Ok(ceilings(alloc, scenario)?),
@@ -145,10 +143,9 @@ fn ask_ceilings<S: Source>(alloc: Global, source: &mut S) -> Result<Reply, Stop>
     }
 }
 
-fn ask_bounds<S: Source>(alloc: Global, source: &mut S) -> Result<Reply, Stop>
+fn ask_bounds<S: Source>(alloc: Global, source: &mut S) -> Result<Reply, Unanswered>
     ensures said { IfOk result (λ r. IsAnswer (Some (Command.Plain PlainCommand.Admit)) (S.left source.old) (S.left source.new) r.status r.text.items) }
-    ensures read { IsErrOf result Stop.Reading → Rose (S.faults source.old) (S.faults source.new) }
-    ensures writing { IsErrOf result Stop.Writing → ⊥ }
+    ensures read { IsErrOf result Unanswered.Reading → Rose (S.faults source.old) (S.faults source.new) }
 {
     match scenario_from(alloc, source)? {
         Ok(scenario) => Ok(bounds(alloc, scenario)?),
@@ -156,10 +153,9 @@ fn ask_bounds<S: Source>(alloc: Global, source: &mut S) -> Result<Reply, Stop>
     }
 }
 
-fn ask_rates<S: Source>(alloc: Global, source: &mut S) -> Result<Reply, Stop>
+fn ask_rates<S: Source>(alloc: Global, source: &mut S) -> Result<Reply, Unanswered>
     ensures said { IfOk result (λ r. IsAnswer (Some (Command.Plain PlainCommand.Rates)) (S.left source.old) (S.left source.new) r.status r.text.items) }
-    ensures read { IsErrOf result Stop.Reading → Rose (S.faults source.old) (S.faults source.new) }
-    ensures writing { IsErrOf result Stop.Writing → ⊥ }
+    ensures read { IsErrOf result Unanswered.Reading → Rose (S.faults source.old) (S.faults source.new) }
 {
     match scenario_from(alloc, source)? {
         Ok(scenario) => Ok(rates(alloc, scenario)?),
@@ -167,10 +163,9 @@ fn ask_rates<S: Source>(alloc: Global, source: &mut S) -> Result<Reply, Stop>
     }
 }
 
-fn ask_margin<S: Source>(alloc: Global, source: &mut S) -> Result<Reply, Stop>
+fn ask_margin<S: Source>(alloc: Global, source: &mut S) -> Result<Reply, Unanswered>
     ensures said { IfOk result (λ r. IsAnswer (Some (Command.Plain PlainCommand.Margin)) (S.left source.old) (S.left source.new) r.status r.text.items) }
-    ensures read { IsErrOf result Stop.Reading → Rose (S.faults source.old) (S.faults source.new) }
-    ensures writing { IsErrOf result Stop.Writing → ⊥ }
+    ensures read { IsErrOf result Unanswered.Reading → Rose (S.faults source.old) (S.faults source.new) }
 {
     match scenario_from(alloc, source)? {
         Ok(scenario) => Ok(margins(alloc, scenario)?),
@@ -179,11 +174,14 @@ fn ask_margin<S: Source>(alloc: Global, source: &mut S) -> Result<Reply, Stop>
 }
 
 // The reply of a command that runs no workers.
-fn reply_to<S: Source>(alloc: Global, command: PlainCommand, source: &mut S) -> Result<Reply, Stop>
+fn reply_to<S: Source>(
+    alloc: Global,
+    command: PlainCommand,
+    source: &mut S,
+) -> Result<Reply, Unanswered>
     requires { IsInRange (Command.Plain command) }
     ensures said { IfOk result (λ r. IsAnswer (Some (Command.Plain command)) (S.left source.old) (S.left source.new) r.status r.text.items) }
-    ensures read { IsErrOf result Stop.Reading → Rose (S.faults source.old) (S.faults source.new) }
-    ensures writing { IsErrOf result Stop.Writing → ⊥ }
+    ensures read { IsErrOf result Unanswered.Reading → Rose (S.faults source.old) (S.faults source.new) }
     ensures unread { TakesNoInput (Some (Command.Plain command)) → source.new ≡ source.old }
 {
     match command {
@@ -213,9 +211,8 @@ fn answer_plain<S: Source, K: Sink>(
             Ok(()) => reply.status,
             Err(_) => Status::WriteFault,
         },
-        Err(Stop::Reading) => Status::ReadFault,
-        Err(Stop::Writing) => unreachable!(),
-        Err(Stop::Memory) => Status::OutOfMemory,
+        Err(Unanswered::Reading) => Status::ReadFault,
+        Err(Unanswered::Memory) => Status::OutOfMemory,
     }
 }
 
@@ -231,29 +228,6 @@ pub(crate) fn answer_no_command<K: Sink>(sink: &mut K) -> Status
     }
 }
 
-// Runs the scenario that is read: a reply that is to be written, or None after the report was written.
-fn run<R: Threads + Wait + Sync, S: Source, K: Sink, G: Gate + Sync>(
-    rt: &R,
-    alloc: Global,
-    mode: RunMode,
-    source: &mut S,
-    sink: &mut K,
-    gate: &G,
-) -> Result<Option<Reply>, Stop>
-    ensures said { IfOk result (λ o. IfSome o (λ r. IsAnswer (Some (Command.Run mode.trial mode.workers)) (S.left source.old) (S.left source.new) r.status r.text.items × (sink.new ≡ sink.old))) }
-    ensures whole { IfOk result (λ o. o ≡ None → Told (IsAnswer (Some (Command.Run mode.trial mode.workers)) (S.left source.old) (S.left source.new)) (K.taken sink.old) (K.taken sink.new) Status.Ok) }
-    ensures cut { IsErrOf result Stop.Writing → CutShort (IsAnswer (Some (Command.Run mode.trial mode.workers)) (S.left source.old) (S.left source.new)) (K.taken sink.old) (K.taken sink.new) }
-    ensures short { IsErrOf result Stop.Memory → Keeps (K.taken sink.old) (K.taken sink.new) ⊎ CutShort (IsAnswer (Some (Command.Run mode.trial mode.workers)) (S.left source.old) (S.left source.new)) (K.taken sink.old) (K.taken sink.new) }
-    ensures unread { IsErrOf result Stop.Reading → sink.new ≡ sink.old }
-    ensures read { IsErrOf result Stop.Reading → Rose (S.faults source.old) (S.faults source.new) }
-    ensures fault { IsErrOf result Stop.Writing → Rose (K.faults sink.old) (K.faults sink.new) }
-{
-    match scenario_from(alloc, source)? {
-        Ok(scenario) => run_scenario(rt, alloc, mode, scenario, sink, gate),
-        Err(reply) => Ok(Some(reply)),
-    }
-}
-
 fn answer_run<R: Threads + Wait + Sync, S: Source, K: Sink, G: Gate + Sync>(
     rt: &R,
     alloc: Global,
@@ -266,15 +240,37 @@ fn answer_run<R: Threads + Wait + Sync, S: Source, K: Sink, G: Gate + Sync>(
     ensures read { result ≡ Status.ReadFault → Rose (S.faults source.old) (S.faults source.new) }
     ensures write { result ≡ Status.WriteFault → Rose (K.faults sink.old) (K.faults sink.new) }
 {
-    match run(rt, alloc, mode, source, sink, gate) {
-        Ok(None) => Status::Ok,
-        Ok(Some(reply)) => match write_all(sink, &reply.text) {
-            Ok(()) => reply.status,
-            Err(_) => Status::WriteFault,
-        },
-        Err(Stop::Reading) => Status::ReadFault,
-        Err(Stop::Writing) => Status::WriteFault,
-        Err(Stop::Memory) => Status::OutOfMemory,
+    let scenario = match scenario_from(alloc, source) {
+        Ok(Ok(scenario)) => scenario,
+        Ok(Err(reply)) => {
+            return match write_all(sink, &reply.text) {
+                Ok(()) => reply.status,
+                Err(_) => Status::WriteFault,
+            };
+        }
+        Err(Unanswered::Reading) => return Status::ReadFault,
+        Err(Unanswered::Memory) => return Status::OutOfMemory,
+    };
+    if mode.trial {
+        match run_trial(rt, alloc, mode.workers, scenario, sink, gate) {
+            Ok(None) => Status::Ok,
+            Ok(Some(reply)) => match write_all(sink, &reply.text) {
+                Ok(()) => reply.status,
+                Err(_) => Status::WriteFault,
+            },
+            Err(RunFault::Writing) => Status::WriteFault,
+            Err(RunFault::Memory) => Status::OutOfMemory,
+        }
+    } else {
+        match run_admitted(rt, alloc, mode.workers, scenario, sink, gate) {
+            Ok(None) => Status::Ok,
+            Ok(Some(reply)) => match write_all(sink, &reply.text) {
+                Ok(()) => reply.status,
+                Err(_) => Status::WriteFault,
+            },
+            Err(RunFault::Writing) => Status::WriteFault,
+            Err(RunFault::Memory) => Status::OutOfMemory,
+        }
     }
 }
 
@@ -328,6 +324,13 @@ pub fn rtdb_plain<S: Source, K: Sink>(
         Ok(None) => answer_no_command(sink),
         Err(OutOfMemory) => Status::OutOfMemory,
     }
+}
+
+// How a scenario is run: on trial, or admitted, and by so many workers.
+#[derive(Clone, Copy)]
+struct RunMode {
+    trial: bool,
+    workers: Workers,
 }
 
 // So many workers.

@@ -126,7 +126,3 @@ pub text_as : (names names' : Names) (admitted admitted' : Bool) (w : Workload) 
     → IsRunTextBy names admitted w own text → IsRunTextBy names' admitted' w own text
 text_as names names' admitted admitted' w own text e f h =
     subst (λ (n : Names). IsRunTextBy n admitted' w own text) e (subst (λ (b : Bool). IsRunTextBy names b w own text) f h)
-
--- the stop and the fault behind it
-pub same_stop : {T E : Type 0} (a b : E) → IsErrOf {T = T} {E = E} (Err a) b → a ≡ b
-same_stop a b e = cc

@@ -4,10 +4,8 @@
 mod loading;
 mod making;
 mod run;
-mod stop;
 mod ticks;
 
 pub use loading::load;
 pub use making::{BOARD_ROOM, Bodies, prepared};
-pub use run::{RunMode, run_scenario};
-pub use stop::Stop;
+pub use run::{run_admitted, run_trial};

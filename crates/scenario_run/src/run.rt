@@ -8,13 +8,13 @@ ghost use Rattle.report_out.specs.Written.{Wrote, WroteFront};
 ghost use Rattle.scenario_run.specs.Replies.{RunReply, RunText};
 
 use crate::making::{BOARD_ROOM, Bodies, prepared, run_on};
-use crate::stop::{Stop, stop_of};
 use admitted_core::AdmittedCore;
 use command_replies::{Reply, admitted, compiled, refused_admission, refused_set};
 use io_edge::Sink;
 use lock_core::Core;
 use plant_report::write_run;
 use report_out::Report;
+use run_fault::RunFault;
 use scenario::Scenario;
 use std::alloc::Global;
 use std::sync::Wait;
@@ -22,30 +22,24 @@ use std::thread::Threads;
 use txn_threads::Gate;
 use worker_count::Workers;
 
-/// How a scenario is run.
-#[derive(Clone, Copy)]
-pub struct RunMode {
-    /// On trial, and not admitted.
-    pub trial: bool,
-    pub workers: Workers,
-}
-
-// Runs a scenario as a trial: the refusal that is to be written, or None after the report was written.
-fn trial<R: Threads + Wait + Sync, K: Sink, G: Gate + Sync>(
+/// Runs a scenario as a trial, by workers, and writes its report: its declarations as one piece, and later lines as they come,
+/// or, where a transaction is eager, when the run is over. Some is a refusal that is still to be written; None comes after
+/// the whole report was written. Writing comes only where the sink counts a fault. `gate` is told of each question to a
+/// script. It may wait.
+pub fn run_trial<R: Threads + Wait + Sync, K: Sink, G: Gate + Sync>(
     rt: &R,
     alloc: Global,
     workers: Workers,
     scenario: Scenario,
     sink: &mut K,
     gate: &G,
-) -> Result<Option<Reply>, Stop>
+) -> Result<Option<Reply>, RunFault>
     requires scenario { IsScenario (shown scenario) }
     ensures refused { IfOk result (λ o. IfSome o (λ r. RunReply true (shown scenario) r.status r.text.items × (sink.new ≡ sink.old))) }
     ensures whole { IfOk result (λ o. o ≡ None → Wrote (RunText true (shown scenario)) (K.taken sink.old) (K.taken sink.new)) }
-    ensures cut { IsErrOf result Stop.Writing → WroteFront (RunText true (shown scenario)) (K.taken sink.old) (K.taken sink.new) }
-    ensures short { IsErrOf result Stop.Memory → Keeps (K.taken sink.old) (K.taken sink.new) ⊎ WroteFront (RunText true (shown scenario)) (K.taken sink.old) (K.taken sink.new) }
-    ensures fault { IsErrOf result Stop.Writing → Rose (K.faults sink.old) (K.faults sink.new) }
-    ensures reading { IsErrOf result Stop.Reading → ⊥ }
+    ensures cut { IsErrOf result RunFault.Writing → WroteFront (RunText true (shown scenario)) (K.taken sink.old) (K.taken sink.new) }
+    ensures short { IsErrOf result RunFault.Memory → Keeps (K.taken sink.old) (K.taken sink.new) ⊎ WroteFront (RunText true (shown scenario)) (K.taken sink.old) (K.taken sink.new) }
+    ensures fault { IsErrOf result RunFault.Writing → Rose (K.faults sink.old) (K.faults sink.new) }
 {
     let Scenario {
         names,
@@ -64,7 +58,7 @@ fn trial<R: Threads + Wait + Sync, K: Sink, G: Gate + Sync>(
     let jobs = bodies.jobs();
     let report = Report::begin(alloc, &names, &set, None, jobs, room)?;
     let Ok(board) = Core::new(alloc, set, BOARD_ROOM) else {
-        return Err(Stop::Memory);
+        return Err(RunFault::Memory);
     };
     let Bodies {
         scripts,
@@ -72,28 +66,25 @@ fn trial<R: Threads + Wait + Sync, K: Sink, G: Gate + Sync>(
         own,
     } = bodies;
     let run = run_on(alloc, board, scripts, &ticks, &own, workers)?;
-    match write_run(rt, alloc, run, report, gate, sink) {
-        Ok(()) => Ok(None),
-        Err(fault) => Err(stop_of(fault)),
-    }
+    write_run(rt, alloc, run, report, gate, sink)?;
+    Ok(None)
 }
 
-// Runs a scenario as admitted, in the same way.
-fn admitted_run<R: Threads + Wait + Sync, K: Sink, G: Gate + Sync>(
+/// Runs a scenario as admitted, in the same way.
+pub fn run_admitted<R: Threads + Wait + Sync, K: Sink, G: Gate + Sync>(
     rt: &R,
     alloc: Global,
     workers: Workers,
     scenario: Scenario,
     sink: &mut K,
     gate: &G,
-) -> Result<Option<Reply>, Stop>
+) -> Result<Option<Reply>, RunFault>
     requires scenario { IsScenario (shown scenario) }
     ensures refused { IfOk result (λ o. IfSome o (λ r. RunReply false (shown scenario) r.status r.text.items × (sink.new ≡ sink.old))) }
     ensures whole { IfOk result (λ o. o ≡ None → Wrote (RunText false (shown scenario)) (K.taken sink.old) (K.taken sink.new)) }
-    ensures cut { IsErrOf result Stop.Writing → WroteFront (RunText false (shown scenario)) (K.taken sink.old) (K.taken sink.new) }
-    ensures short { IsErrOf result Stop.Memory → Keeps (K.taken sink.old) (K.taken sink.new) ⊎ WroteFront (RunText false (shown scenario)) (K.taken sink.old) (K.taken sink.new) }
-    ensures fault { IsErrOf result Stop.Writing → Rose (K.faults sink.old) (K.faults sink.new) }
-    ensures reading { IsErrOf result Stop.Reading → ⊥ }
+    ensures cut { IsErrOf result RunFault.Writing → WroteFront (RunText false (shown scenario)) (K.taken sink.old) (K.taken sink.new) }
+    ensures short { IsErrOf result RunFault.Memory → Keeps (K.taken sink.old) (K.taken sink.new) ⊎ WroteFront (RunText false (shown scenario)) (K.taken sink.old) (K.taken sink.new) }
+    ensures fault { IsErrOf result RunFault.Writing → Rose (K.faults sink.old) (K.faults sink.new) }
 {
     let Scenario {
         names,
@@ -116,7 +107,7 @@ fn admitted_run<R: Threads + Wait + Sync, K: Sink, G: Gate + Sync>(
     let jobs = bodies.jobs();
     let report = Report::begin(alloc, &names, set.set(), Some(&set), jobs, room)?;
     let Ok(board) = AdmittedCore::new(alloc, set, BOARD_ROOM) else {
-        return Err(Stop::Memory);
+        return Err(RunFault::Memory);
     };
     let Bodies {
         scripts,
@@ -124,34 +115,6 @@ fn admitted_run<R: Threads + Wait + Sync, K: Sink, G: Gate + Sync>(
         own,
     } = bodies;
     let run = run_on(alloc, board, scripts, &ticks, &own, workers)?;
-    match write_run(rt, alloc, run, report, gate, sink) {
-        Ok(()) => Ok(None),
-        Err(fault) => Err(stop_of(fault)),
-    }
-}
-
-/// Runs a scenario, as a trial or admitted, by workers, and writes its report: its declarations as one piece, and later lines
-/// as they come, or, where a transaction is eager, when the run is over. Some is a refusal that is still to be written; None
-/// comes after the whole report was written. `gate` is told of each question to a script. It may wait.
-pub fn run_scenario<R: Threads + Wait + Sync, K: Sink, G: Gate + Sync>(
-    rt: &R,
-    alloc: Global,
-    mode: RunMode,
-    scenario: Scenario,
-    sink: &mut K,
-    gate: &G,
-) -> Result<Option<Reply>, Stop>
-    requires scenario { IsScenario (shown scenario) }
-    ensures refused { IfOk result (λ o. IfSome o (λ r. RunReply mode.trial (shown scenario) r.status r.text.items × (sink.new ≡ sink.old))) }
-    ensures whole { IfOk result (λ o. o ≡ None → Wrote (RunText mode.trial (shown scenario)) (K.taken sink.old) (K.taken sink.new)) }
-    ensures cut { IsErrOf result Stop.Writing → WroteFront (RunText mode.trial (shown scenario)) (K.taken sink.old) (K.taken sink.new) }
-    ensures short { IsErrOf result Stop.Memory → Keeps (K.taken sink.old) (K.taken sink.new) ⊎ WroteFront (RunText mode.trial (shown scenario)) (K.taken sink.old) (K.taken sink.new) }
-    ensures fault { IsErrOf result Stop.Writing → Rose (K.faults sink.old) (K.faults sink.new) }
-    ensures reading { IsErrOf result Stop.Reading → ⊥ }
-{
-    if mode.trial {
-        trial(rt, alloc, mode.workers, scenario, sink, gate)
-    } else {
-        admitted_run(rt, alloc, mode.workers, scenario, sink, gate)
-    }
+    write_run(rt, alloc, run, report, gate, sink)?;
+    Ok(None)
 }

@@ -2,7 +2,7 @@ use Rattle.scenario.specs.Shown.{Shown, shown}
 use Rattle.command_replies.specs.declared.reply.Reply.{Reply}
 use Rattle.command_replies.proofs.Replying.{taken}
 use Rattle.scenario_run.proofs.Summaries.{refused_by}
-use Rattle.journal_run.proofs.Begun.{journal_reply, if_ok_map}
+use Rattle.journal_run.proofs.Begun.{journal_reply, journaled_begun, if_ok_map}
 use Rattle.journal_run.proofs.run.run_journal.Goals as goal
 
 pub run_over-requires-clause-begun : goal.run_over-requires-clause-begun
@@ -23,3 +23,9 @@ returns-in-Ok-clause-holds g c =
 
 pub returns-in-Ok-Err-clause-reply : goal.returns-in-Ok-Err-clause-reply
 returns-in-Ok-Err-clause-reply g c = (refused_by _ _ _ c.in-Ok-Err.field-0-is c.in-Ok-Err.ensures.refused).1 (g.D.Disk.seen c.args.disk)
+
+pub returns-in-Ok-clause-untouched : goal.returns-in-Ok-clause-untouched
+returns-in-Ok-clause-untouched g c =
+    let s : Shown = shown c.args.scenario in
+    let begun = c.in-Ok.ensures.begun s (taken _ _ _ c.in-Ok-Ok.field-0-is c.in-Ok-Ok.ensures.plan) in
+    if_ok_map c.run_over.result.0 (λ (r : Reply) h. λ leaves. absurd (journaled_begun s (g.D.Disk.seen c.args.disk) r.status r.text.items h leaves)) (c.run_over.ensures.reply s begun)

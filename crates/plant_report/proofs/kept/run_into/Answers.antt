@@ -4,7 +4,7 @@ use Rattle.counting_laws.specs.Counting.{room_of_jobs}
 use Rattle.sim_history.specs.Sim.{Workload}
 use Rattle.sim_run.specs.Workloads.{workload, ticks_of}
 use Rattle.plant_report.specs.Kept.{Roomed}
-use Rattle.plant_run.specs.declared.run.RunFault.TheVariants.{Stopped}
+use Rattle.run_fault.specs.declared.fault.RunFault.TheVariants.{Writing}
 use Rattle.plant_run.specs.Runs.{own_at}
 use Rattle.plant_report.proofs.Keeping.{never_stops, kept_run, only_memory}
 use Rattle.plant_report.proofs.kept.run_into.Goals as goal
@@ -18,7 +18,7 @@ no_memory-requires g c =
     let out' : Roomed = record { room = q.room; kept = q.entries.items; full = q.full } in
     let fits : room_of_jobs w.set.txns (λ tx. length (ticks_of w.releases tx) + own_at c.args.run.own.now tx) ≤ g.T.Roomy.room =
     subst (λ (n : ℕ). room_of_jobs w.set.txns (λ tx. length (ticks_of w.releases tx) + own_at c.args.run.own.now tx) ≤ n) c.requires.fresh.0 c.requires.entries in
-    only_memory c.in-Err.fault (λ e. (let is : IsErrOf c.run_workers.result Stopped = c.in-Err.is ∙ ap Err e in
+    only_memory c.in-Err.fault (λ e. (let is : IsErrOf c.run_workers.result Writing = c.in-Err.is ∙ ap Err e in
     never_stops w (own_at c.args.run.own.now) g.T.Roomy.room out out' c.requires.compiled (c.requires.fresh.0, c.requires.fresh.1) c.requires.fresh.2 fits
     (c.run_workers.ensures.stopped is) (c.run_workers.ensures.cause is)))
 

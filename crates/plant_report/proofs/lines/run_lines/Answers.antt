@@ -7,7 +7,7 @@ use Rattle.report_out.specs.declared.standing.Standing.TheVariants.{Full}
 use Rattle.report_out.specs.Outs.{Begun, OutSeen, seen}
 use Rattle.report_out.proofs.Taking.{opens, goes}
 use Rattle.report_out.proofs.Pieces.{fronts_legal}
-use Rattle.plant_run.specs.declared.run.RunFault.TheVariants.{Stopped, Memory}
+use Rattle.run_fault.specs.declared.fault.RunFault.TheVariants.{Writing, Memory}
 use Rattle.plant_run.specs.Runs.{own_at}
 use Rattle.plant_run.proofs.Fixed.{whole_is_sim, stopped_is_sim, short_is_sim}
 use Rattle.plant_report.proofs.Handing.{has_lines, stopped_lines, not_full}
@@ -63,7 +63,7 @@ returns-clause-front g c =
     c.requires.begun c.requires.fresh.0 c.requires.fresh.1 c.requires.fresh.2 c.requires.one_each c.requires.rows in
     let set : g.T.Reported.begun.set ≡ w.set = ap (λ (b : Begun). b.set) c.requires.begun in
     let places : sum (map length c.args.run.ticks.now) ≤ g.T.Reported.begun.room = subst (λ (n : ℕ). sum (map length c.args.run.ticks.now) ≤ n) (sym (ap (λ (b : Begun). b.room) c.requires.begun)) c.requires.places in
-    let stopped = λ (e : IsErrOf c.run_workers.result Stopped). stopped_lines g.T.Reported.begun w out set _ q.sink.ghost_name places opened
+    let stopped = λ (e : IsErrOf c.run_workers.result Writing). stopped_lines g.T.Reported.begun w out set _ q.sink.ghost_name places opened
     (stopped_is_sim w (own_at c.args.run.own.now) _ _ _ c.requires.rows.compiled c.requires.ready.obedient c.requires.none_eager (c.run_workers.ensures.stopped e)) in
     let short = λ (e : IsErrOf c.run_workers.result Memory). short_lines g.T.Reported.begun w out set _ q.sink.ghost_name places opened
     (short_is_sim w (own_at c.args.run.own.now) _ _ _ c.requires.rows.compiled c.requires.ready.obedient c.requires.none_eager (c.run_workers.ensures.short e)) in
@@ -81,7 +81,7 @@ returns-clause-cause g c = λ e.
     c.requires.begun c.requires.fresh.0 c.requires.fresh.1 c.requires.fresh.2 c.requires.one_each c.requires.rows in
     let set : g.T.Reported.begun.set ≡ w.set = ap (λ (b : Begun). b.set) c.requires.begun in
     let places : sum (map length c.args.run.ticks.now) ≤ g.T.Reported.begun.room = subst (λ (n : ℕ). sum (map length c.args.run.ticks.now) ≤ n) (sym (ap (λ (b : Begun). b.room) c.requires.begun)) c.requires.places in
-    let stopped = λ (e : IsErrOf c.run_workers.result Stopped). stopped_lines g.T.Reported.begun w out set _ q.sink.ghost_name places opened
+    let stopped = λ (e : IsErrOf c.run_workers.result Writing). stopped_lines g.T.Reported.begun w out set _ q.sink.ghost_name places opened
     (stopped_is_sim w (own_at c.args.run.own.now) _ _ _ c.requires.rows.compiled c.requires.ready.obedient c.requires.none_eager (c.run_workers.ensures.stopped e)) in
     let short = λ (e : IsErrOf c.run_workers.result Memory). short_lines g.T.Reported.begun w out set _ q.sink.ghost_name places opened
     (short_is_sim w (own_at c.args.run.own.now) _ _ _ c.requires.rows.compiled c.requires.ready.obedient c.requires.none_eager (c.run_workers.ensures.short e)) in
@@ -97,7 +97,7 @@ returns-clause-later g c =
     c.requires.begun c.requires.fresh.0 c.requires.fresh.1 c.requires.fresh.2 c.requires.one_each c.requires.rows in
     let set : g.T.Reported.begun.set ≡ w.set = ap (λ (b : Begun). b.set) c.requires.begun in
     let places : sum (map length c.args.run.ticks.now) ≤ g.T.Reported.begun.room = subst (λ (n : ℕ). sum (map length c.args.run.ticks.now) ≤ n) (sym (ap (λ (b : Begun). b.room) c.requires.begun)) c.requires.places in
-    let stopped = λ (e : IsErrOf c.run_workers.result Stopped). stopped_lines g.T.Reported.begun w out set _ q.sink.ghost_name places opened
+    let stopped = λ (e : IsErrOf c.run_workers.result Writing). stopped_lines g.T.Reported.begun w out set _ q.sink.ghost_name places opened
     (stopped_is_sim w (own_at c.args.run.own.now) _ _ _ c.requires.rows.compiled c.requires.ready.obedient c.requires.none_eager (c.run_workers.ensures.stopped e)) in
     let short = λ (e : IsErrOf c.run_workers.result Memory). short_lines g.T.Reported.begun w out set _ q.sink.ghost_name places opened
     (short_is_sim w (own_at c.args.run.own.now) _ _ _ c.requires.rows.compiled c.requires.ready.obedient c.requires.none_eager (c.run_workers.ensures.short e)) in

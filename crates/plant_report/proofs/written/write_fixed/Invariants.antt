@@ -1,4 +1,4 @@
-use Rattle.plant_report.proofs.lines.hand_lines.Given as goal
+use Rattle.plant_report.proofs.written.write_fixed.Given as goal
 
 abbrev pub ghosts-run_lines : goal.ghosts-run_lines
 ghosts-run_lines g a = record {

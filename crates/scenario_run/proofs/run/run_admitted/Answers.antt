@@ -14,9 +14,9 @@ use Rattle.command_replies.proofs.Replying.{taken}
 use Rattle.plant_run.specs.Runs.{own_at}
 use Rattle.scenario_run.specs.Runs.{Declares, functions_of}
 use Rattle.scenario_run.specs.Replies.{RunText}
-use Rattle.scenario_run.proofs.Ready.{text_of, text_as, room_is, places_for, own_few, same_stop}
+use Rattle.scenario_run.proofs.Ready.{text_of, text_as, room_is, places_for, own_few}
 use Rattle.scenario_run.proofs.Replying.{admitted_reply}
-use Rattle.scenario_run.proofs.run.admitted_run.Goals as goal
+use Rattle.scenario_run.proofs.run.run_admitted.Goals as goal
 
 pub jobs-jobs-requires-clause-eager : goal.jobs-jobs-requires-clause-eager
 jobs-jobs-requires-clause-eager g c = own_few _ _ _ _ c.in_ok-bodies.ensures.ready
@@ -55,8 +55,8 @@ write_run-requires-clause-entries g c κs within =
     let low = room_is run.board.board.set c.args.scenario.scripts c.args.scenario.releases d run.bodies.items run.ticks.now run.own.now scripts ticks own in
     subst (λ (n : ℕ). room_of_jobs run.board.board.set.txns (λ tx. length (ticks_of run.ticks.now tx) + own_at run.own.now tx) ≤ n) (sym c.in_ok-report.ensures.parts.3) low
 
-pub returns-in-Ok-write_run-clause-whole : goal.returns-in-Ok-write_run-clause-whole
-returns-in-Ok-write_run-clause-whole g c = λ done.
+pub returns-clause-whole : goal.returns-clause-whole
+returns-clause-whole g c = λ done.
     let s : Shown = shown c.args.scenario in
     let run = c.in_ok-run.run' in
     let set_is : c.in-Ok.set ≡ set_of s = taken c.in_ok-set.field-0 c.in-Ok.set (λ set. set ≡ set_of s) c.in-Ok.is c.in_ok-set.ensures.set in
@@ -79,10 +79,10 @@ returns-in-Ok-write_run-clause-whole g c = λ done.
     (text_of s.names true run.board.board.set c.args.scenario.scripts c.args.scenario.releases d run.bodies.items run.ticks.now run.own.now text scripts ticks own
     (text_as c.in_ok-report.report.names.now s.names c.in_ok-report.report.admitted true (workload run.board.board.set (functions_of run.bodies.items) run.ticks.now) (own_at run.own.now) text
     c.in_ok-report.ensures.parts.0 c.in_ok-report.ensures.parts.1 h)))
-    c.in-Ok-write_run.ensures.whole
+    c.in_ok-write_run.ensures.whole
 
-pub returns-clause-cut : goal.returns-clause-cut
-returns-clause-cut g c = λ is.
+pub returns-in_err-write_run-clause-cut : goal.returns-in_err-write_run-clause-cut
+returns-in_err-write_run-clause-cut g c = λ is.
     let s : Shown = shown c.args.scenario in
     let run = c.in_ok-run.run' in
     let set_is : c.in-Ok.set ≡ set_of s = taken c.in_ok-set.field-0 c.in-Ok.set (λ set. set ≡ set_of s) c.in-Ok.is c.in_ok-set.ensures.set in
@@ -105,10 +105,10 @@ returns-clause-cut g c = λ is.
     (text_of s.names true run.board.board.set c.args.scenario.scripts c.args.scenario.releases d run.bodies.items run.ticks.now run.own.now text scripts ticks own
     (text_as c.in_ok-report.report.names.now s.names c.in_ok-report.report.admitted true (workload run.board.board.set (functions_of run.bodies.items) run.ticks.now) (own_at run.own.now) text
     c.in_ok-report.ensures.parts.0 c.in_ok-report.ensures.parts.1 h)))
-    (c.in-Err-write_run.ensures.cut (ap Err (c.stop_of.ensures.writing (same_stop _ _ is))))
+    (c.in_err-write_run.ensures.cut (search rules))
 
-pub returns-clause-short : goal.returns-clause-short
-returns-clause-short g c = λ is.
+pub returns-in_err-write_run-clause-short : goal.returns-in_err-write_run-clause-short
+returns-in_err-write_run-clause-short g c = λ is.
     let s : Shown = shown c.args.scenario in
     let run = c.in_ok-run.run' in
     let set_is : c.in-Ok.set ≡ set_of s = taken c.in_ok-set.field-0 c.in-Ok.set (λ set. set ≡ set_of s) c.in-Ok.is c.in_ok-set.ensures.set in
@@ -131,4 +131,4 @@ returns-clause-short g c = λ is.
     (text_of s.names true run.board.board.set c.args.scenario.scripts c.args.scenario.releases d run.bodies.items run.ticks.now run.own.now text scripts ticks own
     (text_as c.in_ok-report.report.names.now s.names c.in_ok-report.report.admitted true (workload run.board.board.set (functions_of run.bodies.items) run.ticks.now) (own_at run.own.now) text
     c.in_ok-report.ensures.parts.0 c.in_ok-report.ensures.parts.1 h)))
-    (c.in-Err-write_run.ensures.short (ap Err (c.stop_of.ensures.memory (same_stop _ _ is))))
+    (c.in_err-write_run.ensures.short (search rules))
