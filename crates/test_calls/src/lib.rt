@@ -1,7 +1,10 @@
-//! Calls of a board as values, and what a board said, for tests.
+//! Calls of a board as values, and what a board said and tells, for tests.
 #![tactic(auto)]
 
+mod looks;
+
 use board::{Board, IdleReply, StepReply};
+pub use looks::look;
 use rt_base::{JobId, Op, PlanRefused, Tick, TxId};
 use step_journal::Entry;
 

@@ -1,0 +1,32 @@
+//! Makes the calls of the entries that standard input tells, on a core and on a plain core of the declared set, and prints
+//! what both answered. Empty lines and lines that begin with `#` are passed over.
+#![tactic(auto)]
+
+mod scene;
+
+use scene::{Scene, follow};
+use std::alloc::Global;
+use std::io;
+
+// Prints what comes of each line of standard input.
+fn follow_lines(rt: &HostRuntime, alloc: Global, scene: &mut Scene) -> io::Result<()> {
+    for line in rt.lines(alloc) {
+        let line = line?;
+        let line = line.as_str();
+        if line.is_empty() || line.starts_with('#') {
+            continue;
+        }
+        match follow(alloc, scene, line) {
+            Some(said) if said.is_empty() => {}
+            Some(said) => println!(rt; "{line}: {said}")?,
+            None => println!(rt; "{line}: not read")?,
+        }
+    }
+    Ok(())
+}
+
+fn main(rt: HostRuntime) -> io::Result<()> {
+    let alloc = rt.alloc();
+    let mut scene = Scene::new(alloc);
+    follow_lines(&rt, alloc, &mut scene)
+}

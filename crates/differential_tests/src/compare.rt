@@ -1,0 +1,178 @@
+//! Two boards are driven by the same calls, from a seed, and compared after each.
+use board::Board;
+use rt_base::{ItemId, JobId, Op, Tick, TxId, Value};
+use std::alloc::Global;
+use std::collections::BTreeSet;
+use step_journal::Entry;
+use test_calls::{Call, look, make};
+
+/// Numbers from a seed.
+#[derive(Drop)]
+struct Dice {
+    state: u64,
+}
+
+impl Dice {
+    // A number below `sides`.
+    fn roll(&mut self, sides: u64) -> u64 {
+        self.state = self
+            .state
+            .wrapping_mul(6364136223846793005)
+            .wrapping_add(1442695040888963407);
+        if sides == 0 {
+            0
+        } else {
+            (self.state >> 33) % sides
+        }
+    }
+
+    fn below(&mut self, count: usize) -> usize {
+        self.roll(count as u64) as usize
+    }
+
+    fn number(&mut self, below: u32) -> u32 {
+        (self.roll(below as u64) & 0xffff_ffff) as u32
+    }
+}
+
+fn one_of(items: &[ItemId], dice: &mut Dice) -> ItemId {
+    let at = dice.below(items.len());
+    if at < items.len() {
+        items[at]
+    } else {
+        ItemId(dice.number(300))
+    }
+}
+
+// A tick near the present one, or now and then too far.
+fn some_tick(now: Tick, dice: &mut Dice) -> Tick {
+    if dice.roll(12) == 0 {
+        return 0x100_0000_0001;
+    }
+    now.saturating_add(dice.roll(50)).saturating_sub(3)
+}
+
+// An operation that the job's transaction declares, more often than another.
+fn some_op<B: Board>(board: &B, job: JobId, dice: &mut Dice) -> Op {
+    let at = job.tx.0 as usize;
+    let txns = board.set().txns();
+    let kind = dice.roll(32);
+    if kind == 0 || at >= txns.len() {
+        return Op::Read(ItemId(dice.number(300)));
+    }
+    let value = dice.number(1000) as Value;
+    match kind {
+        1 => Op::Quit,
+        2 => Op::Write(ItemId(dice.number(300)), value),
+        3..=12 => Op::Read(one_of(txns[at].reads.as_slice(), dice)),
+        13..=20 => Op::Write(one_of(txns[at].writes.as_slice(), dice), value),
+        21..=25 => Op::Compute,
+        _ => Op::Commit,
+    }
+}
+
+fn pending<B: Board>(board: &B, tx: TxId) -> Option<JobId> {
+    if (tx.0 as usize) < board.set().txns().len() {
+        board.pending(tx)
+    } else {
+        None
+    }
+}
+
+fn some_call<B: Board>(board: &B, dice: &mut Dice) -> Call {
+    let count = board.set().txns().len();
+    let tx = TxId((dice.below(count) & 0xffff_ffff) as u32);
+    let any = JobId {
+        tx,
+        serial: dice.number(4),
+    };
+    match dice.roll(20) {
+        0..=2 => Call::PlanNext(tx),
+        3 => Call::Plan(tx, some_tick(board.now(), dice)),
+        4 | 5 => Call::Idle,
+        6 => Call::Step(pending(board, tx).unwrap_or(any), Op::Compute),
+        _ => {
+            let job = board.running().unwrap_or(any);
+            Call::Step(job, some_op(board, job, dice))
+        }
+    }
+}
+
+/// The kinds of answers: what was said, without numbers.
+pub type Kinds = BTreeSet<String>;
+
+// One call on both boards: whether they answer alike, and are alike then.
+fn turn<A: Board, B: Board>(
+    alloc: Global,
+    a: &mut A,
+    b: &mut B,
+    dice: &mut Dice,
+    kinds: &mut Kinds,
+) -> Option<bool> {
+    let call = some_call(a, dice);
+    let said = make(a, call);
+    let same = make(b, call) == said;
+    let text = format!(in alloc; "{said:?}").ok()?;
+    let kind = text.chars().filter(|c| !c.is_ascii_digit()).collect(alloc);
+    let _ = kinds.insert(kind.ok()?).ok()?;
+    Some(same && are_alike(alloc, a, b)?)
+}
+
+// Whether the accessors of two boards answer alike.
+fn are_alike<A: Board, B: Board>(alloc: Global, a: &A, b: &B) -> Option<bool> {
+    let (one, other) = (look(alloc, a)?, look(alloc, b)?);
+    Some(a.entries() == b.entries() && one.as_str() == other.as_str())
+}
+
+// Both boards hand the same entries out.
+fn drain_alike<A: Board, B: Board>(
+    alloc: Global,
+    a: &mut A,
+    b: &mut B,
+    most: usize,
+) -> Option<bool> {
+    let mut one = Vec::with_capacity(alloc, 16).ok()?;
+    let mut other: Vec<Entry> = Vec::with_capacity(alloc, 16).ok()?;
+    let same = a.drain(most, &mut one) == b.drain(most, &mut other);
+    Some(same && one.as_slice() == other.as_slice() && are_alike(alloc, a, b)?)
+}
+
+// So many turns of both boards at most. How many were alike.
+fn turns<A: Board, B: Board>(
+    alloc: Global,
+    a: &mut A,
+    b: &mut B,
+    seed: u64,
+    kinds: &mut Kinds,
+) -> Option<u32> {
+    let mut dice = Dice { state: seed };
+    for i in 0..3000 {
+        if dice.roll(12) == 0 {
+            let most = dice.below(16);
+            if !drain_alike(alloc, a, b, most)? {
+                return Some(i);
+            }
+        }
+        if !turn(alloc, a, b, &mut dice, kinds)? {
+            return Some(i);
+        }
+    }
+    Some(3000)
+}
+
+/// Drives two boards up to 3,000 turns, and takes them apart: how many turns were alike, and whether they came to the same
+/// items and hand out the same entries.
+pub fn compared<A: Board + Drop, B: Board + Drop>(
+    alloc: Global,
+    mut a: A,
+    mut b: B,
+    seed: u64,
+    kinds: &mut Kinds,
+) -> Option<String> {
+    let count = turns(alloc, &mut a, &mut b, seed, kinds)?;
+    let (items, entries) = a.into_parts();
+    let (other_items, other_entries) = b.into_parts();
+    let same = items.as_slice() == other_items.as_slice()
+        && entries.as_slice() == other_entries.as_slice();
+    format!(in alloc; "{count} turns alike, the parts {same}").ok()
+}

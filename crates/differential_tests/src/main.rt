@@ -1,0 +1,33 @@
+//! Drives a core and a plain core of each declared set by the same calls, from a seed, and prints whether they were alike.
+//! Empty lines and lines that begin with `#` are passed over.
+#![tactic(auto)]
+
+mod compare;
+mod scene;
+
+use scene::{Scene, follow};
+use std::alloc::Global;
+use std::io;
+
+// Prints what comes of each line of standard input.
+fn follow_lines(rt: &HostRuntime, alloc: Global, scene: &mut Scene) -> io::Result<()> {
+    for line in rt.lines(alloc) {
+        let line = line?;
+        let line = line.as_str();
+        if line.is_empty() || line.starts_with('#') {
+            continue;
+        }
+        match follow(alloc, scene, line) {
+            Some(said) if said.is_empty() => {}
+            Some(said) => println!(rt; "{line}: {said}")?,
+            None => println!(rt; "{line}: not read")?,
+        }
+    }
+    Ok(())
+}
+
+fn main(rt: HostRuntime) -> io::Result<()> {
+    let alloc = rt.alloc();
+    let mut scene = Scene::new(alloc);
+    follow_lines(&rt, alloc, &mut scene)
+}
