@@ -4,4 +4,3 @@ pub mod Laters
 pub mod Closing
 pub mod Starting
 pub mod Apart
-pub mod BaseCompiled

@@ -1,4 +1,3 @@
 pub mod Shared
 pub mod Seats
 pub mod Answers
-pub mod BaseSet

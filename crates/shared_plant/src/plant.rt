@@ -21,9 +21,6 @@ use std::sync::Wait;
 use step_journal::Entry;
 use turn_cell::{Past, TurnCell, TurnSeat};
 
-#[cfg(test)]
-mod tests;
-
 /// A board that callers share, each by its seat, from threads of their own and without a lock. A `try_` call makes one
 /// exchange for the turn, takes no memory and does not wait. It is Sync where the board is Send.
 pub struct Plant<B: Board> {

@@ -1,8 +1,0 @@
-use Rattle.std.proofs.Common.{ap}
-use Rattle.shared_plant.specs.Seats.{SeatFacts}
-use Rattle.plant_rows.proofs.calls.replied.Goals as goal
-
-pub returns-in-Said : goal.returns-in-Said
-returns-in-Said c =
-    let tx = c.requires.1 in let a = c.in-Said.ensures.said tx.0 tx.1 in
-    (ap (λ (s : SeatFacts). s.plant) a.after, ap (λ (s : SeatFacts). s.tx) a.after)

@@ -1,5 +1,0 @@
-use Rattle.std.proofs.Common.{◌≡◌}
-use Rattle.plant_rows.proofs.turns.drain_often.Given as goal
-
-abbrev pub invariant-loop : goal.invariant-loop
-invariant-loop l = (l.caller.seat.plant ≡ l.fn.caller.seat.plant) × (l.caller.seat.tx ≡ l.fn.caller.seat.tx)

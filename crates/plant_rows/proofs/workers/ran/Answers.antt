@@ -1,5 +1,0 @@
-use Rattle.std.proofs.Common.{[]}
-use Rattle.plant_rows.proofs.workers.ran.Goals as goal
-
-pub run_all-answer-requires-clause-good : goal.run_all-answer-requires-clause-good
-run_all-answer-requires-clause-good g c κs within = λ h to legal begins. ([], tt, tt)
