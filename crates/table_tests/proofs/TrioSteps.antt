@@ -10,7 +10,7 @@ use Rattle.step_journal.specs.State.{Row, row_of, new_row}
 use Rattle.step_journal.specs.Instant.{with_row}
 use Rattle.pending_jobs.specs.Rows.{Accesses, PendingSeen, AreFactsOf, AreRows, IsDeclared, accesses_of, accesses_at, no_access, rows_stepped, rows_waiting, rows_ended}
 use Rattle.pending_jobs.specs.Waiting.{MayWait}
-use Rattle.table_tests.specs.Trio.{x, trio, read_row, read_rows, trio_txns, trio_stored, first_job, no_rows, written_row, high_row, written_rows}
+use Rattle.table_tests.specs.Trio.{x, trio, read_row, read_rows, both_rows, trio_txns, trio_stored, first_job, no_rows, written_row, high_row, written_rows}
 
 pub opened : (set : Set) (p : PendingSeen) → set ≡ trio → AreRows set p (map (λ t. None) set.txns) → AreRows trio p no_rows
 opened set p e a = subst (λ (s : Set). AreRows s p (map (λ t. None) s.txns)) e a
@@ -112,9 +112,6 @@ middle_released = None ∷ Some (new_row (first_job 1) 0) ∷ None ∷ []
 
 abbrev pub middle_rows : List (Option Row)
 middle_rows = None ∷ Some read_row ∷ None ∷ []
-
-abbrev pub both_rows : List (Option Row)
-both_rows = Some (record high_row { used = 1; work = record { reads = record { item = x; stamp = 0 } ∷ []; writes = [] } }) ∷ Some read_row ∷ None ∷ []
 
 pub low_written : (p q r : PendingSeen) (job : JobId) (items : List Stored) → AreRows trio p no_rows → job ≡ first_job 2 → items ≡ trio_stored → q ≡ record p { rows = with_row 0 p.rows job }
     → ((row : Row) → row_of q.rows 2 ≡ Some row → r ≡ record q { rows = rows_stepped q.rows items (Write x (pos 9)) row }) → AreRows trio r low_rows

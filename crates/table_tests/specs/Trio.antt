@@ -9,6 +9,7 @@ use Rattle.txn_set.specs.declared.decl.TxnDecl.{TxnDecl}
 use Rattle.txn_set.specs.declared.decl.Ceilings.{Ceilings}
 use Rattle.txn_set.specs.Set.{Set}
 use Rattle.step_journal.specs.State.{Row, new_row}
+use Rattle.step_journal.specs.Instant.{with_row}
 
 abbrev pub x : ItemId
 x = record { 0 = 0 }
@@ -55,3 +56,11 @@ read_row = record (new_row (first_job 1) 0) { used = 1; work = record { reads = 
 
 abbrev pub read_rows : List (Option Row)
 read_rows = Some high_row ∷ Some read_row ∷ None ∷ []
+
+-- both readers have read
+abbrev pub both_rows : List (Option Row)
+both_rows = Some (record high_row { used = 1; work = record { reads = record { item = x; stamp = 0 } ∷ []; writes = [] } }) ∷ Some read_row ∷ None ∷ []
+
+-- and the writer is released
+abbrev pub last_rows : List (Option Row)
+last_rows = with_row 2 both_rows (first_job 2)

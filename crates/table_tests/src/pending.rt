@@ -1,12 +1,12 @@
 //! Worked steps of two readers and a writer of one state item.
 ghost use Rattle.std.specs.Prelude.{◌≡◌, IfOk};
 ghost use Rattle.pending_jobs.specs.Rows.{AreRows};
-ghost use Rattle.table_tests.specs.Trio.{trio as trio_of, trio_stored, no_rows, written_rows, read_rows};
+ghost use Rattle.table_tests.specs.Trio.{trio as trio_of, trio_stored, no_rows, written_rows, read_rows, last_rows};
 
 use crate::trio::trio;
 use item_model::{Items, Stored};
 use pending_jobs::{Blocker, Pending};
-use rt_base::{ItemId, JobId, Op, OutOfMemory, TxId};
+use rt_base::{ItemId, JobId, Op, OutOfMemory, TxId, Value};
 use std::alloc::Global;
 
 const HIGH: TxId = TxId(0);
@@ -84,6 +84,27 @@ fn bystander(rt: HostRuntime) -> Result<(), OutOfMemory> {
     Ok(())
 }
 
+// The high job reads too, and the low one is released.
+fn both_read(pending: &mut Pending, items: &Items)
+    requires rows { AreRows trio_of pending.old read_rows }
+    requires items { items.now ≡ trio_stored }
+    ensures { AreRows trio_of pending.new last_rows }
+{
+    pending.step(HIGH, Op::Read(X), items);
+    pending.release(first_of(LOW), 2);
+}
+
+// How many steps the high job has used, and what it wrote.
+fn used_and_written(pending: &Pending) -> (Option<u64>, Option<Value>)
+    requires { AreRows trio_of pending.now last_rows }
+{
+    let written = pending.work(HIGH).value_of(X);
+    match pending.head(HIGH) {
+        Some(head) => (Some(head.used), written),
+        None => (None, written),
+    }
+}
+
 // Two readers share an item; its writer waits on the higher of them.
 #[test]
 fn shared_readers(rt: HostRuntime) -> Result<(), OutOfMemory> {
@@ -94,12 +115,10 @@ fn shared_readers(rt: HostRuntime) -> Result<(), OutOfMemory> {
         ceiling: 1,
     };
     assert!(rt; pending.lock_refusal(HIGH, Op::Read(X)) == None);
-    pending.step(HIGH, Op::Read(X), &items);
-    pending.release(first_of(LOW), 2);
+    both_read(&mut pending, &items);
     assert!(rt; pending.lock_refusal(LOW, Op::Write(X, 1)) == Some(blocker));
     assert!(rt; pending.next_deadline() == Some(20));
     assert!(rt; pending.due(20) == Some(first_of(MIDDLE)));
-    assert!(rt; pending.head(HIGH).is_some_and(|head| head.used == 1));
-    assert!(rt; pending.work(HIGH).value_of(X) == None);
+    assert!(rt; used_and_written(&pending) == (Some(1), None));
     Ok(())
 }

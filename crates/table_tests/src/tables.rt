@@ -5,7 +5,7 @@ ghost use Rattle.core_tables.specs.Legal.{Stand};
 use crate::trio::trio;
 use board::{IdleReply, StepReply};
 use core_tables::{CoreTables, Tally};
-use rt_base::{ItemId, JobId, Op, OutOfMemory, PlanRefused, TxId};
+use rt_base::{ItemId, JobId, Op, OutOfMemory, PlanRefused, Tick, TxId, Value};
 use std::alloc::Global;
 use txn_set::CompiledSet;
 
@@ -27,6 +27,13 @@ fn opened(alloc: Global) -> Result<(CompiledSet, CoreTables), OutOfMemory>
     Ok((set, tables))
 }
 
+// What a plan of the low transaction is answered by a board that keeps so many entries, with room for 4.
+fn plan(tables: &CoreTables, tick: Tick, kept: usize) -> Result<JobId, PlanRefused>
+    requires { length tables.now.calendar.periods ≡ 3 }
+{
+    tables.plan_check(LOW, tick, kept, 4)
+}
+
 // Each refusal is answered where no earlier one holds.
 #[test]
 fn plans(rt: HostRuntime) -> Result<(), OutOfMemory> {
@@ -41,21 +48,35 @@ fn plans(rt: HostRuntime) -> Result<(), OutOfMemory> {
             Err(PlanRefused::TooFar { limit: 1 << 40 }),
         ),
     ] {
-        assert!(rt; tables.plan_check(LOW, tick, kept, 4) == want);
+        assert!(rt; plan(&tables, tick, kept) == want);
     }
     Ok(())
+}
+
+// The present tick, the item, and the next tick of the low transaction.
+fn state(tables: &CoreTables) -> (Tick, (Value, Tick), Tick)
+    requires { (length tables.now.items ≡ 1) × (length tables.now.calendar.periods ≡ 3) }
+{
+    (tables.now(), tables.item(ItemId(0)), tables.next_for(LOW))
+}
+
+// How many releases are planned and the first of them, the low transaction's pending job, and the running one.
+fn jobs(tables: &CoreTables) -> (usize, Option<Tick>, Option<JobId>, Option<JobId>)
+    requires { length tables.now.pending.rows ≡ 3 }
+{
+    (
+        tables.planned(),
+        tables.next_tick(),
+        tables.pending(LOW),
+        tables.running(),
+    )
 }
 
 #[test]
 fn opens(rt: HostRuntime) -> Result<(), OutOfMemory> {
     let (_, tables) = opened(rt.alloc())?;
-    assert_eq!(rt; tables.now(), 0);
-    assert!(rt; tables.item(ItemId(0)) == (7, 0));
-    assert_eq!(rt; tables.next_for(LOW), 0);
-    assert_eq!(rt; tables.planned(), 0);
-    assert!(rt; tables.next_tick() == None);
-    assert!(rt; tables.pending(LOW) == None);
-    assert!(rt; tables.running() == None);
+    assert!(rt; state(&tables) == (0, (7, 0), 0));
+    assert!(rt; jobs(&tables) == (0, None, None, None));
     Ok(())
 }
 

@@ -42,42 +42,117 @@ fn asked<L: Ledger>(
     (on, prio, at, dispatched(pending, waits, &mut steps))
 }
 
+const LOW: TxId = TxId(0);
+
+const HIGH: TxId = TxId(1);
+
+const MIDDLE: TxId = TxId(2);
+
+// A call on three transactions, or what is told at one of them where these have pending jobs: on whom it waits, what priority
+// it has, who has its rank, and whose job runs.
+#[derive(Clone, Copy)]
+enum Row {
+    Block(TxId, TxId),
+    Free(TxId),
+    Ask([bool; 3], TxId, (Option<TxId>, Prio, TxId, Option<TxId>)),
+}
+
+use Row::{Ask, Block, Free};
+
 // The low transaction blocks the high one, and runs before the middle one, which stands by.
+const BYSTANDER: [Row; 4] = [
+    Ask([false, false, false], LOW, (None, 1, LOW, None)),
+    Ask([true, false, true], LOW, (None, 1, LOW, Some(MIDDLE))),
+    Block(HIGH, LOW),
+    Ask([true, true, true], LOW, (None, 3, LOW, Some(LOW))),
+];
+
+const TWO_WAIT: [Row; 8] = [
+    Block(HIGH, LOW),
+    Block(MIDDLE, LOW),
+    Ask([false, false, false], LOW, (None, 3, LOW, None)),
+    Ask([false, false, false], HIGH, (Some(LOW), 3, HIGH, None)),
+    Ask([false, false, false], MIDDLE, (Some(LOW), 2, MIDDLE, None)),
+    Free(LOW),
+    Ask([false, false, false], LOW, (None, 1, LOW, None)),
+    Ask([false, false, false], HIGH, (None, 3, HIGH, None)),
+];
+
+// The set of the ranks of the pending ones.
+fn ranks_of(waits: &Waits, pending: [bool; 3]) -> RankSet
+    requires { length waits.now.prios ≡ 3 }
+    ensures { (rank : ℕ) → has_rank result rank ≡ true → rank < 3 }
+{
+    let mut ranks = RankSet::empty();
+    for tx in 0..3 {
+        if pending[tx as usize] {
+            ranks = ranks.with(waits.rank(TxId(tx)));
+        }
+    }
+    ranks
+}
+
+// Blocks one transaction on another, where the table allows it.
+fn blocks(waits: &mut Waits, count: u32, tx: TxId, on: TxId) -> bool
+    requires size { length waits.old.prios ≡ count }
+    requires beyond { (t : ℕ) → count ≤ t → on_of waits.old.on t ≡ None }
+    requires tx { tx.0 < count }
+    requires on { on.0 < count }
+    ensures prios { waits.new.prios ≡ waits.old.prios }
+    ensures beyond { (t : ℕ) → count ≤ t → on_of waits.new.on t ≡ None }
+{
+    if !may_block::<Brand>(waits, count, tx, on, Blank::new(1)) {
+        return false;
+    }
+    waits.block(tx, on);
+    true
+}
+
+// Whether a call is made, or what is told is as it stands in the row.
+fn holds(waits: &mut Waits, row: Row) -> bool
+    requires size { length waits.old.prios ≡ 3 }
+    requires beyond { (t : ℕ) → 3 ≤ t → on_of waits.old.on t ≡ None }
+    ensures prios { waits.new.prios ≡ waits.old.prios }
+    ensures beyond { (t : ℕ) → 3 ≤ t → on_of waits.new.on t ≡ None }
+{
+    match row {
+        Block(tx, on) => tx.0 < 3 && on.0 < 3 && blocks(waits, 3, tx, on),
+        Free(tx) => {
+            if tx.0 < 3 {
+                waits.free(tx);
+            }
+            tx.0 < 3
+        }
+        Ask(pending, tx, want) => {
+            let ranks = ranks_of(waits, pending);
+            tx.0 < 3 && asked::<Brand>(waits, ranks, tx, Blank::new(1)) == want
+        }
+    }
+}
+
+fn three(alloc: Global) -> Result<Waits, OutOfMemory>
+    ensures size { IfOk result (λ w. length w.prios ≡ 3) }
+    ensures nobody { IfOk result (λ w. (t : ℕ) → on_of w.on t ≡ None) }
+{
+    let prios = Vec::from_array(alloc, [1, 3, 2])?;
+    Waits::new(alloc, prios)
+}
+
 #[test]
 fn bystander(rt: HostRuntime) -> Result<(), OutOfMemory> {
-    let prios = Vec::from_array(rt.alloc(), [1, 3, 2])?;
-    let mut waits = Waits::new(rt.alloc(), prios)?;
-    let low = TxId(0);
-    let high = TxId(1);
-    let middle = TxId(2);
-    let nobody = RankSet::empty();
-    let two = nobody.with(1).with(2);
-    assert!(rt; asked::<Brand>(&waits, nobody, low, Blank::new(1)).3 == None);
-    assert!(rt; asked::<Brand>(&waits, two, low, Blank::new(1)).3 == Some(middle));
-    waits.block(high, low);
-    let all = two.with(0);
-    assert!(rt; asked::<Brand>(&waits, all, low, Blank::new(1)).3 == Some(low));
+    let mut waits = three(rt.alloc())?;
+    for row in BYSTANDER {
+        assert!(rt; holds(&mut waits, row));
+    }
     Ok(())
 }
 
 #[test]
 fn two_wait(rt: HostRuntime) -> Result<(), OutOfMemory> {
-    let prios = Vec::from_array(rt.alloc(), [1, 3, 2])?;
-    let mut waits = Waits::new(rt.alloc(), prios)?;
-    let low = TxId(0);
-    let high = TxId(1);
-    let middle = TxId(2);
-    waits.block(high, low);
-    waits.block(middle, low);
-    let none = RankSet::empty();
-    assert!(rt; asked::<Brand>(&waits, none, low, Blank::new(1)) == (None, 3, low, None));
-    assert!(rt; asked::<Brand>(&waits, none, high, Blank::new(1)) == (Some(low), 3, high, None));
-    assert!(rt;
-        asked::<Brand>(&waits, none, middle, Blank::new(1)) == (Some(low), 2, middle, None)
-    );
-    waits.free(low);
-    assert!(rt; asked::<Brand>(&waits, none, low, Blank::new(1)) == (None, 1, low, None));
-    assert!(rt; asked::<Brand>(&waits, none, high, Blank::new(1)) == (None, 3, high, None));
+    let mut waits = three(rt.alloc())?;
+    for row in TWO_WAIT {
+        assert!(rt; holds(&mut waits, row));
+    }
     Ok(())
 }
 
@@ -120,15 +195,15 @@ fn running(ons: &[Option<TxId>; 5], pending: &[bool; 5]) -> Option<TxId> {
     runs
 }
 
-// Whether the table tells that one may wait on the other.
-fn may_block<L: Ledger>(waits: &Waits, tx: TxId, on: TxId, blank: Blank) -> bool
+// Whether the table of so many transactions tells that one may wait on the other.
+fn may_block<L: Ledger>(waits: &Waits, count: u32, tx: TxId, on: TxId, blank: Blank) -> bool
     requires name { blank.name ≡ L.name }
     requires parts { blank.parts ≡ L.parts }
     requires one_part { blank.parts ≡ 1 }
-    requires size { length waits.now.prios ≡ 5 }
-    requires beyond { (t : ℕ) → 5 ≤ t → on_of waits.now.on t ≡ None }
-    requires tx { tx.0 < 5 }
-    requires on { on.0 < 5 }
+    requires size { length waits.now.prios ≡ count }
+    requires beyond { (t : ℕ) → count ≤ t → on_of waits.now.on t ≡ None }
+    requires tx { tx.0 < count }
+    requires on { on.0 < count }
     ensures differ { result ≡ true → tx.0 ≢ on.0 }
     ensures free { result ≡ true → on_of waits.now.on tx.0 ≡ None }
     ensures on_free { result ≡ true → on_of waits.now.on on.0 ≡ None }
@@ -144,7 +219,7 @@ fn may_block<L: Ledger>(waits: &Waits, tx: TxId, on: TxId, blank: Blank) -> bool
     if let Some(_) = waits.waits_on(on, &mut steps) {
         return false;
     }
-    for t in 0..5 {
+    for t in 0..count {
         if let Some(other) = waits.waits_on(TxId(t), &mut steps) {
             if other.0 == tx.0 {
                 return false;
@@ -173,10 +248,9 @@ fn change(waits: &mut Waits, ons: &mut [Option<TxId>; 5], frees: bool, tx: TxId,
         return true;
     }
     let both = may_wait(ons, tx, on);
-    if !may_block::<Brand>(waits, tx, on, Blank::new(1)) {
+    if !blocks(waits, 5, tx, on) {
         return !both;
     }
-    waits.block(tx, on);
     ons[tx.0 as usize] = Some(on);
     both
 }

@@ -1,4 +1,9 @@
+use Rattle.std.proofs.Common.{◌≡◌, ℕ, ◌≤◌, None, length}
+use Rattle.inherit_prio.specs.Waits.{on_of}
 use Rattle.table_tests.proofs.waits.two_wait.Given as goal
 
-abbrev pub ghosts-asked : goal.ghosts-asked
-ghosts-asked g a = record { name = a.blank.name; parts = a.blank.parts }
+abbrev pub invariant-loop-row : goal.invariant-loop-row
+invariant-loop-row g l = record {
+  size : length l.waits.prios ≡ 3;
+  beyond : (t : ℕ) → 3 ≤ t → on_of l.waits.on t ≡ None;
+}
