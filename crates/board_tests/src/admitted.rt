@@ -7,10 +7,10 @@ use board::{Board, IdleReply, StepReply};
 use item_model::{ItemDecl, ItemKind};
 use rt_base::{End, ItemId, JobId, Op, Outcome, Prio, Tick, TxId};
 use set_admission::{AdmittedSet, admit};
-use set_rows::{TxnRow, compiled};
 use std::alloc::Global;
 use std::test::Fail;
 use step_journal::Entry;
+use test_sets::{TxnRow, compiled};
 
 const PERIODS: [Tick; 3] = [10, 20, 40];
 

@@ -13,11 +13,11 @@ use crate::drive::{Counts, Plan, drive};
 use lock_core::Core;
 use plain_core::PlainCore;
 use rt_base::OutOfMemory;
-use set_rows::generated;
 use std::alloc::Global;
 use std::env;
 use std::env::Env;
 use std::process::ExitCode;
+use test_sets::generated;
 use txn_set::CompiledSet;
 
 /// What the words ask for.

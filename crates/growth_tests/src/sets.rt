@@ -6,8 +6,8 @@ use crate::texts::read_anew;
 use rt_base::OutOfMemory;
 use scenario::Scenario;
 use set_admission::{AdmitError, AdmittedSet, admit};
-use set_rows::compile_in_range;
 use std::alloc::Global;
+use test_sets::compile_in_range;
 use txn_compiler::CompileError;
 use txn_set::CompiledSet;
 

@@ -9,7 +9,6 @@ ghost use Rattle.sim_run.specs.Steady.{steady_set as set_of_two};
 
 use crate::steady::{Steady, are_accepted, new_board, ticks};
 use board::Board;
-use board_calls::{call_of, make};
 use entry_out::{EntryOut, Stopped};
 use plain_core::PlainCore;
 use plant_run::{Run, RunFault, run_workers};
@@ -20,6 +19,7 @@ use std::sync::Wait;
 use std::test::Fail;
 use std::thread::Threads;
 use step_journal::Entry;
+use test_calls::{call_of, make};
 use txn_set::CompiledSet;
 use txn_threads::NoGate;
 use worker_count::Workers;

@@ -7,7 +7,7 @@ use Rattle.rt_base.specs.declared.ids.TogetherDecl.{TogetherDecl}
 use Rattle.item_model.specs.declared.decl.ItemDecl.{ItemDecl}
 use Rattle.txn_set.specs.declared.decl.TxnDecl.{TxnDecl}
 use Rattle.txn_compiler.specs.Kept.{IsInRange}
-use Rattle.set_rows.proofs.range.are_in_range.Goals as goal
+use Rattle.test_sets.proofs.range.are_in_range.Goals as goal
 
 below : (count : ℕ) (items : List ItemId) → list_all (λ i. ltb i.0 count) items ≡ true → All (λ i. i.0 < count) items
 below count items h = λ k d inside. ltb-true (get_or items k d).0 count (AllPass-from_list_all (λ i. ltb i.0 count) items h k d inside)

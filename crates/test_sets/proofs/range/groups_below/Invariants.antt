@@ -1,6 +1,6 @@
 use Rattle.std.proofs.Common.{◌≡◌, drop, ltb}
 use Rattle.std.specs.List.{list_all}
-use Rattle.set_rows.proofs.range.groups_below.Given as goal
+use Rattle.test_sets.proofs.range.groups_below.Given as goal
 
 abbrev pub invariant-loop-group : goal.invariant-loop-group
 invariant-loop-group l =
