@@ -11,8 +11,9 @@ use crate::steady::{Steady, are_accepted, new_board, ticks};
 use board::Board;
 use entry_out::{EntryOut, Stopped};
 use plain_core::PlainCore;
-use plant_run::{Run, RunFault, run_workers};
+use plant_run::{Run, run_workers};
 use rt_base::{List, OutOfMemory, Tick};
+use run_fault::RunFault;
 use sim_run::run;
 use std::alloc::Global;
 use std::sync::Wait;
@@ -290,7 +291,7 @@ fn an_out_that_stops(rt: HostRuntime) -> Result<(), Fail> {
         for number in 1..4 {
             let workers = few_workers(number)?;
             let (ran, entries) = of_fixed(&rt, alloc, workers, (800, 400), most)?;
-            assert_eq!(rt; ran, Err(RunFault::Stopped));
+            assert_eq!(rt; ran, Err(RunFault::Writing));
             assert!(rt; entries.len() <= most);
             assert!(rt; is_front(entries.as_slice(), whole.as_slice()));
         }
