@@ -73,10 +73,11 @@ fn not_admitted(error: AdmitError) -> Result<Verdict, OutOfMemory>
     }
 }
 
-// The entries of a document, the number of the line of the first, and how many bytes are left where their lines begin and
-// where they have ended.
+// The bytes of a document, its entries, the number of the line of the first, and how many bytes are left where their lines
+// begin and where they have ended.
 #[derive(Clone, Copy)]
 struct Told<'a> {
+    bytes: &'a [u8],
     entries: &'a [Entry],
     first: usize,
     left: usize,
@@ -86,82 +87,79 @@ struct Told<'a> {
 // The verdict on the lines around the entries, which are a legal history. The lines of the entries are those of the report.
 fn judge_lines(
     alloc: Global,
-    bytes: &[u8],
     names: &NameTables,
     set: &CompiledSet,
     bounds: Option<&AdmittedSet>,
     told: Told,
     items: &Items,
 ) -> Result<Verdict, OutOfMemory>
-    requires bytes { length bytes.now < 2 ^ 32 }
-    requires parts { HasParts bytes.now names.now set.now (is_some bounds) told.entries.now told.first }
-    requires stand { Stand names.now told.entries.now bytes.now told.left told.after }
+    requires bytes { length told.bytes.now < 2 ^ 32 }
+    requires parts { HasParts told.bytes.now names.now set.now (is_some bounds) told.entries.now told.first }
+    requires stand { Stand names.now told.entries.now told.bytes.now told.left told.after }
     requires admitted { refusal_in (is_some bounds) set.now ≡ None }
     requires names { NamesSet names.now set.now }
     requires same { IfSome bounds (λ b. b.now ≡ set.now) }
     requires legal { IsLegal set.now told.entries.now }
     requires last { items.now ≡ (state_of set.now told.entries.now).items }
-    ensures { IfOk result (IsVerdict bytes.now) }
+    ensures { IfOk result (IsVerdict told.entry.bytes.now) }
 {
     let (opening, closing) = report_ends(alloc, names.names(), set, bounds, told.entries, items)?;
-    if is_between(bytes, told.left, told.after, &opening, &closing) {
+    if is_between(told.bytes, told.left, told.after, &opening, &closing) {
         return Ok(Verdict::Legal);
     }
     let text = report_with_items(alloc, names.names(), set, bounds, told.entries, items)?;
-    Ok(compared(names, bytes, &text))
+    Ok(compared(names, told.bytes, &text))
 }
 
 // The verdict on the entries and the lines around them.
 fn judge_entries(
     alloc: Global,
-    bytes: &[u8],
     names: &NameTables,
     set: &CompiledSet,
     bounds: Option<&AdmittedSet>,
     told: Told,
 ) -> Result<Verdict, OutOfMemory>
-    requires bytes { length bytes.now < 2 ^ 32 }
+    requires bytes { length told.bytes.now < 2 ^ 32 }
     requires first { told.first < 2 ^ 33 }
-    requires parts { HasParts bytes.now names.now set.now (is_some bounds) told.entries.now told.first }
-    requires stand { Stand names.now told.entries.now bytes.now told.left told.after }
+    requires parts { HasParts told.bytes.now names.now set.now (is_some bounds) told.entries.now told.first }
+    requires stand { Stand names.now told.entries.now told.bytes.now told.left told.after }
     requires admitted { refusal_in (is_some bounds) set.now ≡ None }
     requires names { NamesSet names.now set.now }
     requires same { IfSome bounds (λ b. b.now ≡ set.now) }
-    ensures { IfOk result (IsVerdict bytes.now) }
+    ensures { IfOk result (IsVerdict told.entry.bytes.now) }
 {
     set.is_compiled();
     let first = told.first;
     match last_items(alloc, set, told.entries) {
         Err(ReplayError::OutOfMemory) => Err(OutOfMemory),
         Err(ReplayError::NotLegal { index }) => Ok(Verdict::NotALegalStep { n: first + index }),
-        Ok(items) => judge_lines(alloc, bytes, names, set, bounds, told, &items),
+        Ok(items) => judge_lines(alloc, names, set, bounds, told, &items),
     }
 }
 
 // The verdict on a document whose declarations are a set.
 fn judge_mode(
     alloc: Global,
-    bytes: &[u8],
     names: &NameTables,
     set: CompiledSet,
     admitted: bool,
     told: Told,
 ) -> Result<Verdict, OutOfMemory>
-    requires bytes { length bytes.now < 2 ^ 32 }
+    requires bytes { length told.bytes.now < 2 ^ 32 }
     requires first { told.first < 2 ^ 33 }
-    requires parts { HasParts bytes.now names.now set admitted told.entries.now told.first }
-    requires stand { Stand names.now told.entries.now bytes.now told.left told.after }
+    requires parts { HasParts told.bytes.now names.now set admitted told.entries.now told.first }
+    requires stand { Stand names.now told.entries.now told.bytes.now told.left told.after }
     requires names { NamesSet names.now set }
-    ensures { IfOk result (IsVerdict bytes.now) }
+    ensures { IfOk result (IsVerdict told.entry.bytes.now) }
 {
     if !admitted {
-        return judge_entries(alloc, bytes, names, &set, None, told);
+        return judge_entries(alloc, names, &set, None, told);
     }
     set.is_compiled();
     admitted_unless_refused();
     match admit(alloc, set) {
         Err((_, error)) => not_admitted(error),
-        Ok(admitted) => judge_entries(alloc, bytes, names, admitted.set(), Some(&admitted), told),
+        Ok(admitted) => judge_entries(alloc, names, admitted.set(), Some(&admitted), told),
     }
 }
 
@@ -189,12 +187,13 @@ fn judge(alloc: Global, bytes: &[u8], placed: Placed) -> Result<Verdict, OutOfMe
         Err(error) => not_compiled(error),
         Ok((names, set)) => {
             let told = Told {
+                bytes,
                 entries: entries.as_slice(),
                 first,
                 left,
                 after,
             };
-            judge_mode(alloc, bytes, &names, set, admitted, told)
+            judge_mode(alloc, &names, set, admitted, told)
         }
     }
 }

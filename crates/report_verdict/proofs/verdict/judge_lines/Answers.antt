@@ -15,7 +15,7 @@ is_between-requires-clause-after c = ends_within _ _ _ _ _ c.requires.stand
 
 pub returns-then-is_between : goal.returns-then-is_between
 returns-then-is_between c =
-    between_said c.args.bytes.now c.args.names.now c.args.set.now (is_some c.args.bounds) c.args.told.entries.now c.args.told.first
+    between_said c.args.told.bytes.now c.args.names.now c.args.set.now (is_some c.args.bounds) c.args.told.entries.now c.args.told.first
     c.args.told.left c.args.told.after c.requires.parts c.requires.stand c.requires.admitted c.requires.legal
     (c.is_between.ensures.opening c.if-is_between.true ∙ (c.deref.ensures.value ∙ (c.in_ok-opening.ensures.opening
     ∙ ap (λ (n : Names). opening_text n c.args.set.now (is_some c.args.bounds)) c.names.ensures)))
@@ -24,7 +24,7 @@ returns-then-is_between c =
 
 pub returns : goal.returns
 returns c =
-    legal_said c.args.bytes.now c.args.names.now c.args.set.now (is_some c.args.bounds) c.args.told.entries.now c.args.told.first
+    legal_said c.args.told.bytes.now c.args.names.now c.args.set.now (is_some c.args.bounds) c.args.told.entries.now c.args.told.first
     c.deref-3.result.now c.compared.result c.requires.parts c.requires.admitted c.requires.legal
     (c.deref-3.ensures.value ∙ (c.in_ok-text.ensures
     ∙ ap (λ (n : Names). report_of n c.args.set.now (is_some c.args.bounds) c.args.told.entries.now) c.names-2.ensures))
