@@ -133,20 +133,25 @@ fn follow(alloc: Global, declared: &mut Declared, line: &str) -> Option<String> 
     Some(String::new(alloc))
 }
 
-fn main(rt: HostRuntime) -> io::Result<()> {
-    let alloc = rt.alloc();
-    let mut declared = nothing(alloc);
+// Prints what comes of each line of standard input.
+fn follow_lines(rt: &HostRuntime, alloc: Global, declared: &mut Declared) -> io::Result<()> {
     for line in rt.lines(alloc) {
         let line = line?;
         let line = line.as_str();
         if line.is_empty() || line.starts_with('#') {
             continue;
         }
-        match follow(alloc, &mut declared, line) {
+        match follow(alloc, declared, line) {
             Some(said) if said.is_empty() => {}
             Some(said) => println!(rt; "{line}: {said}")?,
             None => println!(rt; "{line}: not read")?,
         }
     }
     Ok(())
+}
+
+fn main(rt: HostRuntime) -> io::Result<()> {
+    let alloc = rt.alloc();
+    let mut declared = nothing(alloc);
+    follow_lines(&rt, alloc, &mut declared)
 }

@@ -103,8 +103,8 @@ fn follow(alloc: Global, line: &str) -> Option<String> {
     }
 }
 
-fn main(rt: HostRuntime) -> io::Result<()> {
-    let alloc = rt.alloc();
+// Prints what comes of each line of standard input.
+fn follow_lines(rt: &HostRuntime, alloc: Global) -> io::Result<()> {
     for line in rt.lines(alloc) {
         let line = line?;
         let line = line.as_str();
@@ -117,4 +117,8 @@ fn main(rt: HostRuntime) -> io::Result<()> {
         }
     }
     Ok(())
+}
+
+fn main(rt: HostRuntime) -> io::Result<()> {
+    follow_lines(&rt, rt.alloc())
 }

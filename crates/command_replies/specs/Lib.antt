@@ -2,3 +2,4 @@ pub mod Texts
 pub mod Verdicts
 pub mod Replies
 pub mod Analysis
+pub mod Causes

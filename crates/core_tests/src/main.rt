@@ -1,7 +1,12 @@
-//! Makes the calls of the entries that standard input tells, on a core and on a plain core of the declared set, and prints
-//! what both answered. Empty lines and lines that begin with `#` are passed over.
+//! Does what the lines of standard input say of the set that they declare: makes calls on a core and on a plain core, replays
+//! histories, and drives both cores by the same calls from a seed. It prints what was answered. Empty lines and lines that begin
+//! with `#` are passed over.
 #![tactic(auto)]
 
+mod boards;
+mod compare;
+mod histories;
+mod replays;
 mod scene;
 
 use scene::{Scene, follow};

@@ -1,29 +1,23 @@
 //! What the lines so far made, and what a further one does.
-ghost use Rattle.std.specs.Prelude.{◌≤◌, ◌^◌};
-
-use board::Board;
-use lock_core::Core;
-use plain_core::PlainCore;
+use crate::boards::{Boards, boards_of, call, compare, drain, look_at, take_apart};
+use crate::compare::Kinds;
+use crate::histories::History;
+use crate::replays::replayed;
 use rt_base::TxId;
 use std::alloc::Global;
-use step_journal::Entry;
-use test_calls::{Call, call_of, look, make};
-use test_sets::{Told, declared, entry_of};
-use txn_set::CompiledSet;
+use test_calls::{Call, call_of};
+use test_sets::{Told, declared, entry_of, generated};
 
-/// A core and a plain core of one set.
-#[derive(Drop)]
-struct Boards {
-    core: Core,
-    plain: PlainCore,
-}
-
-/// The declarations so far, the set of the last ones that were whole, and its boards.
+/// The declarations so far, the set of the last ones that were whole, its boards, a history of it, whether the lines of entries
+/// tell that history, and the kinds of answers of boards that were compared.
 #[derive(Drop)]
 pub struct Scene {
     head: String,
     told: Option<Told>,
     boards: Option<Boards>,
+    history: History,
+    tells: bool,
+    kinds: Kinds,
 }
 
 impl Scene {
@@ -32,49 +26,11 @@ impl Scene {
             head: String::new(alloc),
             told: None,
             boards: None,
+            history: History::new(alloc),
+            tells: false,
+            kinds: Kinds::new(alloc),
         }
     }
-}
-
-fn new_core(alloc: Global, set: &CompiledSet, room: usize) -> Option<Core>
-    requires { room ≤ 2 ^ 20 }
-{
-    match Core::new(alloc, set.copy(alloc).ok()?, room) {
-        Ok(core) => Some(core),
-        Err(_) => None,
-    }
-}
-
-fn new_plain(alloc: Global, set: &CompiledSet, room: usize) -> Option<PlainCore>
-    requires { room ≤ 2 ^ 20 }
-{
-    match PlainCore::new(alloc, set.copy(alloc).ok()?, room) {
-        Ok(core) => Some(core),
-        Err(_) => None,
-    }
-}
-
-// Boards of the set with this room.
-fn boards_of(alloc: Global, told: &Option<Told>, room: usize) -> Option<Boards> {
-    let Some(told) = told else {
-        return None;
-    };
-    if room > 1 << 20 {
-        return None;
-    }
-    let core = new_core(alloc, &told.set, room)?;
-    let plain = new_plain(alloc, &told.set, room)?;
-    Some(Boards { core, plain })
-}
-
-// What both answered, once where it is the same.
-fn both(one: String, other: String) -> Option<String> {
-    let mut text = one;
-    if text.as_str() != other.as_str() {
-        text.push_str(", and a plain core: ").ok()?;
-        text.push_str(other.as_str()).ok()?;
-    }
-    Some(text)
 }
 
 // A line of a declaration; the mode line is the last of them.
@@ -90,72 +46,26 @@ fn declare(alloc: Global, scene: &mut Scene, word: &str, line: &str) -> Option<S
     Some(String::new(alloc))
 }
 
-// What a board says to a call.
-fn said<B: Board>(alloc: Global, board: &mut B, call: Call) -> Option<String> {
-    let said = make(board, call);
-    format!(in alloc; "{said:?}").ok()
-}
-
-// So many entries at most, drained.
-fn drained<B: Board>(alloc: Global, board: &mut B, most: usize) -> Option<String> {
-    let mut into = Vec::with_capacity(alloc, 16).ok()?;
-    let count = board.drain(most, &mut into);
-    let entries = into.as_slice();
-    format!(in alloc; "{count} {entries:?}").ok()
-}
-
-// The items of a board, and how many entries it handed out.
-fn parts<B: Board>(alloc: Global, board: B) -> Option<String> {
-    let (items, entries) = board.into_parts();
-    let (items, count) = (items.as_slice(), entries.len());
-    format!(in alloc; "{count} entries, {items:?}").ok()
-}
-
-fn call(alloc: Global, boards: &mut Boards, call: Call) -> Option<String> {
-    both(
-        said(alloc, &mut boards.core, call)?,
-        said(alloc, &mut boards.plain, call)?,
-    )
-}
-
-// The call of an entry's line.
-fn entry_call(told: &Option<Told>, line: &str) -> Option<Call> {
-    match told {
-        Some(told) => Some(call_of(entry_of(&told.names, line)?)),
-        None => None,
+// The line of an entry is the next of the history, or else its call is made on the boards.
+fn take_entry(alloc: Global, scene: &mut Scene, line: &str) -> Option<String> {
+    let entry = entry_of(&scene.told.as_ref()?.names, line)?;
+    if scene.tells {
+        scene.history.take(entry)?;
+        return Some(String::new(alloc));
     }
+    call(alloc, scene.boards.as_mut()?, call_of(entry))
 }
 
-fn take_apart(alloc: Global, boards: Boards) -> Option<String> {
-    let Boards { core, plain } = boards;
-    both(parts(alloc, core)?, parts(alloc, plain)?)
-}
-
-fn look_at(alloc: Global, boards: &Boards) -> Option<String> {
-    both(look(alloc, &boards.core)?, look(alloc, &boards.plain)?)
-}
-
-fn drain(alloc: Global, boards: &mut Boards, most: usize) -> Option<String> {
-    both(
-        drained(alloc, &mut boards.core, most)?,
-        drained(alloc, &mut boards.plain, most)?,
-    )
-}
-
+// New boards of this room. The lines of entries are calls on them.
 fn new_boards(alloc: Global, scene: &mut Scene, room: usize) -> Option<String> {
-    scene.boards = Some(boards_of(alloc, &scene.told, room)?);
+    scene.boards = Some(boards_of(alloc, &scene.told.as_ref()?.set, room)?);
+    scene.tells = false;
     Some(String::new(alloc))
 }
 
-/// Does what a line says. Some tells what is to be printed, if anything; None where the line is none, or memory ran out.
-pub fn follow(alloc: Global, scene: &mut Scene, line: &str) -> Option<String> {
-    let (word, rest) = line.split_once(' ').unwrap_or((line, ""));
+// A line on the boards.
+fn on_boards(alloc: Global, scene: &mut Scene, word: &str, rest: &str) -> Option<String> {
     match word {
-        "rtdb" | "item" | "txn" | "together" | "mode" => declare(alloc, scene, word, line),
-        "plan" | "step" | "block" | "idle" => {
-            let asked = entry_call(&scene.told, line)?;
-            call(alloc, scene.boards.as_mut()?, asked)
-        }
         "boards" => new_boards(alloc, scene, rest.parse::<usize>().ok()?),
         "next" => {
             let tx = TxId(rest.parse::<u32>().ok()?);
@@ -164,6 +74,68 @@ pub fn follow(alloc: Global, scene: &mut Scene, line: &str) -> Option<String> {
         "look" => look_at(alloc, scene.boards.as_ref()?),
         "drain" => drain(alloc, scene.boards.as_mut()?, rest.parse::<usize>().ok()?),
         "parts" => take_apart(alloc, scene.boards.take()?),
+        _ => None,
+    }
+}
+
+// A line on the history. The lines of entries tell it.
+fn on_history(alloc: Global, scene: &mut Scene, word: &str, rest: &str) -> Option<String> {
+    scene.tells = true;
+    match word {
+        "history" => scene.history.begin(),
+        "keep" => scene.history.keep(alloc)?,
+        "front" => scene.history.front(alloc, rest.parse::<usize>().ok()?)?,
+        "from" => scene.history.go_on(alloc, rest.parse::<usize>().ok()?)?,
+        _ => return None,
+    }
+    Some(String::new(alloc))
+}
+
+// A room and a seed.
+fn room_and_seed(words: &str) -> Option<(usize, u64)> {
+    let (room, seed) = words.split_once(' ')?;
+    Some((room.parse::<usize>().ok()?, seed.parse::<u64>().ok()?))
+}
+
+// Boards of the set that was declared, compared.
+fn compare_declared(alloc: Global, scene: &mut Scene, words: &str) -> Option<String> {
+    let (room, seed) = room_and_seed(words)?;
+    let told = scene.told.as_ref()?;
+    compare(alloc, &told.set, room, seed, &mut scene.kinds)
+}
+
+// Boards of the generated set of so many transactions, compared.
+fn compare_generated(alloc: Global, scene: &mut Scene, words: &str) -> Option<String> {
+    let (n, words) = words.split_once(' ')?;
+    let (room, seed) = room_and_seed(words)?;
+    let set = generated(alloc, n.parse::<u32>().ok()?).ok()??;
+    compare(alloc, &set, room, seed, &mut scene.kinds)
+}
+
+fn kinds_of(alloc: Global, kinds: &Kinds) -> Option<String> {
+    let mut text = String::new(alloc);
+    for kind in kinds.iter() {
+        text.push_str("\n    ").ok()?;
+        text.push_str(kind.as_str()).ok()?;
+    }
+    Some(text)
+}
+
+/// Does what a line says. Some tells what is to be printed, if anything; None where the line is none, or memory ran out.
+pub fn follow(alloc: Global, scene: &mut Scene, line: &str) -> Option<String> {
+    let (word, rest) = line.split_once(' ').unwrap_or((line, ""));
+    match word {
+        "rtdb" | "item" | "txn" | "together" | "mode" => declare(alloc, scene, word, line),
+        "plan" | "step" | "block" | "idle" => take_entry(alloc, scene, line),
+        "boards" | "next" | "look" | "drain" | "parts" => on_boards(alloc, scene, word, rest),
+        "history" | "keep" | "front" | "from" => on_history(alloc, scene, word, rest),
+        "replay" => {
+            let told = scene.told.as_ref()?;
+            replayed(alloc, &told.set, scene.history.entries())
+        }
+        "compare" => compare_declared(alloc, scene, rest),
+        "generated" => compare_generated(alloc, scene, rest),
+        "kinds" => kinds_of(alloc, &scene.kinds),
         _ => None,
     }
 }

@@ -115,19 +115,24 @@ fn follow(rt: &HostRuntime, disks: &mut Vec<Kept>, line: &str) -> Option<String>
     }
 }
 
-fn main(rt: HostRuntime) -> io::Result<()> {
-    let mut disks = Vec::new(rt.alloc());
+// Prints what comes of each line of standard input.
+fn follow_lines(rt: &HostRuntime, disks: &mut Vec<Kept>) -> io::Result<()> {
     for line in rt.lines(rt.alloc()) {
         let line = line?;
         let line = line.as_str();
         if line.is_empty() || line.starts_with('#') {
             continue;
         }
-        match follow(&rt, &mut disks, line) {
+        match follow(rt, disks, line) {
             Some(said) if said.is_empty() => {}
             Some(said) => println!(rt; "{line}: {said}")?,
             None => println!(rt; "{line}: failed")?,
         }
     }
     Ok(())
+}
+
+fn main(rt: HostRuntime) -> io::Result<()> {
+    let mut disks = Vec::new(rt.alloc());
+    follow_lines(&rt, &mut disks)
 }

@@ -4,6 +4,7 @@ ghost use Rattle.std.specs.Prelude.{List as Many};
 ghost use Rattle.io_edge.specs.Causes.{HasCause};
 ghost use Rattle.step_journal.specs.declared.entry.Entry.{Entry as Noted};
 ghost use Rattle.sim_history.specs.Sim.{IsSim};
+ghost use Rattle.entry_out.specs.Outs.{LosesNone};
 ghost use Rattle.sim_run.specs.Handed.{CanTake};
 ghost use Rattle.sim_run.specs.Runs.{IsWhole, IsStopped};
 ghost use Rattle.journal_run.specs.Ready.{CanRun, workload_in};
@@ -33,7 +34,7 @@ impl<B: Board, Y: Body> Runner<B, Y> {
         requires good { (history : Many Noted) → IsSim (workload_in B.set Y.gives self.old) history
             → CanTake (O.got out.old) (O.good out.old) history }
         ensures whole { IfOk result (λ _. IsWhole (workload_in B.set Y.gives self.old) (B.stands self.new.board) (O.got out.old) (O.got out.new)) }
-        ensures none_lost { IfOk result (λ _. O.lost out.new []) }
+        ensures none_lost { LosesNone O.lost out.new result }
         ensures stopped { OnErr result (IsStopped (workload_in B.set Y.gives self.old) (O.got out.old) (O.got out.new) (O.lost out.new)) }
         ensures cause { HasCause (O.stops out.old) (O.stops out.new) result }
         ensures set { B.set self.new.board ≡ B.set self.old.board }

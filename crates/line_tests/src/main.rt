@@ -127,18 +127,25 @@ fn read(alloc: Global, names: &NameTables, kind: &str, text: &str) -> Option<Str
     }
 }
 
-fn main(rt: HostRuntime) -> io::Result<()> {
-    let alloc = rt.alloc();
-    let Some(names) = small(alloc) else {
-        return println!(rt; "out of memory");
-    };
+// Prints what comes of each line of standard input.
+fn follow_lines(rt: &HostRuntime, alloc: Global, names: &NameTables) -> io::Result<()>
+    requires items { length names.now.items ≡ 2 }
+    requires txns { length names.now.txns ≡ 3 }
+{
     for line in rt.lines(alloc) {
         let line = line?;
         let (kind, text) = line.as_str().split_once(' ').unwrap_or((line.as_str(), ""));
-        match read(alloc, &names, kind, text) {
+        match read(alloc, names, kind, text) {
             Some(said) => println!(rt; "{kind} {text}: {said}")?,
             None => println!(rt; "{kind} {text}: not read")?,
         }
     }
     Ok(())
+}
+
+fn main(rt: HostRuntime) -> io::Result<()> {
+    match small(rt.alloc()) {
+        Some(names) => follow_lines(&rt, rt.alloc(), &names),
+        None => println!(rt; "out of memory"),
+    }
 }

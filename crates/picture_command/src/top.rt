@@ -1,6 +1,7 @@
 //! The top call.
-ghost use Rattle.std.specs.Prelude.{◌≡◌, ◌⊎◌, ℕ, List as Many, Option as Maybe, IfOk, IsErrOf, Some, None};
+ghost use Rattle.std.specs.Prelude.{◌≡◌, ◌⊎◌, ℕ, List as Many, Option as Maybe, IfOk, Some, None};
 ghost use Rattle.io_edge.specs.Causes.{Rose};
+ghost use Rattle.command_replies.specs.Causes.{HasReadCause, HasWriteCause, HasSourceCause};
 ghost use Rattle.picture_command.specs.Parts.{wanted_of, IsEarly};
 ghost use Rattle.picture_command.specs.Answers.{IsAnswer, Answers, IsDue};
 
@@ -17,7 +18,7 @@ const USAGE: &[u8] = b"usage: rtdb-picture [--from TICK --to TICK]\n";
 fn reply_to<S: Source>(alloc: Global, wanted: Wanted, source: &mut S) -> Result<Reply, Unanswered>
     requires { IsEarly wanted }
     ensures said { IfOk result (λ r. IsAnswer (Some wanted) (S.left source.old) (S.left source.new) r.status r.text.items) }
-    ensures read { IsErrOf result Unanswered.Reading → Rose (S.faults source.old) (S.faults source.new) }
+    ensures read { HasSourceCause (S.faults source.old) (S.faults source.new) result }
 {
     match read_all(alloc, source, REPORT_LIMIT) {
         Ok(input) => Ok(drawn(alloc, &input, wanted)?),
@@ -30,8 +31,8 @@ fn reply_to<S: Source>(alloc: Global, wanted: Wanted, source: &mut S) -> Result<
 fn answer<S: Source, K: Sink>(alloc: Global, wanted: Wanted, source: &mut S, sink: &mut K) -> Status
     requires { IsEarly wanted }
     ensures answer { Answers (Some wanted) (S.left source.old) (S.left source.new) (K.taken sink.old) (K.taken sink.new) result }
-    ensures read { result ≡ Status.ReadFault → Rose (S.faults source.old) (S.faults source.new) }
-    ensures write { result ≡ Status.WriteFault → Rose (K.faults sink.old) (K.faults sink.new) }
+    ensures read { HasReadCause (S.faults source.old) (S.faults source.new) result }
+    ensures write { HasWriteCause (K.faults sink.old) (K.faults sink.new) result }
 {
     match reply_to(alloc, wanted, source) {
         Ok(reply) => match write_all(sink, &reply.text) {
@@ -46,7 +47,7 @@ fn answer<S: Source, K: Sink>(alloc: Global, wanted: Wanted, source: &mut S, sin
 fn answer_usage<K: Sink>(sink: &mut K) -> Status
     ensures answer { (left : Maybe (Many ℕ)) → Answers None left left (K.taken sink.old) (K.taken sink.new) result }
     ensures read { result ≡ Status.ReadFault → ⊥ }
-    ensures write { result ≡ Status.WriteFault → Rose (K.faults sink.old) (K.faults sink.new) }
+    ensures write { HasWriteCause (K.faults sink.old) (K.faults sink.new) result }
 {
     match write_all(sink, USAGE) {
         Ok(()) => Status::Usage,
@@ -65,8 +66,8 @@ pub fn draw_report<S: Source, K: Sink>(
     // Which status, and what is written.
     ensures answer { Answers (wanted_of words.now) (S.left source.old) (S.left source.new) (K.taken sink.old) (K.taken sink.new) result }
     // No fault is told unless there was one.
-    ensures read { result ≡ Status.ReadFault → Rose (S.faults source.old) (S.faults source.new) }
-    ensures write { result ≡ Status.WriteFault → Rose (K.faults sink.old) (K.faults sink.new) }
+    ensures read { HasReadCause (S.faults source.old) (S.faults source.new) result }
+    ensures write { HasWriteCause (K.faults sink.old) (K.faults sink.new) result }
     // Without a wanted part nothing is read, whatever the status is.
     ensures unread { wanted_of words.now ≡ None → source.new ≡ source.old }
     // The status that is due is answered, unless memory runs out.

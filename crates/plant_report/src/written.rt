@@ -1,5 +1,5 @@
 //! The whole report of a run by workers.
-ghost use Rattle.std.specs.Prelude.{◌≡◌, ◌⊎◌, ℕ, ◌+◌, ◌≤◌, true, length, map, OnOk, OnErr, IsErrOf};
+ghost use Rattle.std.specs.Prelude.{◌≡◌, ◌⊎◌, ℕ, ◌+◌, ◌≤◌, length, map, OnOk, OnErr, IsErrOf};
 ghost use Rattle.std.specs.List.{sum};
 ghost use Rattle.std.specs.Io.KnownBytes.{Keeps};
 ghost use Rattle.io_edge.specs.Causes.{Rose};
@@ -7,7 +7,6 @@ ghost use Rattle.counting_laws.specs.Counting.{room_of_jobs};
 ghost use Rattle.sim_run.specs.Workloads.{ticks_of};
 ghost use Rattle.eager_laws.specs.Plannable.{own_jobs};
 ghost use Rattle.plant_run.specs.Ready.{CanRun, workload_in, own_in};
-ghost use Rattle.plant_run.specs.Runs.{own_at};
 ghost use Rattle.report_out.specs.Opened.{IsOpened};
 ghost use Rattle.report_out.specs.Written.{Wrote, WroteFront};
 ghost use Rattle.run_fault.specs.declared.fault.RunFault.TheVariants.{Writing, Memory};
@@ -28,18 +27,6 @@ use std::sync::Wait;
 use std::thread::Threads;
 use step_script::Body;
 use txn_threads::Gate;
-
-// Whether no transaction plans a job itself.
-fn none_own(own: &[u32]) -> bool
-    ensures { result ≡ true → (tx : ℕ) → own_at own.now tx ≡ 0 }
-{
-    for jobs in own {
-        if *jobs > 0 {
-            return false;
-        }
-    }
-    true
-}
 
 // Writes the report of a run in which no transaction is eager: the lines of the entries as they come.
 fn write_fixed<
@@ -121,7 +108,7 @@ pub fn write_run<
     ensures fault { IsErrOf result Writing → Rose (K.faults sink.old) (K.faults sink.new) }
     ensures later { K.faults sink.old ≤ K.faults sink.new }
 {
-    if none_own(run.own) {
+    if run.is_fixed() {
         write_fixed(rt, alloc, run, report, gate, sink)
     } else {
         let (board, history) = keep_run(rt, alloc, run, report.entries, gate)?;

@@ -1,7 +1,7 @@
 -- Members of workers, from the dealing to the end of their run.
 use Rattle.std.proofs.Common.{◌≡◌, ℕ, zero, suc, ◌+◌, ◌<◌, ◌++◌, Bool, true, if◌then◌else◌, nat_lt, List, [], ◌∷◌, length, map, reverse, slice_index_or, Option, None, Some, All, refl, sym, ap, subst, ◌∙◌, arith}
 use Rattle.std.proofs.lemmas.Bool.Decides.{nat_tests}
-use Rattle.std.proofs.lemmas.List.{reverse-append, length-reverse}
+use Rattle.std.proofs.lemmas.List.{reverse-append, length-reverse, map-append}
 use Rattle.std.proofs.lemmas.List.Elements.{All-cons, All-push, All-head, All-tail}
 use Rattle.rt_base.specs.declared.ids.TxId.{TxId}
 use Rattle.rt_base.specs.declared.operation.Op.{Op}
@@ -42,6 +42,12 @@ all_jobs (suc n) ticks f =
     grind (arith, nat_tests)
 
 -- lists turned round
+
+pub map_reverse : {X Y : Type 0} (f : X → Y) (xs : List X) → map f (reverse xs) ≡ reverse (map f xs)
+map_reverse f [] = refl
+map_reverse f (x ∷ xs) =
+    ap (map f) (reverse-append (x ∷ []) xs)
+    ∙ (map-append f (reverse xs) (x ∷ []) ∙ (ap (λ l. l ++ f x ∷ []) (map_reverse f xs) ∙ sym (reverse-append (f x ∷ []) (map f xs))))
 
 total_reverse : {X : Type 0} (f : X → ℕ) (xs : List X) → total f (reverse xs) ≡ total f xs
 total_reverse f [] = refl

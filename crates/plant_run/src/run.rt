@@ -1,4 +1,7 @@
 //! What is run.
+ghost use Rattle.std.specs.Prelude.{◌≡◌, ℕ, true};
+ghost use Rattle.plant_run.specs.Ready.{own_in};
+
 use rt_base::{List, Tick};
 use step_journal::Entry;
 use worker_count::Workers;
@@ -16,4 +19,18 @@ pub struct Run<'a, B, Y> {
     pub workers: Workers,
     /// A place for all entries that the board keeps; it holds none.
     pub spare: Vec<Entry>,
+}
+
+impl<B, Y> Run<'_, B, Y> {
+    /// Whether no transaction plans a job itself. It looks at each of them.
+    pub fn is_fixed(&self) -> bool
+        ensures { result ≡ true → (tx : ℕ) → own_in self.now tx ≡ 0 }
+    {
+        for jobs in self.own {
+            if *jobs > 0 {
+                return false;
+            }
+        }
+        true
+    }
 }

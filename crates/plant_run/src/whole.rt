@@ -4,10 +4,13 @@ ghost use Rattle.std.specs.Prelude.{List as Many};
 ghost use Rattle.io_edge.specs.Causes.{Rose};
 ghost use Rattle.step_journal.specs.declared.entry.Entry.{Entry as Noted};
 ghost use Rattle.step_journal.specs.History.{IsLegal};
+ghost use Rattle.entry_out.specs.Outs.{StaysGood, LosesNone};
+ghost use Rattle.sim_run.specs.Boards.{IsFixed};
 ghost use Rattle.sim_run.specs.Handed.{CanTake};
 ghost use Rattle.plant_run.specs.Ready.{CanRun, workload_in, own_in};
 ghost use Rattle.plant_run.specs.Runs.{IsWholeRun, IsStoppedRun, IsShortRun};
 
+use crate::alone::run_alone;
 use crate::deal::Crew;
 use crate::laws::stories_are;
 use crate::run::Run;
@@ -25,9 +28,10 @@ use txn_threads::Gate;
 /// Runs a workload by workers, each in a thread of its own where one can be made. It plans every release, by transaction and
 /// then by index, starts a plant on the board, deals the transactions out to the workers, that of index i with those of the
 /// same i modulo their number, lets them run the bodies until all jobs have ended, and closes the plant. An eager
-/// transaction plans its jobs itself, each when those before it have ended. The out gets the history in its order; it is a
-/// run of the workload, and where no transaction is eager the one run, whatever the number of workers (`fixed_runs`). The
-/// board is handed back with none left in it. Each body begins anew. `gate` is told of each question to a body.
+/// transaction plans its jobs itself, each when those before it have ended. Where no transaction is eager one worker needs no
+/// plant, and the board is called in the thread of the caller. The out gets the history in its order; it is a run of the
+/// workload, and where no transaction is eager the one run, whatever the number of workers (`fixed_runs`). The board is
+/// handed back with none left in it. Each body begins anew. `gate` is told of each question to a body.
 ///
 /// Writing comes only where the out stopped in this call: what it got, and after it what it lost, are how a run of the
 /// workload begins. Memory comes where a growth was refused, most of them before anything is planned: the out has then got
@@ -44,14 +48,17 @@ pub fn run_workers<
     requires good { (history : Many Noted) → IsLegal (B.set run.board) history → CanTake (O.got out.old) (O.good out.old) history }
     ensures whole { IfOk result (λ b. IsWholeRun (workload_in B.set Y.gives run.entry) (own_in run.entry) (B.stands b) (O.got out.old) (O.got out.new)) }
     ensures left { IfOk result (λ b. B.kept b ≡ []) }
-    ensures fixed { IfOk result (λ b. (B.set b ≡ B.set run.entry.board) × (B.room b ≡ B.room run.entry.board)) }
-    ensures none_lost { IfOk result (λ _. O.lost out.new []) }
+    ensures fixed { IfOk result (λ b. IsFixed B.set B.room run.entry.board b) }
+    ensures none_lost { LosesNone O.lost out.new result }
     ensures stopped { IsErrOf result RunFault.Writing → IsStoppedRun (workload_in B.set Y.gives run.entry) (own_in run.entry) (O.got out.old) (O.got out.new) (O.lost out.new) }
     ensures short { IsErrOf result RunFault.Memory → IsShortRun (workload_in B.set Y.gives run.entry) (own_in run.entry) (O.got out.old) (O.got out.new) (O.lost out.new) }
     ensures cause { IsErrOf result RunFault.Writing → Rose (O.stops out.old) (O.stops out.new) }
     ensures later { O.stops out.old ≤ O.stops out.new }
-    ensures good { (story : Many Noted) → O.good out.old story → O.good out.new story }
+    ensures good { StaysGood O.good out.old out.new }
 {
+    if run.workers.get() == 1 && run.is_fixed() {
+        return run_alone(alloc, run, gate, out);
+    }
     stories_are::<B>();
     let Run {
         mut board,

@@ -1,10 +1,10 @@
 //! Workers on a plant, from its start to its closing.
 ghost use Rattle.std.specs.Prelude.{◌≡◌, ◌+◌, ◌≤◌, ◌++◌, ◌∷◌, [], None, length, IfOk, IsErrOf, vec_capacity};
-ghost use Rattle.std.specs.Prelude.{List as Many};
+ghost use Rattle.entry_out.specs.Outs.{StaysGood, LosesNone};
 ghost use Rattle.io_edge.specs.Causes.{Rose};
-ghost use Rattle.step_journal.specs.declared.entry.Entry.{Entry as Noted};
 ghost use Rattle.shared_plant.specs.Seats.{AreOf, newcomer, newcomers};
 ghost use Rattle.sim_history.specs.Sim.{plans_from};
+ghost use Rattle.sim_run.specs.Boards.{IsFixed};
 ghost use Rattle.plant_run.specs.Deals.{IsReserved};
 ghost use Rattle.plant_run.specs.Works.{HasWorked, WasCut, CanGoOn};
 ghost use Rattle.plant_run.specs.Ready.{IsPlanned, workload_in, own_in};
@@ -27,7 +27,7 @@ use std::thread::Threads;
 use step_journal::Entry;
 use step_script::Body;
 use turn_cell::Past;
-use txn_threads::{Gate, RunStop, run_all};
+use txn_threads::{Drain, Gate, run_all};
 
 // A plant on a board that stands for the plans of all releases.
 fn start_on<P: Past<Entry>, B: Board + Drop>(
@@ -61,17 +61,6 @@ fn start<B: Board + Drop>(
     start_on::<Brand, B>(alloc, board, releases)
 }
 
-// Only the out stops a run of an obedient workload whose eager jobs can be planned.
-fn fault_of(stop: RunStop) -> RunFault
-    requires { stop ≡ RunStop.Stopped }
-    ensures { result ≡ RunFault.Writing }
-{
-    match stop {
-        RunStop::Stopped => RunFault::Writing,
-        _ => unreachable!(),
-    }
-}
-
 // A run whose releases were planned, and places for its members and workers.
 #[derive(Drop)]
 pub(crate) struct Staffed<'a, B: Board, Y: Body> {
@@ -98,13 +87,13 @@ pub(crate) fn work<
     requires nothing_lost { O.lost out.old [] }
     requires good { CanGoOn (workload_in B.set Y.gives staffed.run) (O.got out.old) (O.good out.old) (B.kept staffed.run.board) }
     ensures worked { IfOk result (λ r. HasWorked (workload_in B.set Y.gives staffed.entry.run) (own_in staffed.entry.run) (B.stands r.0) (O.got out.old) (O.got out.new) (B.kept staffed.entry.run.board) (B.kept r.0)) }
-    ensures fixed { IfOk result (λ r. (B.set r.0 ≡ B.set staffed.entry.run.board) × (B.room r.0 ≡ B.room staffed.entry.run.board)) }
-    ensures none_lost { IfOk result (λ _. O.lost out.new []) }
+    ensures fixed { IfOk result (λ r. IsFixed B.set B.room staffed.entry.run.board r.0) }
+    ensures none_lost { LosesNone O.lost out.new result }
     ensures cut { IsErrOf result RunFault.Writing → WasCut (workload_in B.set Y.gives staffed.entry.run) (own_in staffed.entry.run) (O.got out.old) (O.got out.new) (O.lost out.new) (B.kept staffed.entry.run.board) }
     ensures memory { IsErrOf result RunFault.Memory → out.new ≡ out.old }
     ensures cause { IsErrOf result RunFault.Writing → Rose (O.stops out.old) (O.stops out.new) }
     ensures later { O.stops out.old ≤ O.stops out.new }
-    ensures good { (story : Many Noted) → O.good out.old story → O.good out.new story }
+    ensures good { StaysGood O.good out.old out.new }
     ensures spare { IfOk result (λ r. (r.1.items ≡ []) × (vec_capacity r.1 ≡ vec_capacity staffed.entry.run.spare)) }
 {
     stories_are::<B>();
@@ -115,20 +104,14 @@ pub(crate) fn work<
         ticks,
         own,
         workers: _,
-        mut spare,
+        spare,
     } = run;
     let (plant, mut seats) = start(alloc, board, ticks)?;
-    let mut operator = seats.pop().unwrap();
+    let operator = seats.pop().unwrap();
     let mut workers = crew.hire(&mut seats, bodies, ticks, own);
-    let ran = run_all(
-        rt,
-        &plant,
-        workers.as_mut_slice(),
-        &mut operator,
-        &mut spare,
-        gate,
-        out,
-    );
+    let mut drain = Drain { operator, spare };
+    let ran = run_all(rt, &plant, workers.as_mut_slice(), &mut drain, gate, out);
+    let Drain { operator, spare } = drain;
     gather(workers, &mut seats);
     seats.push_reserved(operator);
     let board = closed(plant, seats);
@@ -138,6 +121,7 @@ pub(crate) fn work<
     never_unplanned::<B, Y>();
     match ran {
         Ok(()) => Ok((board, spare)),
-        Err(stop) => Err(fault_of(stop)),
+        // Nothing but the out stops a run of an obedient workload whose eager jobs can be planned.
+        Err(_) => Err(RunFault::Writing),
     }
 }

@@ -1,10 +1,10 @@
 //! A report whose entries are put in pieces.
-ghost use Rattle.std.specs.Prelude.{◌≡◌, ◌≤◌, ◌<◌, ℕ, [], take, List as Many, IfOk};
+ghost use Rattle.std.specs.Prelude.{◌≡◌, ◌≤◌, ◌<◌, ℕ, [], take, IfOk};
 ghost use Rattle.std.specs.Io.KnownBytes.{Appends};
-ghost use Rattle.step_journal.specs.declared.entry.Entry.{Entry as Noted};
 ghost use Rattle.step_journal.specs.History.{IsLegal, state_of};
 ghost use Rattle.job_rows.specs.Upkeep.{Follows};
 ghost use Rattle.report_lines.specs.Texts.{NamesSet, entries_text};
+ghost use Rattle.entry_out.specs.Outs.{StaysGood, LosesNone};
 ghost use Rattle.report_out.specs.declared.standing.Standing.TheVariants.{Going};
 
 use crate::worked::Worked;
@@ -25,8 +25,8 @@ fn put_pieces<O: EntryOut>(out: &mut O, entries: &[Entry], size: usize) -> Resul
     requires nothing { O.got out.old [] }
     requires good { (n : ℕ) → O.good out.old (take n entries.now) }
     ensures all { IfOk result (λ _. O.got out.new entries.now) }
-    ensures none_lost { IfOk result (λ _. O.lost out.new []) }
-    ensures same { (story : Many Noted) → O.good out.old story → O.good out.new story }
+    ensures none_lost { LosesNone O.lost out.new result }
+    ensures same { StaysGood O.good out.old out.new }
 {
     let mut done = 0;
     while done < entries.len() {

@@ -1,6 +1,7 @@
 //! The call for a journal.
 ghost use Rattle.std.specs.Prelude.{◌≡◌, ◌⊎◌, ◌↔◌, true, IfOk, IfErr, IsErrOf, IsSome, IsTrue};
 ghost use Rattle.io_edge.specs.Causes.{Rose};
+ghost use Rattle.command_replies.specs.Causes.{HasReadCause, HasWriteCause};
 ghost use Rattle.journal_run.specs.Replies.{LeavesDisk};
 ghost use Rattle.rtdb_command.specs.Journals.{is_path as is_path_of, is_journal as is_journal_of, IsAnswerFor, JournalAnswers, HoldsFrom, IsGoodFor, IsMute};
 
@@ -97,8 +98,8 @@ pub fn rtdb_journal<S: Source, K: Sink, D: Disk>(
     // After Ok the disk has the whole run, and so has what a crash leaves of it.
     ensures holds { result.0 ≡ Status.Ok → HoldsFrom (S.left source.old) (S.left source.new) (D.seen result.1) (D.may_leave result.1) }
     // No fault is told unless there was one.
-    ensures read { result.0 ≡ Status.ReadFault → Rose (S.faults source.old) (S.faults source.new) }
-    ensures write { result.0 ≡ Status.WriteFault → Rose (K.faults sink.old) (K.faults sink.new) }
+    ensures read { HasReadCause (S.faults source.old) (S.faults source.new) result.0 }
+    ensures write { HasWriteCause (K.faults sink.old) (K.faults sink.new) result.0 }
     ensures fault { result.0 ≡ Status.DiskFault → Rose (D.faults disk) (D.faults result.1) }
     ensures told { result.0 ≡ Status.Ok → (IsSome (D.seen disk) ↔ IsSome (D.seen result.1)) }
     // With other words, an input that is not read or too long, or a scenario that is refused, the disk is as it was.

@@ -1,7 +1,8 @@
 //! The top call.
-ghost use Rattle.std.specs.Prelude.{◌≡◌, ◌⊎◌, ◌≤◌, length, [], Some, None, Ok, Option as Maybe, List as Many, ℕ, IfOk, IfErr, IfSome, IsErrOf};
+ghost use Rattle.std.specs.Prelude.{◌≡◌, ◌⊎◌, ◌≤◌, length, [], Some, None, Ok, Option as Maybe, List as Many, ℕ, IfOk, IfErr, IfSome};
 ghost use Rattle.std.specs.Io.KnownBytes.{Keeps};
 ghost use Rattle.io_edge.specs.Causes.{Rose};
+ghost use Rattle.command_replies.specs.Causes.{HasReadCause, HasWriteCause, HasSourceCause};
 ghost use Rattle.scenario.specs.Shown.{shown};
 ghost use Rattle.scenario.specs.Scenarios.{IsScenario};
 ghost use Rattle.scenario_forms.specs.Root.{forms_view};
@@ -99,7 +100,7 @@ pub(crate) fn scenario_from<S: Source>(
 ) -> Result<Result<Scenario, Reply>, Unanswered>
     ensures scenario { IfOk result (λ r. IfOk r (λ s. IsReadFrom (S.left source.old) (S.left source.new) (shown s))) }
     ensures refused { IfOk result (λ r. IfErr r (λ p. IsRefusedFrom (S.left source.old) (S.left source.new) p.status p.text.items)) }
-    ensures read { IsErrOf result Unanswered.Reading → Rose (S.faults source.old) (S.faults source.new) }
+    ensures read { HasSourceCause (S.faults source.old) (S.faults source.new) result }
 {
     match read_all(alloc, source, SCENARIO_LIMIT) {
         Ok(input) => Ok(judged(alloc, &input)?),
@@ -112,7 +113,7 @@ pub(crate) fn scenario_from<S: Source>(
 // The verdict on the report that is read.
 fn replay<S: Source>(alloc: Global, source: &mut S) -> Result<Reply, Unanswered>
     ensures said { IfOk result (λ r. IsAnswer (Some (Command.Plain PlainCommand.Replay)) (S.left source.old) (S.left source.new) r.status r.text.items) }
-    ensures read { IsErrOf result Unanswered.Reading → Rose (S.faults source.old) (S.faults source.new) }
+    ensures read { HasSourceCause (S.faults source.old) (S.faults source.new) result }
 {
     match read_all(alloc, source, REPORT_LIMIT) {
         Ok(input) => Ok(replayed(alloc, &input)?),
@@ -135,7 +136,7 @@ fn generate(alloc: Global, n: u32) -> Result<Reply, OutOfMemory>
 
 fn ask_ceilings<S: Source>(alloc: Global, source: &mut S) -> Result<Reply, Unanswered>
     ensures said { IfOk result (λ r. IsAnswer (Some (Command.Plain PlainCommand.Ceilings)) (S.left source.old) (S.left source.new) r.status r.text.items) }
-    ensures read { IsErrOf result Unanswered.Reading → Rose (S.faults source.old) (S.faults source.new) }
+    ensures read { HasSourceCause (S.faults source.old) (S.faults source.new) result }
 {
     match scenario_from(alloc, source)? {
         Ok(scenario) => Ok(ceilings(alloc, scenario)?),
@@ -145,7 +146,7 @@ fn ask_ceilings<S: Source>(alloc: Global, source: &mut S) -> Result<Reply, Unans
 
 fn ask_bounds<S: Source>(alloc: Global, source: &mut S) -> Result<Reply, Unanswered>
     ensures said { IfOk result (λ r. IsAnswer (Some (Command.Plain PlainCommand.Admit)) (S.left source.old) (S.left source.new) r.status r.text.items) }
-    ensures read { IsErrOf result Unanswered.Reading → Rose (S.faults source.old) (S.faults source.new) }
+    ensures read { HasSourceCause (S.faults source.old) (S.faults source.new) result }
 {
     match scenario_from(alloc, source)? {
         Ok(scenario) => Ok(bounds(alloc, scenario)?),
@@ -155,7 +156,7 @@ fn ask_bounds<S: Source>(alloc: Global, source: &mut S) -> Result<Reply, Unanswe
 
 fn ask_rates<S: Source>(alloc: Global, source: &mut S) -> Result<Reply, Unanswered>
     ensures said { IfOk result (λ r. IsAnswer (Some (Command.Plain PlainCommand.Rates)) (S.left source.old) (S.left source.new) r.status r.text.items) }
-    ensures read { IsErrOf result Unanswered.Reading → Rose (S.faults source.old) (S.faults source.new) }
+    ensures read { HasSourceCause (S.faults source.old) (S.faults source.new) result }
 {
     match scenario_from(alloc, source)? {
         Ok(scenario) => Ok(rates(alloc, scenario)?),
@@ -165,7 +166,7 @@ fn ask_rates<S: Source>(alloc: Global, source: &mut S) -> Result<Reply, Unanswer
 
 fn ask_margin<S: Source>(alloc: Global, source: &mut S) -> Result<Reply, Unanswered>
     ensures said { IfOk result (λ r. IsAnswer (Some (Command.Plain PlainCommand.Margin)) (S.left source.old) (S.left source.new) r.status r.text.items) }
-    ensures read { IsErrOf result Unanswered.Reading → Rose (S.faults source.old) (S.faults source.new) }
+    ensures read { HasSourceCause (S.faults source.old) (S.faults source.new) result }
 {
     match scenario_from(alloc, source)? {
         Ok(scenario) => Ok(margins(alloc, scenario)?),
@@ -181,7 +182,7 @@ fn reply_to<S: Source>(
 ) -> Result<Reply, Unanswered>
     requires { IsInRange (Command.Plain command) }
     ensures said { IfOk result (λ r. IsAnswer (Some (Command.Plain command)) (S.left source.old) (S.left source.new) r.status r.text.items) }
-    ensures read { IsErrOf result Unanswered.Reading → Rose (S.faults source.old) (S.faults source.new) }
+    ensures read { HasSourceCause (S.faults source.old) (S.faults source.new) result }
     ensures unread { TakesNoInput (Some (Command.Plain command)) → source.new ≡ source.old }
 {
     match command {
@@ -203,8 +204,8 @@ fn answer_plain<S: Source, K: Sink>(
     requires { IsInRange (Command.Plain command) }
     ensures answer { Answers (Some (Command.Plain command)) (S.left source.old) (S.left source.new) (K.taken sink.old) (K.taken sink.new) result }
     ensures unread { TakesNoInput (Some (Command.Plain command)) → source.new ≡ source.old }
-    ensures read { result ≡ Status.ReadFault → Rose (S.faults source.old) (S.faults source.new) }
-    ensures write { result ≡ Status.WriteFault → Rose (K.faults sink.old) (K.faults sink.new) }
+    ensures read { HasReadCause (S.faults source.old) (S.faults source.new) result }
+    ensures write { HasWriteCause (K.faults sink.old) (K.faults sink.new) result }
 {
     match reply_to(alloc, command, source) {
         Ok(reply) => match write_all(sink, &reply.text) {
@@ -220,7 +221,7 @@ pub(crate) fn answer_no_command<K: Sink>(sink: &mut K) -> Status
     ensures answer { (left : Maybe (Many ℕ)) → Answers None left left (K.taken sink.old) (K.taken sink.new) result }
     ensures which { (result ≡ Status.Usage) ⊎ (result ≡ Status.WriteFault) }
     ensures read { result ≡ Status.ReadFault → ⊥ }
-    ensures write { result ≡ Status.WriteFault → Rose (K.faults sink.old) (K.faults sink.new) }
+    ensures write { HasWriteCause (K.faults sink.old) (K.faults sink.new) result }
 {
     match write_all(sink, USAGE) {
         Ok(()) => Status::Usage,
@@ -237,8 +238,8 @@ fn answer_run<R: Threads + Wait + Sync, S: Source, K: Sink, G: Gate + Sync>(
     gate: &G,
 ) -> Status
     ensures answer { Answers (Some (Command.Run mode.trial mode.workers)) (S.left source.old) (S.left source.new) (K.taken sink.old) (K.taken sink.new) result }
-    ensures read { result ≡ Status.ReadFault → Rose (S.faults source.old) (S.faults source.new) }
-    ensures write { result ≡ Status.WriteFault → Rose (K.faults sink.old) (K.faults sink.new) }
+    ensures read { HasReadCause (S.faults source.old) (S.faults source.new) result }
+    ensures write { HasWriteCause (K.faults sink.old) (K.faults sink.new) result }
 {
     let scenario = match scenario_from(alloc, source) {
         Ok(Ok(scenario)) => scenario,
@@ -285,7 +286,7 @@ fn answer_load<R: Threads + Wait + Sync, K: Sink, G: Gate + Sync>(
     requires n { (1 ≤ n) × (n ≤ 64) }
     ensures answer { (left : Maybe (Many ℕ)) → Answers (Some (Command.Load n workers)) left left (K.taken sink.old) (K.taken sink.new) result }
     ensures read { result ≡ Status.ReadFault → ⊥ }
-    ensures write { result ≡ Status.WriteFault → Rose (K.faults sink.old) (K.faults sink.new) }
+    ensures write { HasWriteCause (K.faults sink.old) (K.faults sink.new) result }
 {
     match load(rt, alloc, n, workers, gate) {
         Ok(reply) => match write_all(sink, &reply.text) {
@@ -310,8 +311,8 @@ pub fn rtdb_plain<S: Source, K: Sink>(
     // Without a command and to generate, nothing is read, whatever the status is.
     ensures unread { TakesNoInput (plain_command_of words.now) → source.new ≡ source.old }
     // No fault is told unless there was one.
-    ensures read { result ≡ Status.ReadFault → Rose (S.faults source.old) (S.faults source.new) }
-    ensures write { result ≡ Status.WriteFault → Rose (K.faults sink.old) (K.faults sink.new) }
+    ensures read { HasReadCause (S.faults source.old) (S.faults source.new) result }
+    ensures write { HasWriteCause (K.faults sink.old) (K.faults sink.new) result }
     // What can be answered is, unless memory runs out.
     ensures complete { IsGood (plain_command_of words.now) (S.left source.old)
         → ¬ Rose (S.faults source.old) (S.faults source.new) → ¬ Rose (K.faults sink.old) (K.faults sink.new)
@@ -373,8 +374,8 @@ pub fn rtdb<R: Threads + Wait + Sync, S: Source, K: Sink, G: Gate + Sync>(
     // Without a command, to generate and to load, nothing is read, whatever the status is.
     ensures unread { TakesNoInput (command_of words.now) → source.new ≡ source.old }
     // No fault is told unless there was one.
-    ensures read { result ≡ Status.ReadFault → Rose (S.faults source.old) (S.faults source.new) }
-    ensures write { result ≡ Status.WriteFault → Rose (K.faults sink.old) (K.faults sink.new) }
+    ensures read { HasReadCause (S.faults source.old) (S.faults source.new) result }
+    ensures write { HasWriteCause (K.faults sink.old) (K.faults sink.new) result }
     // What can be answered is, unless memory runs out.
     ensures complete { IsGood (command_of words.now) (S.left source.old)
         → ¬ Rose (S.faults source.old) (S.faults source.new) → ¬ Rose (K.faults sink.old) (K.faults sink.new)

@@ -1,16 +1,21 @@
 //! Runs the cases of the files in `data/`, and prints a line for each: `ok` and its name, or what was answered in place of
-//! what is wanted. docs/CASES.md says what the lines of a case mean.
+//! what is wanted. docs/CASES.md says what the lines of a case mean. Then it runs BASE over journals in memory: new ones, such
+//! as were there already, such as were stopped at a call of the disk once and twice, and such as are bad.
 #![tactic(auto)]
 
 mod answer;
 mod below;
 mod case;
 mod check;
+mod disk_cases;
 mod meeting;
+mod over_disk;
 
 use case::Case;
 use check::follow;
+use disk_cases::CASES;
 use meeting::meets;
+use over_disk::Base;
 use std::alloc::Global;
 use std::rt::Files;
 use std::sync::Wait;
@@ -44,6 +49,21 @@ fn run_file<R: Threads + Wait + Sync + Files + Print + Alloc<A = Global>>(
     Some(())
 }
 
+// Prints whether each case over a journal holds. None where a file is missing.
+fn run_journals<R: Files + Print + Alloc<A = Global>>(rt: &R) -> Option<()> {
+    let base = Base {
+        alloc: rt.alloc(),
+        scenario: fs::read(rt, "base.scenario").ok()?,
+        report: fs::read(rt, "base.report").ok()?,
+    };
+    for case in CASES {
+        let word = if case.holds(&base) { "ok" } else { "failed:" };
+        let name = case.name();
+        println!(rt; "{word} {name}").ok()?;
+    }
+    Some(())
+}
+
 fn main(rt: HostRuntime) -> io::Result<()> {
     for file in FILES {
         if run_file(&rt, file).is_none() {
@@ -52,6 +72,9 @@ fn main(rt: HostRuntime) -> io::Result<()> {
     }
     if meets(&rt, rt.alloc()) == Some(true) {
         println!(rt; "ok two threads ask two scripts at once")?;
+    }
+    if run_journals(&rt).is_none() {
+        println!(rt; "the cases over a journal were not run to their end")?;
     }
     Ok(())
 }

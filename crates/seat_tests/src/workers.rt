@@ -17,7 +17,7 @@ use std::sync::Wait;
 use std::thread::Threads;
 use step_journal::Entry;
 use step_script::{BinOp, Expr, Script, ScriptOp};
-use txn_threads::{Member, NoGate, RunStop, Worker, run_all};
+use txn_threads::{Drain, Member, NoGate, RunStop, Worker, run_all};
 
 const TEMP: ItemId = ItemId(0);
 
@@ -290,7 +290,8 @@ pub fn ran<R: Threads + Wait + Sync, B: Board + Send + Drop>(
         return Err(OutOfMemory);
     };
     let mut workers = workers(&plant, alloc, number, a, b, c)?;
-    let mut spare = Vec::with_capacity(alloc, 4096)?;
+    let spare = Vec::with_capacity(alloc, 4096)?;
+    let mut drain = Drain { operator, spare };
     let mut out = FewEntries {
         entries: Vec::with_capacity(alloc, 4096)?,
         most: case.most,
@@ -300,8 +301,7 @@ pub fn ran<R: Threads + Wait + Sync, B: Board + Send + Drop>(
         rt,
         &plant,
         workers.as_mut_slice(),
-        &mut operator,
-        &mut spare,
+        &mut drain,
         &NoGate,
         &mut out,
     );

@@ -3,3 +3,4 @@ pub mod Turns
 pub mod Handed
 pub mod Runs
 pub mod Steady
+pub mod Boards

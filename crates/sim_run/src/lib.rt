@@ -12,6 +12,8 @@ ghost use Rattle.step_journal.specs.Serial.{outcomes_of};
 ghost use Rattle.sim_history.specs.Sim.{IsSim, plans_from};
 ghost use Rattle.sim_run.specs.Workloads.{workload, AreAccepted, IsObedient};
 ghost use Rattle.sim_run.specs.Turns.{CanAsk, HasAsked, CanTurn, HasTurned};
+ghost use Rattle.entry_out.specs.Outs.{StaysGood, LosesNone, IsEmptied};
+ghost use Rattle.sim_run.specs.Boards.{IsFixed};
 ghost use Rattle.sim_run.specs.Handed.{CanAppend, CanTake, IsHanded, IsCut, IsReady};
 ghost use Rattle.sim_run.specs.Runs.{IsWhole, IsStopped, RunsExist, StoriesGoOn};
 
@@ -43,14 +45,14 @@ pub fn hand_on<B: Board, O: EntryOut>(
     requires nothing_lost { O.lost out.old [] }
     requires good { CanAppend (O.got out.old) (O.good out.old) (B.kept board.old) }
     ensures passed { IfOk result (λ _. IsHanded (O.got out.old) (O.got out.new) (B.kept board.old) []) }
-    ensures none_lost { IfOk result (λ _. O.lost out.new []) }
+    ensures none_lost { LosesNone O.lost out.new result }
     ensures stopped { OnErr result (IsCut (O.got out.old) (O.got out.new) (O.lost out.new) (B.kept board.old)) }
     ensures cause { HasCause (O.stops out.old) (O.stops out.new) result }
-    ensures good { (story : Many Noted) → O.good out.old story → O.good out.new story }
+    ensures good { StaysGood O.good out.old out.new }
     ensures left { B.kept board.new ≡ [] }
     ensures stands { (story : Many Noted) → B.stands board.old story → B.stands board.new story }
-    ensures fixed { (B.set board.new ≡ B.set board.old) × (B.room board.new ≡ B.room board.old) }
-    ensures spare { (spare.new.items ≡ []) × (vec_capacity spare.new ≡ vec_capacity spare.old) }
+    ensures fixed { IsFixed B.set B.room board.old board.new }
+    ensures spare { IsEmptied spare.old spare.new }
 {
     let kept = board.entries().len();
     board.drain(kept, spare);
@@ -69,14 +71,14 @@ fn hand_piece<B: Board, O: EntryOut>(
     requires nothing_lost { O.lost out.old [] }
     requires good { CanAppend (O.got out.old) (O.good out.old) (B.kept board.old) }
     ensures passed { IfOk result (λ _. IsHanded (O.got out.old) (O.got out.new) (B.kept board.old) (B.kept board.new)) }
-    ensures none_lost { IfOk result (λ _. O.lost out.new []) }
+    ensures none_lost { LosesNone O.lost out.new result }
     ensures stopped { OnErr result (IsCut (O.got out.old) (O.got out.new) (O.lost out.new) (B.kept board.old)) }
     ensures cause { HasCause (O.stops out.old) (O.stops out.new) result }
-    ensures good { (story : Many Noted) → O.good out.old story → O.good out.new story }
+    ensures good { StaysGood O.good out.old out.new }
     ensures few { length (B.kept board.new) < 1024 }
     ensures stands { (story : Many Noted) → B.stands board.old story → B.stands board.new story }
-    ensures fixed { (B.set board.new ≡ B.set board.old) × (B.room board.new ≡ B.room board.old) }
-    ensures spare { (spare.new.items ≡ []) × (vec_capacity spare.new ≡ vec_capacity spare.old) }
+    ensures fixed { IsFixed B.set B.room board.old board.new }
+    ensures spare { IsEmptied spare.old spare.new }
 {
     if board.entries().len() < PIECE {
         return Ok(());
@@ -163,15 +165,15 @@ fn plan_each<B: Board, O: EntryOut>(
     requires nothing_lost { O.lost out.old [] }
     requires good { CanTake (O.got out.old) (O.good out.old) (B.kept board.old ++ map (Planned tx) ticks.now) }
     ensures passed { IfOk result (λ _. IsHanded (O.got out.old) (O.got out.new) (B.kept board.old ++ map (Planned tx) ticks.now) (B.kept board.new)) }
-    ensures none_lost { IfOk result (λ _. O.lost out.new []) }
+    ensures none_lost { LosesNone O.lost out.new result }
     ensures few { IfOk result (λ _. length (B.kept board.new) < 1024) }
     ensures stands { IfOk result (λ _. (story : Many Noted) → B.stands board.old story →
         B.stands board.new (story ++ map (Planned tx) ticks.now)) }
     ensures stopped { OnErr result (IsCut (O.got out.old) (O.got out.new) (O.lost out.new) (B.kept board.old ++ map (Planned tx) ticks.now)) }
     ensures cause { HasCause (O.stops out.old) (O.stops out.new) result }
-    ensures good { (story : Many Noted) → O.good out.old story → O.good out.new story }
-    ensures fixed { (B.set board.new ≡ B.set board.old) × (B.room board.new ≡ B.room board.old) }
-    ensures spare { (spare.new.items ≡ []) × (vec_capacity spare.new ≡ vec_capacity spare.old) }
+    ensures good { StaysGood O.good out.old out.new }
+    ensures fixed { IsFixed B.set B.room board.old board.new }
+    ensures spare { IsEmptied spare.old spare.new }
 {
     for tick in ticks {
         let Ok(_) = board.plan(tx, *tick) else {
@@ -199,15 +201,15 @@ pub fn plan_all<B: Board, O: EntryOut>(
     requires nothing_lost { O.lost out.old [] }
     requires good { CanTake (O.got out.old) (O.good out.old) (B.kept board.old ++ plans_from 0 releases.now) }
     ensures passed { IfOk result (λ _. IsHanded (O.got out.old) (O.got out.new) (B.kept board.old ++ plans_from 0 releases.now) (B.kept board.new)) }
-    ensures none_lost { IfOk result (λ _. O.lost out.new []) }
+    ensures none_lost { LosesNone O.lost out.new result }
     ensures few { IfOk result (λ _. length (B.kept board.new) < 1024) }
     ensures stands { IfOk result (λ _. (story : Many Noted) → B.stands board.old story →
         B.stands board.new (story ++ plans_from 0 releases.now)) }
     ensures stopped { OnErr result (IsCut (O.got out.old) (O.got out.new) (O.lost out.new) (B.kept board.old ++ plans_from 0 releases.now)) }
     ensures cause { HasCause (O.stops out.old) (O.stops out.new) result }
-    ensures good { (story : Many Noted) → O.good out.old story → O.good out.new story }
-    ensures fixed { (B.set board.new ≡ B.set board.old) × (B.room board.new ≡ B.room board.old) }
-    ensures spare { (spare.new.items ≡ []) × (vec_capacity spare.new ≡ vec_capacity spare.old) }
+    ensures good { StaysGood O.good out.old out.new }
+    ensures fixed { IsFixed B.set B.room board.old board.new }
+    ensures spare { IsEmptied spare.old spare.new }
 {
     for (tx, ticks) in releases.iter().enumerate() {
         plan_each(board, TxId(tx as u32), ticks.as_slice(), spare, out)?;
@@ -259,13 +261,13 @@ pub fn run<B: Board, Y: Body, O: EntryOut>(
     ensures whole { let w = workload (B.set board.old) (map Y.gives bodies.old) releases.now in
         IfOk result (λ _. IsWhole w (B.stands board.new) (O.got out.old) (O.got out.new)) }
     ensures left { IfOk result (λ _. B.kept board.new ≡ []) }
-    ensures none_lost { IfOk result (λ _. O.lost out.new []) }
+    ensures none_lost { LosesNone O.lost out.new result }
     ensures stopped { let w = workload (B.set board.old) (map Y.gives bodies.old) releases.now in
         OnErr result (IsStopped w (O.got out.old) (O.got out.new) (O.lost out.new)) }
     ensures cause { HasCause (O.stops out.old) (O.stops out.new) result }
-    ensures good { (story : Many Noted) → O.good out.old story → O.good out.new story }
-    ensures spare { (spare.new.items ≡ []) × (vec_capacity spare.new ≡ vec_capacity spare.old) }
-    ensures fixed { (B.set board.new ≡ B.set board.old) × (B.room board.new ≡ B.room board.old) }
+    ensures good { StaysGood O.good out.old out.new }
+    ensures spare { IsEmptied spare.old spare.new }
+    ensures fixed { IsFixed B.set B.room board.old board.new }
     ensures same { map Y.gives bodies.new ≡ map Y.gives bodies.old }
 {
     plan_all(board, releases, spare, out)?;

@@ -1,7 +1,8 @@
 //! Planned releases: worked calls, and many calls beside a plain scan.
 ghost use Rattle.std.specs.Prelude.{◌≡◌, ◌<◌, length};
 
-use crate::draws::Draws;
+use rand::RngExt;
+use rand_pcg::Pcg32;
 use release_calendar::Calendar;
 use rt_base::{JobId, OutOfMemory, PlanRefused, Tick, TxId};
 
@@ -131,13 +132,15 @@ impl Plain {
 }
 
 // Whether both answer one call alike, and tell the same of what is planned then.
-fn alike(calendar: &mut Calendar, plain: &mut Plain, draws: &mut Draws, now: Tick) -> bool
+fn alike(calendar: &mut Calendar, plain: &mut Plain, rng: &mut Pcg32, now: Tick) -> bool
     requires { length calendar.old.periods ≡ 3 }
     ensures { calendar.new.periods ≡ calendar.old.periods }
 {
-    let tx = TxId(draws.below(3) as u32);
-    let tick = now.saturating_add(draws.below(20)).saturating_sub(2);
-    let same = match draws.below(5) {
+    let tx = TxId(rng.random_range(0..3u32));
+    let tick = now
+        .saturating_add(rng.random_range(0..20u64))
+        .saturating_sub(2);
+    let same = match rng.random_range(0..5u64) {
         0 => calendar.plan(tx, tick, now) == plain.plan(tx, tick, now),
         1 => {
             let next = now.max(plain.earliest(tx));
@@ -165,12 +168,12 @@ fn beside_a_plain_scan(rt: HostRuntime) -> Result<(), OutOfMemory> {
         plans: [(0, 0); 3],
         planned: [None; 5],
     };
-    let mut draws = Draws { state: 1 };
+    let mut rng = Pcg32::new(1, 1);
     let mut now = 0;
     for call in 0..400 {
-        let same = alike(&mut calendar, &mut plain, &mut draws, now);
+        let same = alike(&mut calendar, &mut plain, &mut rng, now);
         assert!(rt; same, "call {call}");
-        now = now.saturating_add(draws.below(3));
+        now = now.saturating_add(rng.random_range(0..3u64));
     }
     Ok(())
 }

@@ -1,8 +1,9 @@
 //! A job's reads, writes and commit: worked commits, and many beside a plain scan.
 ghost use Rattle.std.specs.Prelude.{◌≡◌, ◌<◌, [], ◌∷◌};
 
-use crate::draws::Draws;
 use item_model::{ItemDecl, ItemKind, Items, Stored};
+use rand::RngExt;
+use rand_pcg::Pcg32;
 use rt_base::{ItemId, List, OutOfMemory, Tick, TogetherDecl, Value};
 use std::alloc::Global;
 use strict_commit::{ApartRead, CommitRefused, StaleRead, Work};
@@ -189,16 +190,16 @@ fn note(work: &mut Work, plain: &mut Plain, what: usize, stamp: Tick, value: Val
 }
 
 // Some notes of a job, on both: whether they tell the same after each.
-fn noted(work: &mut Work, plain: &mut Plain, draws: &mut Draws, release: Tick) -> bool
+fn noted(work: &mut Work, plain: &mut Plain, rng: &mut Pcg32, release: Tick) -> bool
     requires reads { work.old.may_read ≡ TEMP ∷ FLOW ∷ MEAN ∷ [] }
     requires writes { work.old.may_write ≡ MEAN ∷ VALVE ∷ [] }
     ensures reads { work.new.may_read ≡ work.old.may_read }
     ensures writes { work.new.may_write ≡ work.old.may_write }
 {
     let mut same = true;
-    for value in 0..draws.below(8) {
-        let what = draws.below(5) as usize;
-        let stamp = release.saturating_sub(draws.below(12));
+    for value in 0..rng.random_range(0..8u64) {
+        let what = rng.random_range(0..5usize);
+        let stamp = release.saturating_sub(rng.random_range(0..12u64));
         note(work, plain, what, stamp, value as Value);
         same = same
             && work.value_of(MEAN) == plain.writes[0]
@@ -218,7 +219,7 @@ fn beside_a_plain_scan(rt: HostRuntime) -> Result<(), OutOfMemory> {
     let together = [group(alloc, TEMP, FLOW, 6)?, group(alloc, FLOW, MEAN, 8)?];
     let mut stored = [Stored { value: 0, stamp: 0 }; 4];
     stored[3].value = 9;
-    let mut draws = Draws { state: 1 };
+    let mut rng = Pcg32::new(1, 1);
     let mut release = 30;
     for call in 0..300 {
         work.clear();
@@ -226,16 +227,16 @@ fn beside_a_plain_scan(rt: HostRuntime) -> Result<(), OutOfMemory> {
             reads: [None; 3],
             writes: [None; 2],
         };
-        let told = noted(&mut work, &mut plain, &mut draws, release);
+        let told = noted(&mut work, &mut plain, &mut rng, release);
         assert!(rt; told, "call {call}");
-        let at = release.saturating_add(draws.below(16));
+        let at = release.saturating_add(rng.random_range(0..16u64));
         let ended = work.commit(&DECLS, &together, &mut items, release, at);
         assert!(rt;
             ended == committed(&plain, &mut stored, release, at),
             "call {call}"
         );
         assert!(rt; items.as_slice() == stored.as_slice(), "call {call}");
-        release = release.saturating_add(draws.below(9));
+        release = release.saturating_add(rng.random_range(0..9u64));
     }
     Ok(())
 }

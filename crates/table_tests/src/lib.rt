@@ -7,8 +7,6 @@ mod calendar;
 #[cfg(test)]
 mod commits;
 #[cfg(test)]
-mod draws;
-#[cfg(test)]
 mod locks;
 #[cfg(test)]
 mod pending;

@@ -1,8 +1,9 @@
 //! Locks: worked runs at a concrete ledger, and many calls beside a plain scan.
 ghost use Rattle.std.specs.Prelude.{◌≡◌, ℕ, ◌+◌, ◌<◌, length, slice_index_or, IfOk};
 
-use crate::draws::Draws;
 use ceiling_table::{Above, CeilRow, Held, LockKind};
+use rand::RngExt;
+use rand_pcg::Pcg32;
 use rt_base::{ItemId, Looked, Op, OutOfMemory, Prio, Steps, TxId};
 use std::alloc::Global;
 use std::marker::Brand;
@@ -214,11 +215,11 @@ fn alike(held: &Held, locks: &[[LockKind; 4]; 3], tx: u32, item: u32) -> bool
 fn beside_a_plain_scan(rt: HostRuntime) -> Result<(), OutOfMemory> {
     let mut held = unlocked(rt.alloc())?;
     let mut locks = [[LockKind::Free; 4]; 3];
-    let mut draws = Draws { state: 1 };
+    let mut rng = Pcg32::new(1, 1);
     for call in 0..400 {
-        let what = draws.below(4);
-        let tx = draws.below(3) as u32;
-        let item = draws.below(4) as u32;
+        let what = rng.random_range(0..4u64);
+        let tx = rng.random_range(0..3u32);
+        let item = rng.random_range(0..4u32);
         let was = locks[tx as usize][item as usize];
         let kind = if what == 0 {
             LockKind::Write

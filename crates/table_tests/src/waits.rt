@@ -3,9 +3,10 @@ ghost use Rattle.std.specs.Prelude.{◌≡◌, ◌≢◌, ℕ, ◌<◌, ◌≤�
 ghost use Rattle.rt_base.specs.Ranks.{has_rank};
 ghost use Rattle.inherit_prio.specs.Waits.{on_of};
 
-use crate::draws::Draws;
 use dispatch_core::dispatched;
 use inherit_prio::Waits;
+use rand::RngExt;
+use rand_pcg::Pcg32;
 use rt_base::{Looked, OutOfMemory, Prio, RankSet, Steps, TxId};
 use std::alloc::Global;
 use std::marker::Brand;
@@ -256,14 +257,14 @@ fn change(waits: &mut Waits, ons: &mut [Option<TxId>; 5], frees: bool, tx: TxId,
 }
 
 // Some of the transactions by lot, and the set of their ranks.
-fn some(waits: &Waits, draws: &mut Draws) -> (RankSet, [bool; 5])
+fn some(waits: &Waits, rng: &mut Pcg32) -> (RankSet, [bool; 5])
     requires { length waits.now.prios ≡ 5 }
     ensures { (rank : ℕ) → has_rank result.0 rank ≡ true → rank < 5 }
 {
     let mut ranks = RankSet::empty();
     let mut chosen = [false; 5];
     for tx in 0..5 {
-        if draws.below(2) == 0 {
+        if rng.random_range(0..2u64) == 0 {
             chosen[tx as usize] = true;
             ranks = ranks.with(waits.rank(TxId(tx)));
         }
@@ -275,13 +276,13 @@ fn some(waits: &Waits, draws: &mut Draws) -> (RankSet, [bool; 5])
 fn beside_a_plain_scan(rt: HostRuntime) -> Result<(), OutOfMemory> {
     let mut waits = five(rt.alloc())?;
     let mut ons = [None; 5];
-    let mut draws = Draws { state: 1 };
+    let mut rng = Pcg32::new(1, 1);
     for call in 0..400 {
-        let frees = draws.below(4) == 0;
-        let tx = TxId(draws.below(5) as u32);
-        let on = TxId(draws.below(5) as u32);
+        let frees = rng.random_range(0..4u64) == 0;
+        let tx = TxId(rng.random_range(0..5u32));
+        let on = TxId(rng.random_range(0..5u32));
         assert!(rt; change(&mut waits, &mut ons, frees, tx, on), "call {call}");
-        let (ranks, pending) = some(&waits, &mut draws);
+        let (ranks, pending) = some(&waits, &mut rng);
         let runs = running(&ons, &pending);
         for t in 0..5 {
             let want = (ons[t as usize], effective(&ons, TxId(t)), TxId(t), runs);

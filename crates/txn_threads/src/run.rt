@@ -1,12 +1,13 @@
 //! All workers, in rounds.
-ghost use Rattle.std.specs.Prelude.{◌≡◌, ◌<◌, ◌≤◌, List, All, None, [], length, IfOk, IfErr, IfSome, IfNone, vec_capacity, true, false};
-ghost use Rattle.step_journal.specs.declared.entry.Entry.{Entry as Noted};
+ghost use Rattle.std.specs.Prelude.{◌≡◌, ◌<◌, ◌≤◌, All, None, [], length, IfOk, IfErr, IfSome, IfNone, vec_capacity, true, false};
 ghost use Rattle.step_journal.specs.History.{IsLegal};
 ghost use Rattle.shared_plant.specs.Seats.{IsOf};
+ghost use Rattle.entry_out.specs.Outs.{StaysGood, IsEmptied};
 ghost use Rattle.io_edge.specs.Causes.{Rose};
 ghost use Rattle.txn_threads.specs.Rounds.{Each, WorkerSits, WorkerRan};
 ghost use Rattle.txn_threads.specs.Runs.{MayRun, HasRun, IsDone, Operated, GotMore, MayDrain, FirstHalt, HaltIs, StopIs, run_stop, IfStopped, Collected, CollectedTo, part, Cleared, WorkerCleared, NoMembers};
 
+use crate::drain::Drain;
 use crate::gate::Gate;
 use crate::member::{Halt, Member, RunStop, Worker};
 use crate::places::Places;
@@ -14,11 +15,10 @@ use crate::round::{Came, has_plans, round};
 use board::Board;
 use entry_out::{EntryOut, Stopped};
 use rt_base::TxId;
-use shared_plant::{Plant, Seat};
+use shared_plant::Plant;
 use std::sync::Wait;
 use std::thread;
 use std::thread::Threads;
-use step_journal::Entry;
 use step_script::Body;
 
 // How many workers go on one after another in a round in the caller's thread, at most.
@@ -161,32 +161,31 @@ fn round_of<R: Threads + Sync, B: Board + Send, Y: Body + Send, G: Gate + Sync>(
     }
 }
 
-// All kept entries, through the spare list to the out.
+// All kept entries, through the operator's list to the out.
 fn drain_all<R: Wait, B: Board, O: EntryOut>(
     rt: &R,
     plant: &Plant<B>,
-    operator: &mut Seat<B>,
-    spare: &mut Vec<Entry>,
+    drain: &mut Drain<B>,
     out: &mut O,
 ) -> Result<(), Stopped>
-    requires plant { IsOf plant.now operator.old }
-    requires operator { operator.old.tx ≡ None }
-    requires spare { spare.old.items ≡ [] }
+    requires plant { IsOf plant.now drain.old.operator }
+    requires operator { drain.old.operator.tx ≡ None }
+    requires spare { drain.old.spare.items ≡ [] }
     requires lost { O.lost out.old [] }
-    requires good { MayDrain (IsLegal plant.now.set) O.got O.good operator.old out.old }
-    ensures operated { Operated operator.old operator.new }
-    ensures within { operator.new.drained ≤ length operator.new.seen }
-    ensures all { plant.now.room ≤ vec_capacity spare.old → operator.new.drained ≡ length operator.new.seen }
-    ensures spare { (spare.new.items ≡ []) × (vec_capacity spare.new ≡ vec_capacity spare.old) }
+    requires good { MayDrain (IsLegal plant.now.set) O.got O.good drain.old.operator out.old }
+    ensures operated { Operated drain.old.operator drain.new.operator }
+    ensures within { drain.new.operator.drained ≤ length drain.new.operator.seen }
+    ensures all { plant.now.room ≤ vec_capacity drain.old.spare → drain.new.operator.drained ≡ length drain.new.operator.seen }
+    ensures spare { IsEmptied drain.old.spare drain.new.spare }
     ensures stops { O.stops out.old ≤ O.stops out.new }
-    ensures ok { IfOk result (λ _. O.lost out.new [] × GotMore O.got out.old out.new (part operator.new.seen operator.old.drained operator.new.drained)) }
-    ensures may { IfOk result (λ _. MayDrain (IsLegal plant.now.set) O.got O.good operator.new out.new) }
-    ensures good { (story : List Noted) → O.good out.old story → O.good out.new story }
-    ensures err { IfErr result (λ _. Rose (O.stops out.old) (O.stops out.new) × O.lost out.new (part operator.new.seen operator.old.drained operator.new.drained) × GotMore O.got out.old out.new []) }
+    ensures ok { IfOk result (λ _. O.lost out.new [] × GotMore O.got out.old out.new (part drain.new.operator.seen drain.old.operator.drained drain.new.operator.drained)) }
+    ensures may { IfOk result (λ _. MayDrain (IsLegal plant.now.set) O.got O.good drain.new.operator out.new) }
+    ensures good { StaysGood O.good out.old out.new }
+    ensures err { IfErr result (λ _. Rose (O.stops out.old) (O.stops out.new) × O.lost out.new (part drain.new.operator.seen drain.old.operator.drained drain.new.operator.drained) × GotMore O.got out.old out.new []) }
 {
-    plant.drain(rt, operator, usize::MAX, spare);
-    let put = out.put(spare.as_slice());
-    spare.clear();
+    plant.drain(rt, &mut drain.operator, usize::MAX, &mut drain.spare);
+    let put = out.put(drain.spare.as_slice());
+    drain.spare.clear();
     put
 }
 
@@ -296,31 +295,30 @@ fn rounds<R: Threads + Wait + Sync, B: Board + Send, Y: Body + Send, G: Gate + S
     rt: &R,
     plant: &Plant<B>,
     workers: &mut [Worker<B, Y>],
-    operator: &mut Seat<B>,
-    spare: &mut Vec<Entry>,
+    drain: &mut Drain<B>,
     gate: &G,
     out: &mut O,
 ) -> Result<(), RunStop>
     requires sit { All (WorkerSits Y.gives Y.stands plant.now) workers.old }
     requires clear { All (λ w. w.halt ≡ None) workers.old }
-    requires plant { IsOf plant.now operator.old }
-    requires operator { operator.old.tx ≡ None }
-    requires spare { spare.old.items ≡ [] }
+    requires plant { IsOf plant.now drain.old.operator }
+    requires operator { drain.old.operator.tx ≡ None }
+    requires spare { drain.old.spare.items ≡ [] }
     requires lost { O.lost out.old [] }
-    requires good { MayDrain (IsLegal plant.now.set) O.got O.good operator.old out.old }
+    requires good { MayDrain (IsLegal plant.now.set) O.got O.good drain.old.operator out.old }
     ensures ran { Each (WorkerRan Y.gives Y.stands plant.now) workers.old workers.new }
     ensures done { IfOk result (λ _. All (λ w. All (λ m. m.jobs ≤ m.ended) w.members.items) workers.new) }
     ensures none { IfOk result (λ _. All (λ w. w.halt ≡ None) workers.new) }
     ensures stop { IfErr result (λ s. HaltIs workers.new s) }
-    ensures operated { Operated operator.old operator.new }
-    ensures within { operator.new.drained ≤ length operator.new.seen }
-    ensures all { plant.now.room ≤ vec_capacity spare.old → operator.new.drained ≡ length operator.new.seen }
-    ensures good { (story : List Noted) → O.good out.old story → O.good out.new story }
-    ensures spare { (spare.new.items ≡ []) × (vec_capacity spare.new ≡ vec_capacity spare.old) }
+    ensures operated { Operated drain.old.operator drain.new.operator }
+    ensures within { drain.new.operator.drained ≤ length drain.new.operator.seen }
+    ensures all { plant.now.room ≤ vec_capacity drain.old.spare → drain.new.operator.drained ≡ length drain.new.operator.seen }
+    ensures good { StaysGood O.good out.old out.new }
+    ensures spare { IsEmptied drain.old.spare drain.new.spare }
     ensures stops { O.stops out.old ≤ O.stops out.new }
-    ensures got { IfStopped result (Rose (O.stops out.old) (O.stops out.new) × CollectedTo O.got O.lost operator.old operator.new out.old out.new) (Collected O.got O.lost operator.old operator.new out.old out.new) }
+    ensures got { IfStopped result (Rose (O.stops out.old) (O.stops out.new) × CollectedTo O.got O.lost drain.old.operator drain.new.operator out.old out.new) (Collected O.got O.lost drain.old.operator drain.new.operator out.old out.new) }
 {
-    let Ok(()) = drain_all(rt, plant, operator, spare, out) else {
+    let Ok(()) = drain_all(rt, plant, drain, out) else {
         return Err(RunStop::Stopped);
     };
     let mut alone = None;
@@ -329,7 +327,7 @@ fn rounds<R: Threads + Wait + Sync, B: Board + Send, Y: Body + Send, G: Gate + S
             return Ok(());
         }
         alone = round_of(rt, plant, workers, alone, gate);
-        let Ok(()) = drain_all(rt, plant, operator, spare, out) else {
+        let Ok(()) = drain_all(rt, plant, drain, out) else {
             return Err(RunStop::Stopped);
         };
         match first_halt(workers) {
@@ -342,7 +340,7 @@ fn rounds<R: Threads + Wait + Sync, B: Board + Send, Y: Body + Send, G: Gate + S
 
 /// Runs all workers, each in a thread of its own where one can be made, in rounds, until of every member's transaction
 /// as many jobs have ended as it is to have. Before the first round and after each it drains the kept entries through
-/// `spare` to `out`. A worker that meets a stop makes no further try. At its start the call clears what workers and members
+/// `drain` to `out`. A worker that meets a stop makes no further try. At its start the call clears what workers and members
 /// keep from an earlier one. It takes no memory, and it may wait.
 ///
 /// In a round a worker makes at most sixteen tries for each of its members: a step try of the member whose job runs, as far
@@ -360,8 +358,8 @@ fn rounds<R: Threads + Wait + Sync, B: Board + Send, Y: Body + Send, G: Gate + S
 /// where the job of another's member runs.
 ///
 /// That no two members have the same transaction, and that a member's transaction has exactly `jobs` planned jobs, or
-/// none if it is eager, is left to the caller: no promise needs it. Where `spare` has reserved places for the board's
-/// room, each drain moves all that the board keeps.
+/// none if it is eager, is left to the caller: no promise needs it. Where the list of `drain` has reserved places for the
+/// board's room, each drain moves all that the board keeps.
 ///
 /// Refused and NoPlan are the stop of the first worker that met one, in the first round in which some worker did. Where
 /// the out failed in the drain after that round, Stopped comes in their place. Stopped comes only where the stops of
@@ -376,33 +374,32 @@ pub fn run_all<
     rt: &R,
     plant: &Plant<B>,
     workers: &mut [Worker<B, Y>],
-    operator: &mut Seat<B>,
-    spare: &mut Vec<Entry>,
+    drain: &mut Drain<B>,
     gate: &G,
     out: &mut O,
 ) -> Result<(), RunStop>
     requires members { All (λ w. All (MayRun plant.now) w.members.items) workers.old }
-    requires plant { IsOf plant.now operator.old }
-    requires operator { operator.old.tx ≡ None }
-    requires spare { spare.old.items ≡ [] }
+    requires plant { IsOf plant.now drain.old.operator }
+    requires operator { drain.old.operator.tx ≡ None }
+    requires spare { drain.old.spare.items ≡ [] }
     requires lost { O.lost out.old [] }
-    requires good { MayDrain (IsLegal plant.now.set) O.got O.good operator.old out.old }
+    requires good { MayDrain (IsLegal plant.now.set) O.got O.good drain.old.operator out.old }
     ensures members { Each (λ w u. Each (HasRun Y.gives plant.now) w.members.items u.members.items) workers.old workers.new }
     ensures done { IfOk result (λ _. All (λ w. All (IsDone plant.now) w.members.items) workers.new) }
     ensures none { IfOk result (λ _. All (λ w. w.halt ≡ None) workers.new) }
     ensures stop { IfErr result (λ s. StopIs Y.gives plant.now workers.new s) }
-    ensures operated { Operated operator.old operator.new }
-    ensures within { operator.old.drained ≤ length operator.old.seen → operator.new.drained ≤ length operator.new.seen }
-    ensures all { (NoMembers workers.old → ⊥) → plant.now.room ≤ vec_capacity spare.old → operator.new.drained ≡ length operator.new.seen }
-    ensures at_once { NoMembers workers.old → IfErr result (λ _. ⊥) × (operator.new ≡ operator.old) × (out.new ≡ out.old) }
-    ensures good { (story : List Noted) → O.good out.old story → O.good out.new story }
-    ensures spare { (spare.new.items ≡ []) × (vec_capacity spare.new ≡ vec_capacity spare.old) }
+    ensures operated { Operated drain.old.operator drain.new.operator }
+    ensures within { drain.old.operator.drained ≤ length drain.old.operator.seen → drain.new.operator.drained ≤ length drain.new.operator.seen }
+    ensures all { (NoMembers workers.old → ⊥) → plant.now.room ≤ vec_capacity drain.old.spare → drain.new.operator.drained ≡ length drain.new.operator.seen }
+    ensures at_once { NoMembers workers.old → IfErr result (λ _. ⊥) × (drain.new.operator ≡ drain.old.operator) × (out.new ≡ out.old) }
+    ensures good { StaysGood O.good out.old out.new }
+    ensures spare { IsEmptied drain.old.spare drain.new.spare }
     ensures stops { O.stops out.old ≤ O.stops out.new }
-    ensures got { IfStopped result (Rose (O.stops out.old) (O.stops out.new) × CollectedTo O.got O.lost operator.old operator.new out.old out.new) (Collected O.got O.lost operator.old operator.new out.old out.new) }
+    ensures got { IfStopped result (Rose (O.stops out.old) (O.stops out.new) × CollectedTo O.got O.lost drain.old.operator drain.new.operator out.old out.new) (Collected O.got O.lost drain.old.operator drain.new.operator out.old out.new) }
 {
     clear_all(workers);
     if !has_members(workers) {
         return Ok(());
     }
-    rounds(rt, plant, workers, operator, spare, gate, out)
+    rounds(rt, plant, workers, drain, gate, out)
 }

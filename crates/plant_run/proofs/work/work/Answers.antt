@@ -131,7 +131,7 @@ closed-board-requires-clause-plant g c =
     let long : length us ≡ vec_len c.hire-workers.result = ran.0 ∙ (ap (λ (l : List (Worker g.row.B.Denot g.row.Y.Denot)). length l) c.as_mut_slice.ensures.value ∙ sym all) in
     let ended_is = with_items_is c.hire-workers.result us long in
     let l = settled g.Y.Body.gives bodies c.args.staffed.run.ticks.now own p set first c.in_ok-plant.seats.items c.pop.new.self.items c.hire-workers.new.seats.items c.gather.new.seats.items c.push_reserved.new.self.items c.pop.result
-    c.unwrap-operator.result c.run_all-ran.new.operator ws c.as_mut_slice.result.now us _ c.requires.planned.eager e.plant.0 e.plant.2 each e.seats c.unwrap-operator.ensures c.pop.ensures.items c.hire-workers.ensures.dealt c.hire-workers.ensures.seats.0 c.as_mut_slice.ensures.value ran ended_is
+    c.unwrap-operator.result c.run_all-ran.new.drain.operator ws c.as_mut_slice.result.now us _ c.requires.planned.eager e.plant.0 e.plant.2 each e.seats c.unwrap-operator.ensures c.pop.ensures.items c.hire-workers.ensures.dealt c.hire-workers.ensures.seats.0 c.as_mut_slice.ensures.value ran ended_is
     c.run_all-ran.ensures.operated c.gather.ensures.seats c.push_reserved.ensures.items in
     l.of
 
@@ -151,34 +151,10 @@ closed-board-requires-clause-all g c =
     let long : length us ≡ vec_len c.hire-workers.result = ran.0 ∙ (ap (λ (l : List (Worker g.row.B.Denot g.row.Y.Denot)). length l) c.as_mut_slice.ensures.value ∙ sym all) in
     let ended_is = with_items_is c.hire-workers.result us long in
     let l = settled g.Y.Body.gives bodies c.args.staffed.run.ticks.now own p set first c.in_ok-plant.seats.items c.pop.new.self.items c.hire-workers.new.seats.items c.gather.new.seats.items c.push_reserved.new.self.items c.pop.result
-    c.unwrap-operator.result c.run_all-ran.new.operator ws c.as_mut_slice.result.now us _ c.requires.planned.eager e.plant.0 e.plant.2 each e.seats c.unwrap-operator.ensures c.pop.ensures.items c.hire-workers.ensures.dealt c.hire-workers.ensures.seats.0 c.as_mut_slice.ensures.value ran ended_is
+    c.unwrap-operator.result c.run_all-ran.new.drain.operator ws c.as_mut_slice.result.now us _ c.requires.planned.eager e.plant.0 e.plant.2 each e.seats c.unwrap-operator.ensures c.pop.ensures.items c.hire-workers.ensures.dealt c.hire-workers.ensures.seats.0 c.as_mut_slice.ensures.value ran ended_is
     c.run_all-ran.ensures.operated c.gather.ensures.seats c.push_reserved.ensures.items in
     let len : vec_len c.push_reserved.new.self ≡ length c.push_reserved.new.self.items = search rules in
     omega (arith, len, l.number, e.plant.3, each)
-
-pub fault_of-requires : goal.fault_of-requires
-fault_of-requires g c =
-    let p = c.in_ok-plant.plant in let e = c.in_ok-plant.ensures in
-    let first : ℕ = g.B.Board.first c.args.staffed.run.board in let past : List Entry = plans_from 0 c.args.staffed.run.ticks.now in
-    let bodies = map g.Y.Body.gives c.args.staffed.run.bodies.items in
-    let set = g.B.Board.set c.args.staffed.run.board in
-    let each : length c.args.staffed.run.ticks.now ≡ length set.txns = c.requires.planned.each in let own = own_at c.args.staffed.run.own.now in
-    let o = opened p.id past first (length set.txns) (length c.args.staffed.run.ticks.now) c.in_ok-plant.seats.items c.pop.new.self.items c.pop.result c.unwrap-operator.result (sym each) e.seats c.unwrap-operator.ensures c.pop.ensures.items in
-    let ws : List (Worker g.row.B.Denot g.row.Y.Denot) = c.hire-workers.result.items in
-    let dealt = c.hire-workers.ensures.dealt p.id past first o.0 in
-    let us : List (Worker g.row.B.Denot g.row.Y.Denot) = c.run_all-ran.new.workers in
-    let ran = c.run_all-ran.ensures.members in
-    let all : vec_len c.hire-workers.result ≡ length c.hire-workers.result.items = search rules in
-    let long : length us ≡ vec_len c.hire-workers.result = ran.0 ∙ (ap (λ (l : List (Worker g.row.B.Denot g.row.Y.Denot)). length l) c.as_mut_slice.ensures.value ∙ sym all) in
-    let ended_is = with_items_is c.hire-workers.result us long in
-    let l = settled g.Y.Body.gives bodies c.args.staffed.run.ticks.now own p set first c.in_ok-plant.seats.items c.pop.new.self.items c.hire-workers.new.seats.items c.gather.new.seats.items c.push_reserved.new.self.items c.pop.result
-    c.unwrap-operator.result c.run_all-ran.new.operator ws c.as_mut_slice.result.now us _ c.requires.planned.eager e.plant.0 e.plant.2 each e.seats c.unwrap-operator.ensures c.pop.ensures.items c.hire-workers.ensures.dealt c.hire-workers.ensures.seats.0 c.as_mut_slice.ensures.value ran ended_is
-    c.run_all-ran.ensures.operated c.gather.ensures.seats c.push_reserved.ensures.items in
-    let obeys = subst (λ (z : Set). IsObedient (workload z bodies c.args.staffed.run.ticks.now)) (sym e.plant.0) c.requires.planned.obedient in
-    let few = subst (λ (z : Set). ArePlannable (workload z bodies c.args.staffed.run.ticks.now) own) (sym e.plant.0) c.requires.planned.plannable in
-    let stop = subst (λ r. IfErr r (λ s. StopIs g.Y.Body.gives p us s)) c.in-Err.is c.run_all-ran.ensures.stop in
-    only_stopped g.Y.Body.gives bodies c.args.staffed.run.ticks.now own p first us c.run_all-ran.new.operator c.push_reserved.new.self.items l g.B.Board.stands g.B.Board.set g.B.Board.room g.B.Board.first g.B.Board.kept c.closed-board.result
-    c.no_refusal.ensures c.never_unplanned.ensures c.closed-board.ensures obeys few c.in-Err.stop stop
 
 pub returns-in-Ok-clause-worked : goal.returns-in-Ok-clause-worked
 returns-in-Ok-clause-worked g c =
@@ -196,22 +172,22 @@ returns-in-Ok-clause-worked g c =
     let long : length us ≡ vec_len c.hire-workers.result = ran.0 ∙ (ap (λ (l : List (Worker g.row.B.Denot g.row.Y.Denot)). length l) c.as_mut_slice.ensures.value ∙ sym all) in
     let ended_is = with_items_is c.hire-workers.result us long in
     let l = settled g.Y.Body.gives bodies c.args.staffed.run.ticks.now own p set first c.in_ok-plant.seats.items c.pop.new.self.items c.hire-workers.new.seats.items c.gather.new.seats.items c.push_reserved.new.self.items c.pop.result
-    c.unwrap-operator.result c.run_all-ran.new.operator ws c.as_mut_slice.result.now us _ c.requires.planned.eager e.plant.0 e.plant.2 each e.seats c.unwrap-operator.ensures c.pop.ensures.items c.hire-workers.ensures.dealt c.hire-workers.ensures.seats.0 c.as_mut_slice.ensures.value ran ended_is
+    c.unwrap-operator.result c.run_all-ran.new.drain.operator ws c.as_mut_slice.result.now us _ c.requires.planned.eager e.plant.0 e.plant.2 each e.seats c.unwrap-operator.ensures c.pop.ensures.items c.hire-workers.ensures.dealt c.hire-workers.ensures.seats.0 c.as_mut_slice.ensures.value ran ended_is
     c.run_all-ran.ensures.operated c.gather.ensures.seats c.push_reserved.ensures.items in
     let is = c.stories_are.ensures c.args.staffed.run.board past c.requires.planned.stood in
     let low : first ≤ length past = omega (arith, is.counted) in
     let closed = c.closed-board.ensures in
-    let ends_at = ends g.Y.Body.gives bodies c.args.staffed.run.ticks.now own p first us c.unwrap-operator.result c.run_all-ran.new.operator c.push_reserved.new.self.items
+    let ends_at = ends g.Y.Body.gives bodies c.args.staffed.run.ticks.now own p first us c.unwrap-operator.result c.run_all-ran.new.drain.operator c.push_reserved.new.self.items
     g.B.Board.stands g.B.Board.set g.B.Board.room g.B.Board.first g.B.Board.kept c.closed-board.result l closed o.1 c.run_all-ran.ensures.operated low c.run_all-ran.ensures.within in
     let w = run_by bodies c.args.staffed.run.ticks.now p in
     let none = c.run_all-ran.ensures.operated.tx ∙ ap (λ (s : SeatFacts). s.tx) o.1 in
     let whole = c.closed_whole.ensures w own p c.closed-board.result c.push_reserved.new.self.items closed l.run
-    (all_done g.Y.Body.gives bodies c.args.staffed.run.ticks.now own p first us c.run_all-ran.new.operator c.push_reserved.new.self.items l none c.in-Ok.ensures.done) in
+    (all_done g.Y.Body.gives bodies c.args.staffed.run.ticks.now own p first us c.run_all-ran.new.drain.operator c.push_reserved.new.self.items l none c.in-Ok.ensures.done) in
     let got = c.in-Ok.ensures.got in
-    let more : GotMore g.O.EntryOut.got c.args.out.now c.run_all-ran.new.out (part c.run_all-ran.new.operator.seen first c.run_all-ran.new.operator.drained) =
-    subst (λ (n : ℕ). GotMore g.O.EntryOut.got c.args.out.now c.run_all-ran.new.out (part c.run_all-ran.new.operator.seen n c.run_all-ran.new.operator.drained)) ends_at.drained_is got.0 in
+    let more : GotMore g.O.EntryOut.got c.args.out.now c.run_all-ran.new.out (part c.run_all-ran.new.drain.operator.seen first c.run_all-ran.new.drain.operator.drained) =
+    subst (λ (n : ℕ). GotMore g.O.EntryOut.got c.args.out.now c.run_all-ran.new.out (part c.run_all-ran.new.drain.operator.seen n c.run_all-ran.new.drain.operator.drained)) ends_at.drained_is got.0 in
     subst (λ (z : Set). HasWorked (workload z bodies c.args.staffed.run.ticks.now) own (g.B.Board.stands c.closed-board.result) (g.O.EntryOut.got c.args.out.now) (g.O.EntryOut.got c.run_all-ran.new.out) (g.B.Board.kept c.args.staffed.run.board) (g.B.Board.kept c.closed-board.result)) e.plant.0
-    (has_worked w own (g.B.Board.stands c.closed-board.result) g.O.EntryOut.got c.args.out.now c.run_all-ran.new.out (g.B.Board.kept c.args.staffed.run.board) (g.B.Board.kept c.closed-board.result) c.run_all-ran.new.operator.seen closed.story first c.run_all-ran.new.operator.drained
+    (has_worked w own (g.B.Board.stands c.closed-board.result) g.O.EntryOut.got c.args.out.now c.run_all-ran.new.out (g.B.Board.kept c.args.staffed.run.board) (g.B.Board.kept c.closed-board.result) c.run_all-ran.new.drain.operator.seen closed.story first c.run_all-ran.new.drain.operator.drained
     whole closed.stood is.rest low ends_at.begins ends_at.low ends_at.within ends_at.kept_is more)
 
 pub returns-in-Err-clause-cut : goal.returns-in-Err-clause-cut
@@ -230,24 +206,24 @@ returns-in-Err-clause-cut g c = λ stopped.
     let long : length us ≡ vec_len c.hire-workers.result = ran.0 ∙ (ap (λ (l : List (Worker g.row.B.Denot g.row.Y.Denot)). length l) c.as_mut_slice.ensures.value ∙ sym all) in
     let ended_is = with_items_is c.hire-workers.result us long in
     let l = settled g.Y.Body.gives bodies c.args.staffed.run.ticks.now own p set first c.in_ok-plant.seats.items c.pop.new.self.items c.hire-workers.new.seats.items c.gather.new.seats.items c.push_reserved.new.self.items c.pop.result
-    c.unwrap-operator.result c.run_all-ran.new.operator ws c.as_mut_slice.result.now us _ c.requires.planned.eager e.plant.0 e.plant.2 each e.seats c.unwrap-operator.ensures c.pop.ensures.items c.hire-workers.ensures.dealt c.hire-workers.ensures.seats.0 c.as_mut_slice.ensures.value ran ended_is
+    c.unwrap-operator.result c.run_all-ran.new.drain.operator ws c.as_mut_slice.result.now us _ c.requires.planned.eager e.plant.0 e.plant.2 each e.seats c.unwrap-operator.ensures c.pop.ensures.items c.hire-workers.ensures.dealt c.hire-workers.ensures.seats.0 c.as_mut_slice.ensures.value ran ended_is
     c.run_all-ran.ensures.operated c.gather.ensures.seats c.push_reserved.ensures.items in
     let is = c.stories_are.ensures c.args.staffed.run.board past c.requires.planned.stood in
     let low : first ≤ length past = omega (arith, is.counted) in
     let closed = c.closed-board.ensures in
-    let ends_at = ends g.Y.Body.gives bodies c.args.staffed.run.ticks.now own p first us c.unwrap-operator.result c.run_all-ran.new.operator c.push_reserved.new.self.items
+    let ends_at = ends g.Y.Body.gives bodies c.args.staffed.run.ticks.now own p first us c.unwrap-operator.result c.run_all-ran.new.drain.operator c.push_reserved.new.self.items
     g.B.Board.stands g.B.Board.set g.B.Board.room g.B.Board.first g.B.Board.kept c.closed-board.result l closed o.1 c.run_all-ran.ensures.operated low c.run_all-ran.ensures.within in
     let obeys = subst (λ (z : Set). IsObedient (workload z bodies c.args.staffed.run.ticks.now)) (sym e.plant.0) c.requires.planned.obedient in
     let few = subst (λ (z : Set). ArePlannable (workload z bodies c.args.staffed.run.ticks.now) own) (sym e.plant.0) c.requires.planned.plannable in
     let stop = subst (λ r. IfErr r (λ s. StopIs g.Y.Body.gives p us s)) c.in-Err.is c.run_all-ran.ensures.stop in
-    let only = only_stopped g.Y.Body.gives bodies c.args.staffed.run.ticks.now own p first us c.run_all-ran.new.operator c.push_reserved.new.self.items l g.B.Board.stands g.B.Board.set g.B.Board.room g.B.Board.first g.B.Board.kept c.closed-board.result
-    c.no_refusal.ensures c.never_unplanned.ensures c.closed-board.ensures obeys few c.in-Err.stop stop in
+    let only = only_stopped g.Y.Body.gives bodies c.args.staffed.run.ticks.now own p first us c.run_all-ran.new.drain.operator c.push_reserved.new.self.items l g.B.Board.stands g.B.Board.set g.B.Board.room g.B.Board.first g.B.Board.kept c.closed-board.result
+    c.no_refusal.ensures c.never_unplanned.ensures c.closed-board.ensures obeys few c.in-Err.field-0 stop in
     let w = run_by bodies c.args.staffed.run.ticks.now p in
     let so = (c.closed_so_far.ensures w own p c.closed-board.result c.push_reserved.new.self.items closed l.run).0 in
-    let got = subst (λ r. IfStopped r (Rose (g.O.EntryOut.stops c.args.out.now) (g.O.EntryOut.stops c.run_all-ran.new.out) × CollectedTo g.O.EntryOut.got g.O.EntryOut.lost c.unwrap-operator.result c.run_all-ran.new.operator c.args.out.now c.run_all-ran.new.out)
-    (Collected g.O.EntryOut.got g.O.EntryOut.lost c.unwrap-operator.result c.run_all-ran.new.operator c.args.out.now c.run_all-ran.new.out)) (c.in-Err.is ∙ ap Err only) c.run_all-ran.ensures.got in
+    let got = subst (λ r. IfStopped r (Rose (g.O.EntryOut.stops c.args.out.now) (g.O.EntryOut.stops c.run_all-ran.new.out) × CollectedTo g.O.EntryOut.got g.O.EntryOut.lost c.unwrap-operator.result c.run_all-ran.new.drain.operator c.args.out.now c.run_all-ran.new.out)
+    (Collected g.O.EntryOut.got g.O.EntryOut.lost c.unwrap-operator.result c.run_all-ran.new.drain.operator c.args.out.now c.run_all-ran.new.out)) (c.in-Err.is ∙ ap Err only) c.run_all-ran.ensures.got in
     subst (λ (z : Set). WasCut (workload z bodies c.args.staffed.run.ticks.now) own (g.O.EntryOut.got c.args.out.now) (g.O.EntryOut.got c.run_all-ran.new.out) (g.O.EntryOut.lost c.run_all-ran.new.out) (g.B.Board.kept c.args.staffed.run.board)) e.plant.0
-    (was_cut w own g.O.EntryOut.got g.O.EntryOut.lost c.args.out.now c.run_all-ran.new.out (g.B.Board.kept c.args.staffed.run.board) (g.B.Board.kept c.closed-board.result) closed.story first c.unwrap-operator.result c.run_all-ran.new.operator
+    (was_cut w own g.O.EntryOut.got g.O.EntryOut.lost c.args.out.now c.run_all-ran.new.out (g.B.Board.kept c.args.staffed.run.board) (g.B.Board.kept c.closed-board.result) closed.story first c.unwrap-operator.result c.run_all-ran.new.drain.operator
     so is.rest low ends_at.begins ends_at.drained_is ends_at.within ends_at.kept_is got.1)
 
 pub returns-in-Err-clause-cause : goal.returns-in-Err-clause-cause
@@ -266,18 +242,18 @@ returns-in-Err-clause-cause g c = λ stopped.
     let long : length us ≡ vec_len c.hire-workers.result = ran.0 ∙ (ap (λ (l : List (Worker g.row.B.Denot g.row.Y.Denot)). length l) c.as_mut_slice.ensures.value ∙ sym all) in
     let ended_is = with_items_is c.hire-workers.result us long in
     let l = settled g.Y.Body.gives bodies c.args.staffed.run.ticks.now own p set first c.in_ok-plant.seats.items c.pop.new.self.items c.hire-workers.new.seats.items c.gather.new.seats.items c.push_reserved.new.self.items c.pop.result
-    c.unwrap-operator.result c.run_all-ran.new.operator ws c.as_mut_slice.result.now us _ c.requires.planned.eager e.plant.0 e.plant.2 each e.seats c.unwrap-operator.ensures c.pop.ensures.items c.hire-workers.ensures.dealt c.hire-workers.ensures.seats.0 c.as_mut_slice.ensures.value ran ended_is
+    c.unwrap-operator.result c.run_all-ran.new.drain.operator ws c.as_mut_slice.result.now us _ c.requires.planned.eager e.plant.0 e.plant.2 each e.seats c.unwrap-operator.ensures c.pop.ensures.items c.hire-workers.ensures.dealt c.hire-workers.ensures.seats.0 c.as_mut_slice.ensures.value ran ended_is
     c.run_all-ran.ensures.operated c.gather.ensures.seats c.push_reserved.ensures.items in
     let is = c.stories_are.ensures c.args.staffed.run.board past c.requires.planned.stood in
     let low : first ≤ length past = omega (arith, is.counted) in
     let closed = c.closed-board.ensures in
-    let ends_at = ends g.Y.Body.gives bodies c.args.staffed.run.ticks.now own p first us c.unwrap-operator.result c.run_all-ran.new.operator c.push_reserved.new.self.items
+    let ends_at = ends g.Y.Body.gives bodies c.args.staffed.run.ticks.now own p first us c.unwrap-operator.result c.run_all-ran.new.drain.operator c.push_reserved.new.self.items
     g.B.Board.stands g.B.Board.set g.B.Board.room g.B.Board.first g.B.Board.kept c.closed-board.result l closed o.1 c.run_all-ran.ensures.operated low c.run_all-ran.ensures.within in
     let obeys = subst (λ (z : Set). IsObedient (workload z bodies c.args.staffed.run.ticks.now)) (sym e.plant.0) c.requires.planned.obedient in
     let few = subst (λ (z : Set). ArePlannable (workload z bodies c.args.staffed.run.ticks.now) own) (sym e.plant.0) c.requires.planned.plannable in
     let stop = subst (λ r. IfErr r (λ s. StopIs g.Y.Body.gives p us s)) c.in-Err.is c.run_all-ran.ensures.stop in
-    let only = only_stopped g.Y.Body.gives bodies c.args.staffed.run.ticks.now own p first us c.run_all-ran.new.operator c.push_reserved.new.self.items l g.B.Board.stands g.B.Board.set g.B.Board.room g.B.Board.first g.B.Board.kept c.closed-board.result
-    c.no_refusal.ensures c.never_unplanned.ensures c.closed-board.ensures obeys few c.in-Err.stop stop in
-    let got = subst (λ r. IfStopped r (Rose (g.O.EntryOut.stops c.args.out.now) (g.O.EntryOut.stops c.run_all-ran.new.out) × CollectedTo g.O.EntryOut.got g.O.EntryOut.lost c.unwrap-operator.result c.run_all-ran.new.operator c.args.out.now c.run_all-ran.new.out)
-    (Collected g.O.EntryOut.got g.O.EntryOut.lost c.unwrap-operator.result c.run_all-ran.new.operator c.args.out.now c.run_all-ran.new.out)) (c.in-Err.is ∙ ap Err only) c.run_all-ran.ensures.got in
+    let only = only_stopped g.Y.Body.gives bodies c.args.staffed.run.ticks.now own p first us c.run_all-ran.new.drain.operator c.push_reserved.new.self.items l g.B.Board.stands g.B.Board.set g.B.Board.room g.B.Board.first g.B.Board.kept c.closed-board.result
+    c.no_refusal.ensures c.never_unplanned.ensures c.closed-board.ensures obeys few c.in-Err.field-0 stop in
+    let got = subst (λ r. IfStopped r (Rose (g.O.EntryOut.stops c.args.out.now) (g.O.EntryOut.stops c.run_all-ran.new.out) × CollectedTo g.O.EntryOut.got g.O.EntryOut.lost c.unwrap-operator.result c.run_all-ran.new.drain.operator c.args.out.now c.run_all-ran.new.out)
+    (Collected g.O.EntryOut.got g.O.EntryOut.lost c.unwrap-operator.result c.run_all-ran.new.drain.operator c.args.out.now c.run_all-ran.new.out)) (c.in-Err.is ∙ ap Err only) c.run_all-ran.ensures.got in
     got.0

@@ -9,7 +9,7 @@ use Rattle.txn_threads.proofs.run.drain_all.Goals as goal
 pub put-put-requires-clause-fine : goal.put-put-requires-clause-fine
 put-put-requires-clause-fine g c =
     let d = c.drain.ensures.drained in
-    let s = c.args.operator.now in let t = c.drain.new.seat in
+    let s = c.args.drain.now.operator in let t = c.drain.new.seat in
     let r = c.requires.good t.seen t.drained d.drained.legal (drained_seen _ _ _ _ _ _ s t d) in (
       r.0,
       r.1,
@@ -17,14 +17,14 @@ put-put-requires-clause-fine g c =
     )
 
 pub returns-clause-operated : goal.returns-clause-operated
-returns-clause-operated g c = operated_of _ _ _ _ _ _ c.args.operator.now c.drain.new.seat c.drain.ensures.drained
+returns-clause-operated g c = operated_of _ _ _ _ _ _ c.args.drain.now.operator c.drain.new.seat c.drain.ensures.drained
 
 pub returns-clause-within : goal.returns-clause-within
-returns-clause-within g c = within_of _ _ _ _ _ _ c.args.operator.now c.drain.new.seat c.drain.ensures.drained
+returns-clause-within g c = within_of _ _ _ _ _ _ c.args.drain.now.operator c.drain.new.seat c.drain.ensures.drained
 
 pub returns-clause-may : goal.returns-clause-may
 returns-clause-may g c =
-    let d = c.drain.ensures.drained in let s = c.args.operator.now in let t = c.drain.new.seat in
+    let d = c.drain.ensures.drained in let s = c.args.drain.now.operator in let t = c.drain.new.seat in
     let legal = IsLegal c.args.plant.now.set in
     let moved = c.as_slice.ensures.value ∙ drained_part _ _ _ _ _ _ s t d c.requires.spare in
     IfOk-weaker c.put-put.result

@@ -11,7 +11,7 @@ returns-in_default-clause-ran g c = workers_refl g.Y.Body.gives g.Y.Body.stands 
 pub returns-in_default-clause-got : goal.returns-in_default-clause-got
 returns-in_default-clause-got g c = let e = c.in_default.ensures.err in (
   e.0,
-  got_stopped_first g.O.EntryOut.got g.O.EntryOut.lost c.args.operator.now c.drain_all.new.operator c.args.out.now c.drain_all.new.out c.drain_all.ensures.operated e.2 e.1,
+  got_stopped_first g.O.EntryOut.got g.O.EntryOut.lost c.args.drain.now.operator c.drain_all.new.drain.operator c.args.out.now c.drain_all.new.out c.drain_all.ensures.operated e.2 e.1,
 )
 
 pub loop-init : goal.loop-init
@@ -39,7 +39,7 @@ pub round_of-alone-requires-clause-alone : goal.round_of-alone-requires-clause-a
 round_of-alone-requires-clause-alone g c κs within = c.loop.invariant.13
 
 pub drain_all-requires-in-loop-clause-plant : goal.drain_all-requires-in-loop-clause-plant
-drain_all-requires-in-loop-clause-plant g c = let q = c.loop.invariant.4 in of_same c.args.plant.now c.args.operator.now c.loop.operator q.plant q.tx c.requires.plant
+drain_all-requires-in-loop-clause-plant g c = let q = c.loop.invariant.4 in of_same c.args.plant.now c.args.drain.now.operator c.loop.drain.operator q.plant q.tx c.requires.plant
 
 pub drain_all-requires-in-loop-clause-operator : goal.drain_all-requires-in-loop-clause-operator
 drain_all-requires-in-loop-clause-operator g c = c.loop.invariant.4.tx ∙ c.requires.operator
@@ -60,7 +60,7 @@ pub returns-in_default-drain_all-clause-ran : goal.returns-in_default-drain_all-
 returns-in_default-drain_all-clause-ran g c = workers_trans g.Y.Body.gives g.Y.Body.stands c.args.plant.now c.args.workers.now c.loop.workers c.round_of-alone.new.workers c.loop.invariant.2 c.round_of-alone.ensures.ran
 
 pub returns-in_default-drain_all-clause-operated : goal.returns-in_default-drain_all-clause-operated
-returns-in_default-drain_all-clause-operated g c = operated_trans c.args.operator.now c.loop.operator c.drain_all-in-loop.new.operator c.loop.invariant.4 c.drain_all-in-loop.ensures.operated
+returns-in_default-drain_all-clause-operated g c = operated_trans c.args.drain.now.operator c.loop.drain.operator c.drain_all-in-loop.new.drain.operator c.loop.invariant.4 c.drain_all-in-loop.ensures.operated
 
 pub returns-in_default-drain_all-clause-stops : goal.returns-in_default-drain_all-clause-stops
 returns-in_default-drain_all-clause-stops g c = let was = c.loop.invariant.10 in let is = c.drain_all-in-loop.ensures.stops in omega (arith, was, is)
@@ -69,7 +69,7 @@ pub returns-in_default-drain_all-clause-got : goal.returns-in_default-drain_all-
 returns-in_default-drain_all-clause-got g c =
     let e = c.in_default-drain_all.ensures.err in let i = c.loop.invariant in (
       rose_later _ _ _ i.10 e.0,
-      got_stopped g.O.EntryOut.got g.O.EntryOut.lost c.args.operator.now c.loop.operator c.drain_all-in-loop.new.operator c.args.out.now c.loop.out c.drain_all-in-loop.new.out i.4 i.5 c.drain_all-in-loop.ensures.operated i.8.0 e.2 e.1,
+      got_stopped g.O.EntryOut.got g.O.EntryOut.lost c.args.drain.now.operator c.loop.drain.operator c.drain_all-in-loop.new.drain.operator c.args.out.now c.loop.out c.drain_all-in-loop.new.out i.4 i.5 c.drain_all-in-loop.ensures.operated i.8.0 e.2 e.1,
     )
 
 pub returns-in-Some-first_halt-clause-ran : goal.returns-in-Some-first_halt-clause-ran
@@ -79,7 +79,7 @@ pub returns-in-Some-first_halt-clause-stop : goal.returns-in-Some-first_halt-cla
 returns-in-Some-first_halt-clause-stop g c = subst (λ s. HaltIs c.round_of-alone.new.workers s) (sym c.stop_of.ensures) (halt_is c.round_of-alone.new.workers c.in-Some-first_halt.halt c.in-Some-first_halt.ensures.some)
 
 pub returns-in-Some-first_halt-clause-operated : goal.returns-in-Some-first_halt-clause-operated
-returns-in-Some-first_halt-clause-operated g c = operated_trans c.args.operator.now c.loop.operator c.drain_all-in-loop.new.operator c.loop.invariant.4 c.drain_all-in-loop.ensures.operated
+returns-in-Some-first_halt-clause-operated g c = operated_trans c.args.drain.now.operator c.loop.drain.operator c.drain_all-in-loop.new.drain.operator c.loop.invariant.4 c.drain_all-in-loop.ensures.operated
 
 pub returns-in-Some-first_halt-clause-stops : goal.returns-in-Some-first_halt-clause-stops
 returns-in-Some-first_halt-clause-stops g c = let was = c.loop.invariant.10 in let is = c.drain_all-in-loop.ensures.stops in omega (arith, was, is)
@@ -88,7 +88,7 @@ pub returns-in-Some-first_halt-clause-got : goal.returns-in-Some-first_halt-clau
 returns-in-Some-first_halt-clause-got g c =
     let i = c.loop.invariant in
     if_not_stopped c.stop_of.result _ _ (λ s. run_stop_not c.in-Some-first_halt.halt (subst IsStopped c.stop_of.ensures s))
-    (got_more g.O.EntryOut.got c.args.operator.now c.loop.operator c.drain_all-in-loop.new.operator c.args.out.now c.loop.out c.drain_all-in-loop.new.out i.4 i.5 c.drain_all-in-loop.ensures.operated i.8.0 c.in-Ok-drain_all.ensures.ok.1, c.in-Ok-drain_all.ensures.ok.0)
+    (got_more g.O.EntryOut.got c.args.drain.now.operator c.loop.drain.operator c.drain_all-in-loop.new.drain.operator c.args.out.now c.loop.out c.drain_all-in-loop.new.out i.4 i.5 c.drain_all-in-loop.ensures.operated i.8.0 c.in-Ok-drain_all.ensures.ok.1, c.in-Ok-drain_all.ensures.ok.0)
 
 pub loop-preserved : goal.loop-preserved
 loop-preserved g c = let i = c.loop.invariant in let d = c.drain_all-in-loop.ensures in let was = i.10 in let rose = d.stops in (
@@ -96,11 +96,11 @@ loop-preserved g c = let i = c.loop.invariant in let d = c.drain_all-in-loop.ens
   tt,
   workers_trans g.Y.Body.gives g.Y.Body.stands c.args.plant.now c.args.workers.now c.loop.workers c.round_of-alone.new.workers i.2 c.round_of-alone.ensures.ran,
   c.in-None-first_halt.ensures.none,
-  operated_trans c.args.operator.now c.loop.operator c.drain_all-in-loop.new.operator i.4 d.operated,
+  operated_trans c.args.drain.now.operator c.loop.drain.operator c.drain_all-in-loop.new.drain.operator i.4 d.operated,
   d.within,
   d.spare.0,
   d.spare.1 ∙ i.7,
-  (got_more g.O.EntryOut.got c.args.operator.now c.loop.operator c.drain_all-in-loop.new.operator c.args.out.now c.loop.out c.drain_all-in-loop.new.out i.4 i.5 d.operated i.8.0 c.in-Ok-drain_all.ensures.ok.1, c.in-Ok-drain_all.ensures.ok.0),
+  (got_more g.O.EntryOut.got c.args.drain.now.operator c.loop.drain.operator c.drain_all-in-loop.new.drain.operator c.args.out.now c.loop.out c.drain_all-in-loop.new.out i.4 i.5 d.operated i.8.0 c.in-Ok-drain_all.ensures.ok.1, c.in-Ok-drain_all.ensures.ok.0),
   c.in-Ok-drain_all.ensures.may,
   omega (arith, was, rose),
   (λ story fine. d.good story (i.11 story fine)),

@@ -12,13 +12,13 @@ invariant-loop g l =
     × (goal.iterator-loop g).is_finite l.iterator'
     × Each (WorkerRan g.Y.Body.gives g.Y.Body.stands l.fn.plant) l.fn.workers l.workers
     × All (λ (w : Worker g.row.B.Denot g.row.Y.Denot). w.halt ≡ None) l.workers
-    × Operated l.fn.operator l.operator
-    × (l.operator.drained ≤ length l.operator.seen)
-    × (l.spare.items ≡ [])
-    × (vec_capacity l.spare ≡ vec_capacity l.fn.spare)
-    × Collected g.O.EntryOut.got g.O.EntryOut.lost l.fn.operator l.operator l.fn.out l.out
-    × MayDrain (IsLegal l.fn.plant.set) g.O.EntryOut.got g.O.EntryOut.good l.operator l.out
+    × Operated l.fn.drain.operator l.drain.operator
+    × (l.drain.operator.drained ≤ length l.drain.operator.seen)
+    × (l.drain.spare.items ≡ [])
+    × (vec_capacity l.drain.spare ≡ vec_capacity l.fn.drain.spare)
+    × Collected g.O.EntryOut.got g.O.EntryOut.lost l.fn.drain.operator l.drain.operator l.fn.out l.out
+    × MayDrain (IsLegal l.fn.plant.set) g.O.EntryOut.got g.O.EntryOut.good l.drain.operator l.out
     × (g.O.EntryOut.stops l.fn.out ≤ g.O.EntryOut.stops l.out)
     × ((story : List Entry) → g.O.EntryOut.good l.fn.out story → g.O.EntryOut.good l.out story)
-    × (l.fn.plant.room ≤ vec_capacity l.fn.spare → l.operator.drained ≡ length l.operator.seen)
+    × (l.fn.plant.room ≤ vec_capacity l.fn.drain.spare → l.drain.operator.drained ≡ length l.drain.operator.seen)
     × IfSome l.alone (λ i. i < length l.workers)

@@ -19,10 +19,10 @@ pub returns-then-not-has_members-clause-none : goal.returns-then-not-has_members
 returns-then-not-has_members-clause-none g c = cleared_none g.Y.Body.gives g.Y.Body.stands c.args.workers.now c.clear_all.new.workers c.clear_all.ensures
 
 pub returns-then-not-has_members-clause-operated : goal.returns-then-not-has_members-clause-operated
-returns-then-not-has_members-clause-operated g c = operated_refl c.args.operator.now
+returns-then-not-has_members-clause-operated g c = operated_refl c.args.drain.now.operator
 
 pub returns-then-not-has_members-clause-got : goal.returns-then-not-has_members-clause-got
-returns-then-not-has_members-clause-got g c = (got_none g.O.EntryOut.got c.args.out.now c.args.operator.now.seen c.args.operator.now.drained, c.requires.lost)
+returns-then-not-has_members-clause-got g c = (got_none g.O.EntryOut.got c.args.out.now c.args.drain.now.operator.seen c.args.drain.now.operator.drained, c.requires.lost)
 
 pub rounds-requires-clause-sit : goal.rounds-requires-clause-sit
 rounds-requires-clause-sit g c κs within = workers_cleared_sit g.Y.Body.gives g.Y.Body.stands c.args.plant.now c.args.workers.now c.clear_all.new.workers c.requires.members c.clear_all.ensures

@@ -1,69 +1,52 @@
 //! Two boards are driven by the same calls, from a seed, and compared after each.
 use board::Board;
+use rand::RngExt;
+use rand_pcg::Pcg32;
 use rt_base::{ItemId, JobId, Op, Tick, TxId, Value};
 use std::alloc::Global;
 use std::collections::BTreeSet;
 use step_journal::Entry;
 use test_calls::{Call, look, make};
 
-/// Numbers from a seed.
-#[derive(Drop)]
-struct Dice {
-    state: u64,
-}
-
-impl Dice {
-    // A number below `sides`.
-    fn roll(&mut self, sides: u64) -> u64 {
-        self.state = self
-            .state
-            .wrapping_mul(6364136223846793005)
-            .wrapping_add(1442695040888963407);
-        if sides == 0 {
-            0
-        } else {
-            (self.state >> 33) % sides
-        }
-    }
-
-    fn below(&mut self, count: usize) -> usize {
-        self.roll(count as u64) as usize
-    }
-
-    fn number(&mut self, below: u32) -> u32 {
-        (self.roll(below as u64) & 0xffff_ffff) as u32
+// A place in a list of `count`, or 0 where it has none.
+fn place(dice: &mut Pcg32, count: usize) -> usize {
+    if count == 0 {
+        0
+    } else {
+        dice.random_range(0..count)
     }
 }
 
-fn one_of(items: &[ItemId], dice: &mut Dice) -> ItemId {
-    let at = dice.below(items.len());
+fn one_of(items: &[ItemId], dice: &mut Pcg32) -> ItemId {
+    let at = place(dice, items.len());
     if at < items.len() {
         items[at]
     } else {
-        ItemId(dice.number(300))
+        ItemId(dice.random_range(0..300u32))
     }
 }
 
 // A tick near the present one, or now and then too far.
-fn some_tick(now: Tick, dice: &mut Dice) -> Tick {
-    if dice.roll(12) == 0 {
+fn some_tick(now: Tick, dice: &mut Pcg32) -> Tick {
+    if dice.random_range(0..12u64) == 0 {
         return 0x100_0000_0001;
     }
-    now.saturating_add(dice.roll(50)).saturating_sub(3)
+    now.saturating_add(dice.random_range(0..50u64))
+        .saturating_sub(3)
 }
 
 // An operation that the job's transaction declares, more often than another.
-fn some_op<B: Board>(board: &B, job: JobId, dice: &mut Dice) -> Op {
+fn some_op<B: Board>(board: &B, job: JobId, dice: &mut Pcg32) -> Op {
     let at = job.tx.0 as usize;
     let txns = board.set().txns();
-    let kind = dice.roll(32);
+    let kind = dice.random_range(0..32u64);
     if kind == 0 || at >= txns.len() {
-        return Op::Read(ItemId(dice.number(300)));
+        return Op::Read(ItemId(dice.random_range(0..300u32)));
     }
-    let value = dice.number(1000) as Value;
+    let value = dice.random_range(0..1000u32) as Value;
     match kind {
         1 => Op::Quit,
-        2 => Op::Write(ItemId(dice.number(300)), value),
+        2 => Op::Write(ItemId(dice.random_range(0..300u32)), value),
         3..=12 => Op::Read(one_of(txns[at].reads.as_slice(), dice)),
         13..=20 => Op::Write(one_of(txns[at].writes.as_slice(), dice), value),
         21..=25 => Op::Compute,
@@ -79,14 +62,14 @@ fn pending<B: Board>(board: &B, tx: TxId) -> Option<JobId> {
     }
 }
 
-fn some_call<B: Board>(board: &B, dice: &mut Dice) -> Call {
+fn some_call<B: Board>(board: &B, dice: &mut Pcg32) -> Call {
     let count = board.set().txns().len();
-    let tx = TxId((dice.below(count) & 0xffff_ffff) as u32);
+    let tx = TxId((place(dice, count) & 0xffff_ffff) as u32);
     let any = JobId {
         tx,
-        serial: dice.number(4),
+        serial: dice.random_range(0..4u32),
     };
-    match dice.roll(20) {
+    match dice.random_range(0..20u64) {
         0..=2 => Call::PlanNext(tx),
         3 => Call::Plan(tx, some_tick(board.now(), dice)),
         4 | 5 => Call::Idle,
@@ -106,7 +89,7 @@ fn turn<A: Board, B: Board>(
     alloc: Global,
     a: &mut A,
     b: &mut B,
-    dice: &mut Dice,
+    dice: &mut Pcg32,
     kinds: &mut Kinds,
 ) -> Option<bool> {
     let call = some_call(a, dice);
@@ -145,10 +128,10 @@ fn turns<A: Board, B: Board>(
     seed: u64,
     kinds: &mut Kinds,
 ) -> Option<u32> {
-    let mut dice = Dice { state: seed };
+    let mut dice = Pcg32::new(seed, 1);
     for i in 0..3000 {
-        if dice.roll(12) == 0 {
-            let most = dice.below(16);
+        if dice.random_range(0..12u64) == 0 {
+            let most = dice.random_range(0..16usize);
             if !drain_alike(alloc, a, b, most)? {
                 return Some(i);
             }

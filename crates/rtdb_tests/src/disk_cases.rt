@@ -1,5 +1,5 @@
 //! The cases.
-use crate::base::{Base, CALLS, Ran};
+use crate::over_disk::{Base, CALLS, Ran};
 use durable_disk::MemDisk;
 use rtdb_command::Status;
 

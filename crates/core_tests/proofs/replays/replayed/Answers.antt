@@ -1,5 +1,5 @@
 use Rattle.std.proofs.Common.{◌∙◌}
-use Rattle.replay_tests.proofs.replays.replayed.Goals as goal
+use Rattle.core_tests.proofs.replays.replayed.Goals as goal
 
 pub are_told-told-requires-clause-legal : goal.are_told-told-requires-clause-legal
 are_told-told-requires-clause-legal c = c.in-Ok.ensures.ok.legal

@@ -1,5 +1,5 @@
 use Rattle.serial_replay.proofs.Released.{row_released}
-use Rattle.replay_tests.proofs.replays.are_told.Goals as goal
+use Rattle.core_tests.proofs.replays.are_told.Goals as goal
 
 pub delay-requires-clause-released : goal.delay-requires-clause-released
 delay-requires-clause-released c =
