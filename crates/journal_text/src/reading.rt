@@ -13,6 +13,7 @@ use name_table::NameTables;
 use rt_base::{End, Op, Outcome};
 use step_journal::Entry;
 
+#[inline(always)]
 #[tactic(auto, unfolding(crate::specs::Reading::read_of))]
 fn read<'a>(names: &NameTables, rest: &'a [u8]) -> Option<(Op, &'a [u8])>
     ensures { option_map (λ p. (p.0, p.1.now)) result ≡ read_of names.now rest.now }
@@ -21,6 +22,7 @@ fn read<'a>(names: &NameTables, rest: &'a [u8]) -> Option<(Op, &'a [u8])>
     Some((Op::Read(item), rest))
 }
 
+#[inline(always)]
 #[tactic(auto, unfolding(crate::specs::Reading::write_of))]
 fn write<'a>(names: &NameTables, rest: &'a [u8]) -> Option<(Op, &'a [u8])>
     ensures { option_map (λ p. (p.0, p.1.now)) result ≡ write_of names.now rest.now }
@@ -30,6 +32,7 @@ fn write<'a>(names: &NameTables, rest: &'a [u8]) -> Option<(Op, &'a [u8])>
     Some((Op::Write(item, value), rest))
 }
 
+#[inline(always)]
 #[tactic(auto, unfolding(crate::specs::Reading::op_form))]
 fn op_after<'a>(names: &NameTables, word: &[u8], rest: &'a [u8]) -> Option<(Op, &'a [u8])>
     ensures { option_map (λ p. (p.0, p.1.now)) result ≡ op_form names.now word.now rest.now }
@@ -49,6 +52,7 @@ fn op_after<'a>(names: &NameTables, word: &[u8], rest: &'a [u8]) -> Option<(Op, 
     }
 }
 
+#[inline(always)]
 #[tactic(auto, unfolding(crate::specs::Reading::op_of))]
 fn op<'a>(names: &NameTables, rest: &'a [u8]) -> Option<(Op, &'a [u8])>
     ensures { option_map (λ p. (p.0, p.1.now)) result ≡ op_of names.now rest.now }
@@ -57,6 +61,7 @@ fn op<'a>(names: &NameTables, rest: &'a [u8]) -> Option<(Op, &'a [u8])>
     op_after(names, word, rest)
 }
 
+#[inline(always)]
 #[tactic(auto, unfolding(crate::specs::Reading::stamp_of))]
 fn stamp(word: &[u8]) -> Option<Option<u64>>
     ensures { result ≡ stamp_of word.now }
@@ -68,6 +73,7 @@ fn stamp(word: &[u8]) -> Option<Option<u64>>
     }
 }
 
+#[inline(always)]
 #[tactic(auto, unfolding(line_fields::specs::Cuts::next))]
 fn next_stamp(rest: &[u8]) -> Option<(Option<u64>, &[u8])>
     ensures { option_map (λ p. (p.0, p.1.now)) result ≡ next stamp_of rest.now }
@@ -77,6 +83,7 @@ fn next_stamp(rest: &[u8]) -> Option<(Option<u64>, &[u8])>
     Some((stamp, rest))
 }
 
+#[inline(always)]
 #[tactic(auto, unfolding(crate::specs::Reading::got_of))]
 fn got(rest: &[u8]) -> Option<(Outcome, &[u8])>
     ensures { option_map (λ p. (p.0, p.1.now)) result ≡ got_of rest.now }
@@ -86,6 +93,7 @@ fn got(rest: &[u8]) -> Option<(Outcome, &[u8])>
     Some((Outcome::Got { value, stamp }, rest))
 }
 
+#[inline(always)]
 #[tactic(auto, unfolding(crate::specs::Reading::outcome_of))]
 fn outcome(op: Op, rest: &[u8]) -> Option<(Outcome, &[u8])>
     ensures { option_map (λ p. (p.0, p.1.now)) result ≡ outcome_of op rest.now }
@@ -162,6 +170,7 @@ fn over(names: &NameTables, rest: &[u8]) -> Option<Option<End>>
     }
 }
 
+#[inline(always)]
 #[tactic(auto, unfolding(crate::specs::Reading::plan_of))]
 fn plan(names: &NameTables, rest: &[u8]) -> Option<Entry>
     ensures { result ≡ plan_of names.now rest.now }
@@ -172,6 +181,7 @@ fn plan(names: &NameTables, rest: &[u8]) -> Option<Entry>
     Some(Entry::Planned { tx, tick })
 }
 
+#[inline(always)]
 #[tactic(auto, unfolding(crate::specs::Reading::step_of))]
 fn step(names: &NameTables, rest: &[u8]) -> Option<Entry>
     ensures { result ≡ step_of names.now rest.now }
@@ -190,6 +200,7 @@ fn step(names: &NameTables, rest: &[u8]) -> Option<Entry>
     })
 }
 
+#[inline(always)]
 #[tactic(auto, unfolding(crate::specs::Reading::block_of))]
 fn block(names: &NameTables, rest: &[u8]) -> Option<Entry>
     ensures { result ≡ block_of names.now rest.now }
@@ -210,6 +221,7 @@ fn block(names: &NameTables, rest: &[u8]) -> Option<Entry>
     })
 }
 
+#[inline(always)]
 #[tactic(auto, unfolding(crate::specs::Reading::idle_of))]
 fn idle(rest: &[u8]) -> Option<Entry>
     ensures { result ≡ idle_of rest.now }
@@ -220,6 +232,7 @@ fn idle(rest: &[u8]) -> Option<Entry>
     Some(Entry::Idle { from, to })
 }
 
+#[inline(always)]
 #[tactic(auto, unfolding(crate::specs::Reading::form_of))]
 fn form(names: &NameTables, word: &[u8], rest: &[u8]) -> Option<Entry>
     ensures { result ≡ form_of names.now word.now rest.now }
@@ -237,6 +250,7 @@ fn form(names: &NameTables, word: &[u8], rest: &[u8]) -> Option<Entry>
     }
 }
 
+#[inline(always)]
 fn entry_in(names: &NameTables, line: &[u8]) -> Option<Entry>
     ensures { result ≡ entry_of names.now line.now }
 {

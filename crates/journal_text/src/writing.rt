@@ -5,8 +5,10 @@ ghost use Rattle.journal_text.specs.Lines.{op_text, stamp_text, outcome_text, en
 
 use line_fields::{put, put_job, put_name, put_short, put_signed, put_unsigned};
 use rt_base::{End, Names, Op, Outcome};
+use std::mem;
 use step_journal::Entry;
 
+#[inline(always)]
 #[tactic(auto, using(line_fields::proofs::IdLaws::in_i64))]
 fn put_op(into: &mut Vec<u8>, names: &Names, op: Op)
     requires known { KnownOp names.now op }
@@ -32,6 +34,7 @@ fn put_op(into: &mut Vec<u8>, names: &Names, op: Op)
     }
 }
 
+#[inline(always)]
 fn put_stamp(into: &mut Vec<u8>, stamp: Option<u64>)
     requires { vec_len into.old + 21 ≤ vec_capacity into.old }
     ensures items { into.new.items ≡ into.old.items ++ field (stamp_text stamp) }
@@ -44,6 +47,7 @@ fn put_stamp(into: &mut Vec<u8>, stamp: Option<u64>)
     }
 }
 
+#[inline(always)]
 #[tactic(auto, using(line_fields::proofs::IdLaws::in_i64))]
 fn put_outcome(into: &mut Vec<u8>, outcome: Outcome)
     requires { vec_len into.old + 42 ≤ vec_capacity into.old }
@@ -64,6 +68,7 @@ fn put_outcome(into: &mut Vec<u8>, outcome: Outcome)
 }
 
 /// Adds a blank and an end: at most 72 bytes.
+#[inline(always)]
 pub fn put_end(into: &mut Vec<u8>, names: &Names, end: End)
     requires known { KnownEnd names.now end }
     requires room { vec_len into.old + 72 ≤ vec_capacity into.old }
@@ -90,6 +95,7 @@ pub fn put_end(into: &mut Vec<u8>, names: &Names, end: End)
     }
 }
 
+#[inline(always)]
 fn put_over(into: &mut Vec<u8>, names: &Names, over: Option<End>)
     requires known { KnownOver names.now over }
     requires room { vec_len into.old + 76 ≤ vec_capacity into.old }
@@ -107,6 +113,7 @@ fn put_over(into: &mut Vec<u8>, names: &Names, over: Option<End>)
     }
 }
 
+#[inline(always)]
 fn put_entry(into: &mut Vec<u8>, names: &Names, entry: Entry)
     requires known { IsWritable names.now entry }
     requires room { vec_len into.old + 255 ≤ vec_capacity into.old }
@@ -168,6 +175,10 @@ pub fn write_entry(names: &Names, entry: &Entry, into: &mut Vec<u8>)
     ensures len { vec_len into.new ≤ vec_len into.old + 255 }
     ensures room { vec_capacity into.old ≤ vec_capacity into.new }
 {
-    put_entry(into, names, *entry);
-    into.push_reserved(b'\n');
+    // A list of its own stays in registers while the pieces are added.
+    let alloc = *into.allocator();
+    let mut line = mem::replace(into, Vec::new(alloc));
+    put_entry(&mut line, names, *entry);
+    line.push_reserved(b'\n');
+    *into = line;
 }

@@ -4,6 +4,7 @@ ghost use Rattle.std.specs.List.{position_or_len};
 ghost use Rattle.std.specs.Str.{bytes_eq};
 ghost use Rattle.line_fields.specs.Cuts.{word_of, field_of, next, word_is, done_of, cut_at};
 
+#[inline(always)]
 fn find(byte: u8, bytes: &[u8]) -> Option<usize>
     ensures at { result ≡ position (λ b. b == byte) bytes.now }
     ensures below { IfSome result (λ i. i < length bytes.now) }
@@ -12,6 +13,7 @@ fn find(byte: u8, bytes: &[u8]) -> Option<usize>
 }
 
 /// What stands before the first such byte, and what stands after it; None where there is none.
+#[inline(always)]
 #[tactic(auto, using(crate::proofs::CutLaws::rest_of))]
 pub fn cut(byte: u8, bytes: &[u8]) -> Option<(&[u8], &[u8])>
     ensures { option_map (λ p. (p.0.now, p.1.now)) result ≡ cut_at byte bytes.now }
@@ -22,6 +24,7 @@ pub fn cut(byte: u8, bytes: &[u8]) -> Option<(&[u8], &[u8])>
     }
 }
 
+#[inline(always)]
 fn word_len(bytes: &[u8]) -> usize
     ensures at { result ≡ position_or_len (λ b. b == 32) bytes.now }
     ensures below { result ≤ length bytes.now }
@@ -33,6 +36,7 @@ fn word_len(bytes: &[u8]) -> usize
 }
 
 /// The bytes before the first blank, and the rest from that blank on.
+#[inline(always)]
 #[tactic(auto, using(crate::proofs::CutLaws::rest_of), unfolding(crate::specs::Cuts::word_of))]
 pub fn word(bytes: &[u8]) -> (&[u8], &[u8])
     ensures { (result.0.now, result.1.now) ≡ word_of bytes.now }
@@ -42,6 +46,7 @@ pub fn word(bytes: &[u8]) -> (&[u8], &[u8])
 }
 
 /// The field after a blank, and the rest; None where the bytes do not begin with a blank. A field may be empty.
+#[inline(always)]
 #[tactic(auto, unfolding(crate::specs::Cuts::field_of))]
 pub fn field(bytes: &[u8]) -> Option<(&[u8], &[u8])>
     ensures { option_map (λ p. (p.0.now, p.1.now)) result ≡ field_of bytes.now }
@@ -53,6 +58,7 @@ pub fn field(bytes: &[u8]) -> Option<(&[u8], &[u8])>
 }
 
 /// Whether a word is the one that is wanted. It compares byte after byte, which costs least where the words are short.
+#[inline(always)]
 pub fn is_word(want: &[u8], word: &[u8]) -> bool
     ensures { result ≡ bytes_eq word.now want.now }
 {
@@ -67,6 +73,7 @@ pub fn is_word(want: &[u8], word: &[u8]) -> bool
     true
 }
 
+#[inline(always)]
 #[tactic(auto, unfolding(crate::specs::Cuts::word_is))]
 fn same(want: &[u8], word: &[u8]) -> Option<()>
     ensures { result ≡ word_is want.now word.now }
@@ -75,6 +82,7 @@ fn same(want: &[u8], word: &[u8]) -> Option<()>
 }
 
 /// The rest after a field that is this word; None where the next field is another or there is none.
+#[inline(always)]
 #[tactic(auto, unfolding(crate::specs::Cuts::next))]
 pub fn next_word<'a>(want: &[u8], bytes: &'a [u8]) -> Option<((), &'a [u8])>
     ensures { option_map (λ p. (p.0, p.1.now)) result ≡ next (word_is want.now) bytes.now }
@@ -85,6 +93,7 @@ pub fn next_word<'a>(want: &[u8], bytes: &'a [u8]) -> Option<((), &'a [u8])>
 }
 
 /// Some exactly where nothing is left.
+#[inline(always)]
 pub fn done(bytes: &[u8]) -> Option<()>
     ensures { result ≡ done_of bytes.now }
 {

@@ -41,6 +41,7 @@ fn is_led(word: &[u8]) -> bool
 const MOST: u64 = 1_844_674_407_370_955_160;
 
 // The number that the digits at the front write, and how many they are; not all of them where the number could be too large.
+#[inline(always)]
 fn front(bytes: &[u8]) -> (u64, usize)
     ensures value { result.0 ≡ digits_value 10 (take result.1 bytes.now) }
     ensures digits { AllDigits 10 (take result.1 bytes.now) }
@@ -58,6 +59,7 @@ fn front(bytes: &[u8]) -> (u64, usize)
 }
 
 // Whether so many digits at the front are a word without a leading zero.
+#[inline(always)]
 fn is_number(bytes: &[u8], len: usize) -> bool
     requires { len ≤ length bytes.now }
     ensures some { IsTrue result → 0 < len }
@@ -71,6 +73,7 @@ fn is_number(bytes: &[u8], len: usize) -> bool
 }
 
 // The number at the front in one pass, and the rest. None where the word there is no number or could be too large.
+#[inline(always)]
 fn at_front(bytes: &[u8]) -> Option<(u64, &[u8])>
     ensures fits { IfSome result (λ p. p.0 < 2 ^ 64) }
     ensures written { IfSome result (λ p. bytes.now ≡ decimal p.0 ++ p.1.now) }
@@ -85,6 +88,7 @@ fn at_front(bytes: &[u8]) -> Option<(u64, &[u8])>
 }
 
 // The same after a blank.
+#[inline(always)]
 fn after_blank(bytes: &[u8]) -> Option<(u64, &[u8])>
     ensures fits { IfSome result (λ p. p.0 < 2 ^ 64) }
     ensures written { IfSome result (λ p. bytes.now ≡ after_a_blank (decimal p.0) ++ p.1.now) }
@@ -97,6 +101,7 @@ fn after_blank(bytes: &[u8]) -> Option<(u64, &[u8])>
 }
 
 /// The number below 2^64 that the word is in decimal digits, without a sign or a leading zero.
+#[inline(always)]
 #[tactic(auto, unfolding(crate::specs::Numbers::unsigned_of))]
 pub fn unsigned(word: &[u8]) -> Option<u64>
     ensures { result ≡ unsigned_of word.now }
@@ -111,6 +116,7 @@ pub fn unsigned(word: &[u8]) -> Option<u64>
 }
 
 /// The same below 2^32.
+#[inline(always)]
 #[tactic(auto, unfolding(crate::specs::Numbers::short_of))]
 pub fn short(word: &[u8]) -> Option<u32>
     ensures { result ≡ short_of word.now }
@@ -125,7 +131,7 @@ fn negative(n: u64) -> Option<i64>
     if n == 0 || n > 1 << 63 {
         None
     } else {
-        Some(-((n - 1) as i64) - 1)
+        Some(-1 - (n - 1) as i64)
     }
 }
 
@@ -148,6 +154,7 @@ pub fn signed(word: &[u8]) -> Option<i64>
 }
 
 /// The unsigned number in the next field.
+#[inline(always)]
 #[tactic(auto, unfolding(crate::specs::Cuts::next))]
 pub fn next_unsigned(bytes: &[u8]) -> Option<(u64, &[u8])>
     ensures { option_map (λ p. (p.0, p.1.now)) result ≡ next unsigned_of bytes.now }
@@ -161,6 +168,7 @@ pub fn next_unsigned(bytes: &[u8]) -> Option<(u64, &[u8])>
 }
 
 /// The number below 2^32 in the next field.
+#[inline(always)]
 #[tactic(auto, unfolding(crate::specs::Cuts::next))]
 pub fn next_short(bytes: &[u8]) -> Option<(u32, &[u8])>
     ensures { option_map (λ p. (p.0, p.1.now)) result ≡ next short_of bytes.now }

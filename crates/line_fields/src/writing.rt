@@ -7,26 +7,21 @@ ghost use Rattle.line_fields.specs.Ids.{name_at, job_text};
 use itoa::Buffer;
 use rt_base::{JobId, Name};
 
-// Up to so many bytes are added one by one, which costs less than a copy.
-const FEW: usize = 16;
-
-/// Adds bytes for which there is room.
+/// Adds bytes for which there is room, one by one, which costs less than a copy where they are few.
+#[inline(always)]
 pub fn put(into: &mut Vec<u8>, bytes: &[u8])
     requires { vec_len into.old + length bytes.now ≤ vec_capacity into.old }
     ensures items { into.new.items ≡ into.old.items ++ bytes.now }
     ensures len { vec_len into.new ≡ vec_len into.old + length bytes.now }
     ensures room { vec_capacity into.old ≤ vec_capacity into.new }
 {
-    if bytes.len() > FEW {
-        into.extend_from_slice(bytes).unwrap();
-        return;
-    }
     for i in 0..bytes.len() {
         into.push_reserved(bytes[i]);
     }
 }
 
 /// Adds a blank and a word.
+#[inline(always)]
 pub fn put_field(into: &mut Vec<u8>, word: &[u8])
     requires { vec_len into.old + length word.now + 1 ≤ vec_capacity into.old }
     ensures items { into.new.items ≡ into.old.items ++ field word.now }
@@ -38,6 +33,7 @@ pub fn put_field(into: &mut Vec<u8>, word: &[u8])
 }
 
 /// Adds a blank and a number.
+#[inline(always)]
 #[tactic(auto, using(crate::proofs::IdLaws::unsigned_length))]
 pub fn put_unsigned(into: &mut Vec<u8>, n: u64)
     requires { vec_len into.old + 21 ≤ vec_capacity into.old }
@@ -49,6 +45,7 @@ pub fn put_unsigned(into: &mut Vec<u8>, n: u64)
 }
 
 /// Adds a blank and a number of 32 bits.
+#[inline(always)]
 #[tactic(auto, using(crate::proofs::IdLaws::short_length))]
 pub fn put_short(into: &mut Vec<u8>, n: u32)
     requires { vec_len into.old + 11 ≤ vec_capacity into.old }
@@ -60,6 +57,7 @@ pub fn put_short(into: &mut Vec<u8>, n: u32)
 }
 
 /// Adds a blank and a signed number.
+#[inline(always)]
 #[tactic(auto, using(crate::proofs::IdLaws::signed_length, crate::proofs::IdLaws::in_i64))]
 pub fn put_signed(into: &mut Vec<u8>, n: i64)
     requires { vec_len into.old + 21 ≤ vec_capacity into.old }
@@ -71,6 +69,7 @@ pub fn put_signed(into: &mut Vec<u8>, n: i64)
 }
 
 /// Adds a blank and the name at a place.
+#[inline(always)]
 pub fn put_name(into: &mut Vec<u8>, names: &[Name], at: u32)
     requires known { at < length names.now }
     requires room { vec_len into.old + 33 ≤ vec_capacity into.old }
@@ -82,6 +81,7 @@ pub fn put_name(into: &mut Vec<u8>, names: &[Name], at: u32)
 }
 
 /// Adds a blank and a job.
+#[inline(always)]
 #[tactic(auto, using(crate::proofs::IdLaws::short_length))]
 pub fn put_job(into: &mut Vec<u8>, txns: &[Name], job: JobId)
     requires known { job.tx.0 < length txns.now }

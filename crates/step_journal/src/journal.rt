@@ -120,6 +120,10 @@ fn drop_front(entries: &mut Vec<Entry>, count: usize)
     ensures items { entries.new.items ≡ drop count entries.old.items }
     ensures places { vec_capacity entries.new ≡ vec_capacity entries.old }
 {
-    let front = entries.drain(..count);
-    drop(front);
+    if count == entries.len() {
+        entries.clear();
+    } else {
+        let front = entries.drain(..count);
+        drop(front);
+    }
 }
