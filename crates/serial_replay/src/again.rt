@@ -3,7 +3,8 @@ ghost use Rattle.std.specs.Prelude.{◌≡◌, ◌<◌, ◌≤◌, [], ℕ, List
 ghost use Rattle.step_journal.specs.declared.entry.Entry.{Entry as Noted};
 ghost use Rattle.step_journal.specs.Step.{plan as planning, ask as asking, idle as idling, step};
 ghost use Rattle.step_journal.specs.History.{event_of, entry_given, state_of};
-ghost use Rattle.board.specs.Stories.{noted, now_of, step_entry};
+ghost use Rattle.board.specs.Stories.{now_of, step_entry};
+ghost use Rattle.serial_replay.specs.Boards.{GoesOnBy};
 ghost use Rattle.serial_replay.specs.Replays.{IsFirstIllegal, HasReplayed};
 
 use board::{Board, IdleReply, StepReply, answers_are_steps};
@@ -48,8 +49,7 @@ fn entry_of(now: Tick, job: JobId, op: Op, reply: StepReply) -> Option<Entry>
 fn made_plan<B: Board>(board: &mut B, tx: TxId, tick: Tick) -> Option<Entry>
     requires { length (B.kept board.old) < B.room board.old }
     ensures made { (story : Many Noted) → B.stands board.old story → result ≡ entry_given (step (B.set board.old) (state_of (B.set board.old) story) (planning tx.0 tick)) }
-    ensures after { (story : Many Noted) → B.stands board.old story → B.stands board.new (noted story result) }
-    ensures fixed { (B.set board.new ≡ B.set board.old) × (B.room board.new ≡ B.room board.old) × (B.first board.new ≡ B.first board.old) }
+    ensures goes_on { GoesOnBy B.stands B.set B.room B.first board.old board.new result }
 {
     answers_are_steps();
     if !is_in_set(board, tx) {
@@ -64,8 +64,7 @@ fn made_plan<B: Board>(board: &mut B, tx: TxId, tick: Tick) -> Option<Entry>
 fn made_step<B: Board>(board: &mut B, job: JobId, op: Op) -> Option<Entry>
     requires { length (B.kept board.old) < B.room board.old }
     ensures made { (story : Many Noted) → B.stands board.old story → result ≡ entry_given (step (B.set board.old) (state_of (B.set board.old) story) (asking job op)) }
-    ensures after { (story : Many Noted) → B.stands board.old story → B.stands board.new (noted story result) }
-    ensures fixed { (B.set board.new ≡ B.set board.old) × (B.room board.new ≡ B.room board.old) × (B.first board.new ≡ B.first board.old) }
+    ensures goes_on { GoesOnBy B.stands B.set B.room B.first board.old board.new result }
 {
     answers_are_steps();
     if !is_in_set(board, job.tx) {
@@ -79,8 +78,7 @@ fn made_step<B: Board>(board: &mut B, job: JobId, op: Op) -> Option<Entry>
 fn made_idle<B: Board>(board: &mut B) -> Option<Entry>
     requires { length (B.kept board.old) < B.room board.old }
     ensures made { (story : Many Noted) → B.stands board.old story → result ≡ entry_given (step (B.set board.old) (state_of (B.set board.old) story) idling) }
-    ensures after { (story : Many Noted) → B.stands board.old story → B.stands board.new (noted story result) }
-    ensures fixed { (B.set board.new ≡ B.set board.old) × (B.room board.new ≡ B.room board.old) × (B.first board.new ≡ B.first board.old) }
+    ensures goes_on { GoesOnBy B.stands B.set B.room B.first board.old board.new result }
 {
     answers_are_steps();
     let from = board.now();
@@ -96,8 +94,7 @@ fn made_idle<B: Board>(board: &mut B) -> Option<Entry>
 fn made<B: Board>(board: &mut B, entry: &Entry) -> Option<Entry>
     requires { length (B.kept board.old) < B.room board.old }
     ensures made { (story : Many Noted) → B.stands board.old story → result ≡ entry_given (step (B.set board.old) (state_of (B.set board.old) story) (event_of entry.now)) }
-    ensures after { (story : Many Noted) → B.stands board.old story → B.stands board.new (noted story result) }
-    ensures fixed { (B.set board.new ≡ B.set board.old) × (B.room board.new ≡ B.room board.old) × (B.first board.new ≡ B.first board.old) }
+    ensures goes_on { GoesOnBy B.stands B.set B.room B.first board.old board.new result }
 {
     match *entry {
         Entry::Planned { tx, tick } => made_plan(board, tx, tick),

@@ -32,10 +32,10 @@ make_room-requires-clause-kept g c =
     let story : List Entry = take c.loop-i.i c.args.entries.now in
     let e : Entry = get_or c.args.entries.now c.loop-i.i filler in
     let made : c.made.result ≡ Some e = c.is_this.ensures.0 c.if-not-is_this.false in
-    let stands = subst (λ (o : Option Entry). g.B.Board.stands c.made.new.board (noted story o)) made (c.made.ensures.after story inv.stands) in
+    let stands = subst (λ (o : Option Entry). g.B.Board.stands c.made.new.board (noted story o)) made (c.made.ensures.goes_on.0 story inv.stands) in
     let was = g.met.B.Board.is_story c.loop-i.board story inv.stands in
     let is = g.met.B.Board.is_story c.made.new.board (story ++ e ∷ []) stands in
-    omega (arith, was.counted, is.counted, c.made.ensures.fixed.1, c.made.ensures.fixed.2, inv.kept, length-append story (e ∷ []))
+    omega (arith, was.counted, is.counted, c.made.ensures.goes_on.2, c.made.ensures.goes_on.3, inv.kept, length-append story (e ∷ []))
 
 pub loop-i-preserved : goal.loop-i-preserved
 loop-i-preserved g c =
@@ -44,11 +44,11 @@ loop-i-preserved g c =
     let e : Entry = get_or c.args.entries.now c.loop-i.i filler in
     let more = take_more c.args.entries.now c.loop-i.i filler c.loop-i-test.true in
     let made : c.made.result ≡ Some e = c.is_this.ensures.0 c.if-not-is_this.false in
-    let stands = subst (λ (o : Option Entry). g.B.Board.stands c.made.new.board (noted story o)) made (c.made.ensures.after story inv.stands) in
+    let stands = subst (λ (o : Option Entry). g.B.Board.stands c.made.new.board (noted story o)) made (c.made.ensures.goes_on.0 story inv.stands) in
     record {
       stands = subst (g.B.Board.stands c.make_room.new.board) (sym more) (c.make_room.ensures.stands (story ++ e ∷ []) stands);
-      set = c.make_room.ensures.fixed.0 ∙ (c.made.ensures.fixed.0 ∙ inv.set);
-      room = c.make_room.ensures.fixed.1 ∙ (c.made.ensures.fixed.1 ∙ inv.room);
+      set = c.make_room.ensures.fixed.0 ∙ (c.made.ensures.goes_on.1 ∙ inv.set);
+      room = c.make_room.ensures.fixed.1 ∙ (c.made.ensures.goes_on.2 ∙ inv.room);
       kept = c.make_room.ensures.kept;
       spare = c.make_room.ensures.spare;
       place = c.make_room.ensures.place;
