@@ -39,21 +39,21 @@ length_open : (n : ℕ) → length (replicate n no_tally) ≡ n
 length_open zero = refl
 length_open (suc n) = ap suc (length_open n)
 
-pub opens : (set : Set) (items : List Stored) (calendar : Agenda) (pending : PendingSeen) (tallies : List Tally) (periods : List ℕ) (count : ℕ)
-    → items ≡ map initial_of set.items → periods ≡ map (λ (t : TxnDecl). t.period) set.txns → calendar.periods ≡ periods → calendar.plans ≡ replicate (length periods) no_plans → calendar.planned ≡ [] → calendar.room ≡ most_planned
-    → AreRows set pending (map (λ t. None) set.txns) → tallies ≡ replicate count no_tally → count ≡ length set.txns
+pub opens : (set : Set) (items : List Stored) (calendar : Agenda) (pending : PendingSeen) (tallies : List Tally)
+    → items ≡ map initial_of set.items → calendar.periods ≡ map (λ (t : TxnDecl). t.period) set.txns → calendar.plans ≡ replicate (length calendar.periods) no_plans → calendar.planned ≡ [] → calendar.room ≡ most_planned
+    → AreRows set pending (map (λ t. None) set.txns) → tallies ≡ replicate (length set.txns) no_tally
     → AreTables set (record { clock = 0; items = items; calendar = calendar; pending = pending; tallies = tallies }) (opening set)
 unfolding opening
-opens set items calendar pending tallies periods count ei ep cp cl cn cr rows et en = record {
+opens set items calendar pending tallies ei ep cl cn cr rows et = record {
   now = refl;
   items = ei;
-  periods = cp ∙ ep;
+  periods = ep;
   room = cr;
   plans = cl ∙ (ap (λ (n : ℕ). replicate n no_plans) (ap (λ (l : List ℕ). length l) ep ∙ length-map set.txns (λ (t : TxnDecl). t.period)) ∙ plans_open set.txns);
   planned = subst (IsPermutation {X = Release} []) (sym cn) (IsPermutation-refl []);
   rows = rows;
   tallies = record {
-    count = ap (λ (l : List Tally). length l) et ∙ (length_open count ∙ en);
-    each = λ tx lt. ap (λ (l : List Tally). tally_of l tx) et ∙ tallies_open count tx;
+    count = ap (λ (l : List Tally). length l) et ∙ length_open (length set.txns);
+    each = λ tx lt. ap (λ (l : List Tally). tally_of l tx) et ∙ tallies_open (length set.txns) tx;
   };
 }

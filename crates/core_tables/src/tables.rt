@@ -10,7 +10,7 @@ ghost use Rattle.board.specs.Answers.{plan_reply, next_tick_for, ended_number, l
 ghost use Rattle.core_tables.specs.Tables.{AreTables};
 ghost use Rattle.core_tables.specs.Legal.{IsLegalState, Stand};
 
-use crate::openings::{no_tallies, periods_of};
+use crate::openings::{calendar_of, no_tallies};
 use crate::tally::Tally;
 use item_model::Items;
 use pending_jobs::Pending;
@@ -19,9 +19,6 @@ use rt_base::{ItemId, JobId, OutOfMemory, PlanRefused, Tick, TxId, Value};
 use std::alloc::Global;
 use std::marker::Model;
 use txn_set::CompiledSet;
-
-/// How many releases may be planned and not take place yet.
-const MOST_PLANNED: usize = 65_536;
 
 /// The state of a board but for its list of ended jobs, each part as a table. Only `new` takes memory.
 #[derive(Drop)]
@@ -46,11 +43,10 @@ impl CoreTables {
     pub fn new(alloc: Global, set: &CompiledSet) -> Result<CoreTables, OutOfMemory>
         ensures { IfOk result (λ t. AreTables set.now t (opening set.now)) }
     {
-        set.is_compiled();
-        let items = Items::new(alloc, set.items())?;
-        let calendar = Calendar::new(alloc, periods_of(alloc, set.txns())?, MOST_PLANNED)?;
-        let pending = Pending::new(alloc, set)?;
         let tallies = no_tallies(alloc, set.txns().len())?;
+        let items = Items::new(alloc, set.items())?;
+        let calendar = calendar_of(alloc, set)?;
+        let pending = Pending::new(alloc, set)?;
         Ok(CoreTables {
             clock: 0,
             items,
@@ -82,10 +78,12 @@ impl CoreTables {
         let CoreTables {
             clock: _,
             items,
-            calendar: _,
-            pending: _,
+            calendar,
+            pending,
             tallies: _,
         } = self;
+        drop(calendar);
+        drop(pending);
         items
     }
 

@@ -16,7 +16,7 @@ ghost use Rattle.pending_jobs.specs.Deadlines.{IsLeastDeadline};
 ghost use Rattle.pending_jobs.specs.Tables.{access_of, op_locked_at, job_after};
 
 use crate::head::{Blocker, Head};
-use crate::openings::{ceilings_of, deadlines_of, no_heads, prios_of, works_of};
+use crate::openings::{deadlines_of, locks_of, rows_of};
 use crate::ranks::{earlier, first_due, least_deadline, refused, running_tx};
 use ceiling_table::Held;
 use inherit_prio::Waits;
@@ -60,12 +60,9 @@ impl Pending {
         ensures { IfOk result (λ p. AreRows set.now p (map (λ t. None) set.now.txns)) }
     {
         set.is_compiled();
-        let ceilings = ceilings_of(alloc, set)?;
-        let held = Held::new(alloc, ceilings, prios_of(alloc, set.txns())?)?;
-        let waits = Waits::new(alloc, prios_of(alloc, set.txns())?)?;
-        let heads = no_heads(alloc, set.txns())?;
-        let works = works_of(alloc, set.txns())?;
         let deadlines = deadlines_of(alloc, set.txns())?;
+        let (heads, works) = rows_of(alloc, set)?;
+        let (held, waits) = locks_of(alloc, set)?;
         Ok(Pending {
             heads,
             works,

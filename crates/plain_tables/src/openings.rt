@@ -14,10 +14,7 @@ pub fn opening_plans(alloc: Global, txns: &[TxnDecl]) -> Result<Vec<Plans>, OutO
     ensures { IfOk result (λ v. v.items ≡ map (λ t. record { number = 0; last = 0 }) txns.now) }
 {
     let mut plans = Vec::new(alloc);
-    for t in txns {
-        let _t = t;
-        plans.push(Plans { number: 0, last: 0 })?;
-    }
+    plans.resize(txns.len(), Plans { number: 0, last: 0 })?;
     Ok(plans)
 }
 
@@ -39,12 +36,12 @@ pub fn opening_tallies(alloc: Global, txns: &[TxnDecl]) -> Result<Vec<Tally>, Ou
     ensures { IfOk result (λ v. v.items ≡ map (λ t. no_tally) txns.now) }
 {
     let mut tallies = Vec::new(alloc);
-    for t in txns {
-        let _t = t;
-        tallies.push(Tally {
+    tallies.resize(
+        txns.len(),
+        Tally {
             number: 0,
             last: None,
-        })?;
-    }
+        },
+    )?;
     Ok(tallies)
 }

@@ -50,14 +50,14 @@ impl Tables {
     pub fn new(alloc: Global, set: &CompiledSet) -> Result<Tables, OutOfMemory>
         ensures { IfOk result (λ t. t ≡ tables_of set.now (opening set.now)) }
     {
-        let items = Items::new(alloc, set.items())?;
-        let plans = opening_plans(alloc, set.txns())?;
-        let slots = opening_slots(alloc, set.txns())?;
-        let tallies = opening_tallies(alloc, set.txns())?;
         let mut planned = Vec::new(alloc);
         planned.reserve(65536)?;
         let mut due = Vec::new(alloc);
         due.reserve(64)?;
+        let plans = opening_plans(alloc, set.txns())?;
+        let tallies = opening_tallies(alloc, set.txns())?;
+        let items = Items::new(alloc, set.items())?;
+        let slots = opening_slots(alloc, set.txns())?;
         Ok(Tables {
             clock: 0,
             items,

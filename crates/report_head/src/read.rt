@@ -1,6 +1,8 @@
 //! The head of a report.
-ghost use Rattle.std.specs.Prelude.{◌≡◌, ◌^◌, ◌<◌, ◌≤◌, ◌+◌, length, IfOk, Err};
+ghost use Rattle.std.specs.Prelude.{◌≡◌, ◌^◌, ◌<◌, ◌≤◌, ◌+◌, length, IfOk, None, Err};
 ghost use Rattle.report_head.specs.Head.{nothing, IsNew, told, told_as, line_of, head, lines_of, head_of, ended, Gives};
+ghost use Rattle.report_head.specs.declared.found.Found.TheVariants.{Item as AnItem, Txn as ATxn, Set as ASet};
+ghost use Rattle.line_fields.specs.Ids.{index_of};
 ghost use Rattle.report_head.specs.IsHead.{IsHead};
 ghost use Rattle.report_head.specs.Pieces.{pieces};
 
@@ -9,7 +11,7 @@ use crate::words::version;
 use item_model::ItemDecl;
 use line_fields::cut;
 use name_table::{NameTable, NameTables};
-use rt_base::{List, OutOfMemory, TogetherDecl};
+use rt_base::{List, Name, OutOfMemory, TogetherDecl};
 use std::alloc::Global;
 use std::marker::Model;
 use txn_set::TxnDecl;
@@ -79,6 +81,47 @@ impl Growing {
         }
     }
 
+    fn add_item(&mut self, alloc: Global, name: &Name, decl: ItemDecl) -> Result<Line, OutOfMemory>
+        requires new { index_of self.old.names name.now ≡ None }
+        requires few_names { length self.old.names < 2 ^ 32 }
+        ensures told { IfOk result (λ l. told_as l self.new ≡ told self.old (AnItem name.now decl)) }
+        ensures names { length self.new.names ≤ length self.old.names + 1 }
+        ensures txns { self.new.txn_names ≡ self.old.txn_names }
+    {
+        if self.part != Part::Items {
+            return Ok(Line::Bad);
+        }
+        self.names.add(alloc, name)?;
+        self.items.push(decl)?;
+        Ok(Line::More)
+    }
+
+    fn add_txn(&mut self, alloc: Global, name: &Name, decl: TxnDecl) -> Result<Line, OutOfMemory>
+        requires new { index_of self.old.txn_names name.now ≡ None }
+        requires few_txns { length self.old.txn_names < 2 ^ 32 }
+        ensures told { IfOk result (λ l. told_as l self.new ≡ told self.old (ATxn name.now decl)) }
+        ensures names { self.new.names ≡ self.old.names }
+        ensures txns { length self.new.txn_names ≤ length self.old.txn_names + 1 }
+    {
+        if self.part == Part::Sets {
+            return Ok(Line::Bad);
+        }
+        self.part = Part::Txns;
+        self.txn_names.add(alloc, name)?;
+        self.txns.push(decl)?;
+        Ok(Line::More)
+    }
+
+    fn add_set(&mut self, set: TogetherDecl) -> Result<Line, OutOfMemory>
+        ensures told { IfOk result (λ l. told_as l self.new ≡ told self.old (ASet set)) }
+        ensures names { self.new.names ≡ self.old.names }
+        ensures txns { self.new.txn_names ≡ self.old.txn_names }
+    {
+        self.part = Part::Sets;
+        self.sets.push(set)?;
+        Ok(Line::More)
+    }
+
     fn add(&mut self, alloc: Global, found: Found) -> Result<Line, OutOfMemory>
         requires new { IsNew self.old found }
         requires few_names { length self.old.names < 2 ^ 32 }
@@ -88,28 +131,9 @@ impl Growing {
         ensures txns { length self.new.txn_names ≤ length self.old.txn_names + 1 }
     {
         match found {
-            Found::Item(name, decl) => {
-                if self.part != Part::Items {
-                    return Ok(Line::Bad);
-                }
-                self.names.add(alloc, &name)?;
-                self.items.push(decl)?;
-                Ok(Line::More)
-            }
-            Found::Txn(name, decl) => {
-                if self.part == Part::Sets {
-                    return Ok(Line::Bad);
-                }
-                self.part = Part::Txns;
-                self.txn_names.add(alloc, &name)?;
-                self.txns.push(decl)?;
-                Ok(Line::More)
-            }
-            Found::Set(set) => {
-                self.part = Part::Sets;
-                self.sets.push(set)?;
-                Ok(Line::More)
-            }
+            Found::Item(name, decl) => self.add_item(alloc, &name, decl),
+            Found::Txn(name, decl) => self.add_txn(alloc, &name, decl),
+            Found::Set(set) => self.add_set(set),
             Found::Mode(admitted) => Ok(Line::Mode(admitted)),
         }
     }

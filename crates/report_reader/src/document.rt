@@ -117,12 +117,16 @@ fn body(
     let left = rest.len();
     let mut entries = Vec::new(alloc);
     let Ok((rest, jobs)) = add_entries(&mut entries, kind.second, &head.names, rest, first) else {
+        drop(head);
         return Err(DocumentError::OutOfMemory);
     };
     let after = rest.len();
     let (rest, end) = to_end(kind, &head.names, rest, jobs);
     match end_fault(end, rest) {
-        Some(error) => Err(error),
+        Some(error) => {
+            drop(head);
+            Err(error)
+        }
         None => Ok(Placed {
             document: Document {
                 head,

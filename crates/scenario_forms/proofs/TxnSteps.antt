@@ -1,52 +1,22 @@
 -- One more transaction.
-use Rattle.std.proofs.Common.{◌≡◌, ℕ, List, length, Bool, Result, Ok, sym, ap, ◌∙◌}
+use Rattle.std.proofs.Common.{◌≡◌, ◌+◌, [], ◌∷◌, List, ℕ, Bool, length, Result, Ok, Err, sym, ap, ◌∙◌, arith, length-append}
 use Rattle.name_table.specs.Places.{place_in}
 use Rattle.serde_json.specs.Data.{Data}
 use Rattle.scenario_forms.specs.declared.error.FormError.{FormError}
 use Rattle.scenario_forms.specs.Fields.{Places}
-use Rattle.scenario_forms.specs.Reading.{◌>>=◌, Fails}
+use Rattle.scenario_forms.specs.Reading.{◌>>=◌}
 use Rattle.scenario_forms.specs.Txns.{Txn, Txns, with_txn, txn_name, txn_at, txn_step}
-use Rattle.scenario_forms.proofs.Folds.{fails_with, fails_along}
 
-abbrev pub table : List (List ℕ) → List Txn → Txns
-table n t = record { names = n; txns = t }
+longer : (t t' : Txns) (n : Result (List ℕ) FormError) (r : Result Txn FormError)
+    → (n >>= λ name. r >>= λ x. Ok (with_txn t name x)) ≡ Ok t' → length t'.names ≡ length t.names + 1
+longer t t' (Ok name) (Ok x) is =
+    let same : with_txn t name x ≡ t' = cc in
+    ap (λ (u : Txns). length u.names) (sym same) ∙ omega (arith, length-append t.names (name ∷ []))
+longer t t' (Ok name) (Err e) is = absurd cc
+longer t t' (Err e) r is = absurd cc
 
-pub same_table : (n n' : List (List ℕ)) (t t' : List Txn) → n ≡ n' → t ≡ t' → table n t ≡ table n' t'
-same_table n n' t t' a b = ap (λ (x : List (List ℕ)). table x t) a ∙ ap (table n') b
-
-name_at_count : (second : Bool) (t : Txns) (n : ℕ) (d : Data) → n ≡ length t.names
-    → txn_name second (place_in t.names) (length t.names) d ≡ txn_name second (place_in t.names) n d
-name_at_count second t n d e = ap (λ (k : ℕ). txn_name second (place_in t.names) k d) (sym e)
-
-txn_at_count : (items : Places) (t : Txns) (n : ℕ) (d : Data) → n ≡ length t.names
-    → txn_at items (length t.names) d ≡ txn_at items n d
-txn_at_count items t n d e = ap (λ (k : ℕ). txn_at items k d) (sym e)
-
-after_name : (second : Bool) (items : Places) (t : Txns) (n : ℕ) (d : Data) (name : List ℕ) → n ≡ length t.names
-    → txn_name second (place_in t.names) n d ≡ Ok name
-    → txn_step second items t d ≡ (txn_at items (length t.names) d >>= λ x. Ok (with_txn t name x))
+pub one_more_name : (second : Bool) (items : Places) (t t' : Txns) (d : Data) → txn_step second items t d ≡ Ok t'
+    → length t'.names ≡ length t.names + 1
 unfolding txn_step
-after_name second items t n d name e is =
-    ap (λ (r : Result (List ℕ) FormError). r >>= λ m. txn_at items (length t.names) d >>= λ x. Ok (with_txn t m x))
-    (name_at_count second t n d e ∙ is)
-
-pub txn_steps : (second : Bool) (items : Places) (t : Txns) (n k : ℕ) (d : Data) (name : List ℕ) (x : Txn)
-    → n ≡ length t.names → k ≡ length t.names
-    → txn_name second (place_in t.names) n d ≡ Ok name → txn_at items k d ≡ Ok x
-    → txn_step second items t d ≡ Ok (with_txn t name x)
-txn_steps second items t n k d name x e f is read =
-    after_name second items t n d name e is ∙ ap (λ (r : Result Txn FormError). r >>= λ y. Ok (with_txn t name y))
-    (txn_at_count items t k d f ∙ read)
-
-pub name_fails : (e : FormError) (second : Bool) (items : Places) (t : Txns) (n : ℕ) (d : Data) → n ≡ length t.names
-    → Fails e (txn_name second (place_in t.names) n d) → Fails e (txn_step second items t d)
-unfolding txn_step
-name_fails e second items t n d same failed = fails_with e _ _
-    (fails_along e _ _ (sym (name_at_count second t n d same)) failed)
-
-pub txn_fails : (e : FormError) (second : Bool) (items : Places) (t : Txns) (n k : ℕ) (d : Data) (name : List ℕ)
-    → n ≡ length t.names → k ≡ length t.names
-    → txn_name second (place_in t.names) n d ≡ Ok name → Fails e (txn_at items k d) → Fails e (txn_step second items t d)
-txn_fails e second items t n k d name same f is failed =
-    fails_along e _ _ (sym (after_name second items t n d name same is))
-    (fails_with e _ _ (fails_along e _ _ (sym (txn_at_count items t k d f)) failed))
+one_more_name second items t t' d is = longer t t' (txn_name second (place_in t.names) (length t.names) d)
+    (txn_at items (length t.names) d) is

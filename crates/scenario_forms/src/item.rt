@@ -1,11 +1,12 @@
 //! Item objects.
-ghost use Rattle.std.specs.Prelude.{◌≡◌, ◌≤◌, ◌^◌, List, codes, length, string_bytes, option_map, pos};
+ghost use Rattle.std.specs.Prelude.{◌≡◌, ◌≤◌, ◌<◌, ◌^◌, List, codes, length, string_bytes, option_map, pos, Ok};
 ghost use Rattle.std.specs.List.{list_all};
 ghost use Rattle.std.specs.BTreeMap.{keys};
 ghost use Rattle.name_table.specs.Places.{place_in};
 ghost use Rattle.serde_json.specs.View.{view, items_view};
-ghost use Rattle.scenario_forms.specs.Reading.{Gives, GivesBy, member_at, fold_at};
-ghost use Rattle.scenario_forms.specs.Fields.{new_name, no_others};
+ghost use Rattle.scenario_forms.specs.declared.error.ItemMember.TheVariants as members;
+ghost use Rattle.scenario_forms.specs.Reading.{◌>>=◌ as bind, Gives, GivesBy, member_at, member_or, fold_at};
+ghost use Rattle.scenario_forms.specs.Fields.{new_name, integer, no_others};
 ghost use Rattle.scenario_forms.specs.Items.{is_item_member, kind_word, kind_form, item_kind, item_at, item_step, no_items_yet, table_view};
 
 use crate::error::{FormError, ItemMember, Place};
@@ -37,14 +38,11 @@ pub struct ItemTable {
 fn word_of(text: &str) -> Option<KindWord>
     ensures { result ≡ kind_word text.now }
 {
-    if text == "sensor" {
-        Some(KindWord::Sensor)
-    } else if text == "derived" {
-        Some(KindWord::Derived)
-    } else if text == "state" {
-        Some(KindWord::State)
-    } else {
-        None
+    match text {
+        "sensor" => Some(KindWord::Sensor),
+        "derived" => Some(KindWord::Derived),
+        "state" => Some(KindWord::State),
+        _ => None,
     }
 }
 
@@ -57,7 +55,10 @@ fn kind(value: &Value) -> Option<KindWord>
 fn is_member(text: &str) -> bool
     ensures { result ≡ is_item_member text.now }
 {
-    text == "name" || text == "kind" || text == "validity" || text == "value"
+    match text {
+        "name" | "kind" | "validity" | "value" => true,
+        _ => false,
+    }
 }
 
 // Whether the members are those of items alone.
@@ -101,12 +102,11 @@ fn kind_at(place: Place, word: KindWord, value: &Value) -> Result<ItemKind, Form
             need(
                 place,
                 if value.get("validity").is_none() {
-                    Some(())
+                    Some(ItemKind::State)
                 } else {
                     None
                 },
-            )?;
-            Ok(ItemKind::State)
+            )
         }
         KindWord::Sensor => {
             let validity = number(place, 1, LONGEST, "validity", value)?;
@@ -125,6 +125,20 @@ fn of_item(i: usize, member: ItemMember) -> Place
     Place::ItemMember { i, member }
 }
 
+// What stands behind the name.
+fn named_item(name: Name, i: usize, value: &Value) -> Result<(Name, ItemDecl), FormError>
+    ensures { Gives result
+        (bind (member_at (Place.ItemMember i members.Kind) kind_form (codes "kind") (view value.now)) (λ word. bind
+        (item_kind (Place.ItemMember i members.Validity) word (view value.now)) (λ kind. bind
+        (member_or (pos 0) (Place.ItemMember i members.Value) integer (codes "value") (view value.now)) (λ initial.
+        Ok (name, record { kind = kind; initial = initial }))))) }
+{
+    let word = word_at(of_item(i, ItemMember::Kind), value)?;
+    let kind = kind_at(of_item(i, ItemMember::Validity), word, value)?;
+    let initial = integer_or(of_item(i, ItemMember::Value), 0, "value", value)?;
+    Ok((name, ItemDecl { kind, initial }))
+}
+
 #[tactic(auto, unfolding(crate::specs::Items::item_at))]
 fn item(names: &NameTable, i: usize, value: &Value) -> Result<(Name, ItemDecl), FormError>
     ensures { Gives result (item_at (place_in names.now) i (view value.now)) }
@@ -134,10 +148,19 @@ fn item(names: &NameTable, i: usize, value: &Value) -> Result<(Name, ItemDecl), 
         if is_item(value) { Some(()) } else { None },
     )?;
     let name = name_at(of_item(i, ItemMember::Name), names, value)?;
-    let word = word_at(of_item(i, ItemMember::Kind), value)?;
-    let kind = kind_at(of_item(i, ItemMember::Validity), word, value)?;
-    let initial = integer_or(of_item(i, ItemMember::Value), 0, "value", value)?;
-    Ok((name, ItemDecl { kind, initial }))
+    named_item(name, i, value)
+}
+
+// One more item.
+#[tactic(auto, unfolding(crate::specs::Items::item_step))]
+fn add_item(alloc: Global, table: &mut ItemTable, value: &Value) -> Result<(), FormError>
+    requires { length table.old.names < 2 ^ 32 }
+    ensures { GivesBy (λ done. table_view table.new) result (item_step (table_view table.old) (view value.now)) }
+{
+    let (name, decl) = item(&table.names, table.names.len(), value)?;
+    table.names.add(alloc, &name)?;
+    table.decls.push(decl)?;
+    Ok(())
 }
 
 /// The items of an array. Of each name it takes two look-ups.
@@ -145,12 +168,12 @@ pub(crate) fn items(alloc: Global, values: &[Value]) -> Result<ItemTable, FormEr
     requires { length values.now ≤ 2 ^ 32 }
     ensures { GivesBy table_view result (fold_at item_step no_items_yet (items_view values.now)) }
 {
-    let mut names = NameTable::new(alloc);
-    let mut decls = Vec::new(alloc);
+    let mut table = ItemTable {
+        names: NameTable::new(alloc),
+        decls: Vec::new(alloc),
+    };
     for value in values {
-        let (name, decl) = item(&names, names.len(), value)?;
-        names.add(alloc, &name)?;
-        decls.push(decl)?;
+        add_item(alloc, &mut table, value)?;
     }
-    Ok(ItemTable { names, decls })
+    Ok(table)
 }

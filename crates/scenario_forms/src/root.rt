@@ -1,16 +1,16 @@
 //! The root object.
-ghost use Rattle.std.specs.Prelude.{◌≡◌, ◌≤◌, ◌+◌, ◌^◌, codes, length, string_bytes, is_some, option_and_then, map, Some, None, IfOk, IsErrOf};
+ghost use Rattle.std.specs.Prelude.{◌≡◌, ◌≤◌, ◌+◌, ◌^◌, List, codes, length, string_bytes, is_some, option_and_then, map, Some, None, Ok, IfOk, IsErrOf};
 ghost use Rattle.std.specs.List.{list_all};
 ghost use Rattle.std.specs.BTreeMap.{keys};
 ghost use Rattle.name_table.specs.Places.{place_in};
 ghost use Rattle.serde_json.specs.View.{view};
 ghost use Rattle.serde_json.specs.Find.{get};
-ghost use Rattle.scenario_forms.specs.Reading.{GivesBy, data_of};
+ghost use Rattle.scenario_forms.specs.Reading.{◌>>=◌ as bind, GivesBy, data_of};
 ghost use Rattle.scenario_forms.specs.Fields.{whole, no_others};
 ghost use Rattle.scenario_forms.specs.Root.{is_root_member, is_second, forms_view, head_at, items_at, txns_at, sets_at, forms_at};
 ghost use Rattle.scenario_forms.specs.Items.{table_view};
-ghost use Rattle.scenario_forms.specs.Txns.{txns_view};
-ghost use Rattle.scenario_forms.specs.Sets.{set_view};
+ghost use Rattle.scenario_forms.specs.Txns.{Txns, txns_view};
+ghost use Rattle.scenario_forms.specs.Sets.{Together, set_view};
 ghost use Rattle.scenario_forms.specs.Sizes.{size};
 
 use crate::error::{FormError, Place, TextError};
@@ -109,6 +109,22 @@ fn sets_of(alloc: Global, items: &NameTable, value: &Value) -> Result<Vec<ReadSe
     sets(alloc, items, values)
 }
 
+// The transactions and the relative sets, over the names of the items.
+fn uses(
+    alloc: Global,
+    items: &NameTable,
+    value: &Value,
+) -> Result<(TxnTable, Vec<ReadSet>), FormError>
+    requires { size (view value.now) ≤ 2 ^ 32 }
+    ensures { GivesBy {B = Txns × List Together} (λ p. (txns_view p.0, map set_view p.1.items)) result
+        (bind (txns_at (is_second (view value.now)) (place_in items.now) (view value.now)) (λ txns. bind
+        (sets_at (place_in items.now) (view value.now)) (λ sets. Ok (txns, sets)))) }
+{
+    let txns = txns_of(alloc, is_version_two(value), items, value)?;
+    let sets = sets_of(alloc, items, value)?;
+    Ok((txns, sets))
+}
+
 /// The forms of a scenario, or the place of the first that is not good, of a value that is made of at most 2^32 values.
 /// It is linear in the value, with one look-up in a hash map for each name in it.
 #[tactic(auto, unfolding(crate::specs::Root::forms_at))]
@@ -118,8 +134,7 @@ pub fn read_forms(alloc: Global, value: &Value) -> Result<Forms, FormError>
 {
     let version = head(value)?;
     let items = items_of(alloc, value)?;
-    let txns = txns_of(alloc, is_version_two(value), &items.names, value)?;
-    let sets = sets_of(alloc, &items.names, value)?;
+    let (txns, sets) = uses(alloc, &items.names, value)?;
     Ok(Forms {
         version,
         items,

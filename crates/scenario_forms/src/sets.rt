@@ -1,11 +1,13 @@
 //! Relative sets.
-ghost use Rattle.std.specs.Prelude.{◌≡◌, [], codes, string_bytes, map};
+ghost use Rattle.std.specs.Prelude.{◌≡◌, ◌^◌, [], Ok, codes, string_bytes, map};
 ghost use Rattle.std.specs.List.{list_all};
 ghost use Rattle.std.specs.BTreeMap.{keys};
 ghost use Rattle.name_table.specs.Places.{place_in};
 ghost use Rattle.serde_json.specs.View.{view, items_view};
-ghost use Rattle.scenario_forms.specs.Reading.{GivesBy, fold_at};
-ghost use Rattle.scenario_forms.specs.Fields.{no_others};
+ghost use Rattle.serde_json.specs.Find.{as_array};
+ghost use Rattle.scenario_forms.specs.Arrays.{element_place, named};
+ghost use Rattle.scenario_forms.specs.Reading.{◌>>=◌ as bind, GivesBy, member_at, all_at, fold_at};
+ghost use Rattle.scenario_forms.specs.Fields.{whole, no_others};
 ghost use Rattle.scenario_forms.specs.Sets.{is_set_member, set_view, set_at, set_step};
 
 use crate::arrays::{Owner, items_named};
@@ -46,6 +48,25 @@ fn is_set(value: &Value) -> bool
     }
 }
 
+// What stands in the object.
+fn members_of(
+    alloc: Global,
+    i: usize,
+    items: &NameTable,
+    value: &Value,
+) -> Result<ReadSet, FormError>
+    ensures { GivesBy set_view result
+        (bind (member_at (Place.SetItems i) as_array (codes "items") (view value.now)) (λ values. bind
+        (all_at (element_place (Owner.Set i)) (named (place_in items.now)) values) (λ items. bind
+        (member_at (Place.SetWithin i) (whole 0 (2 ^ 40)) (codes "within") (view value.now)) (λ within.
+        Ok (record { items = items; within = within }))))) }
+{
+    let values = array(Place::SetItems { i }, "items", value)?;
+    let items = items_named(alloc, Owner::Set { i }, items, values)?;
+    let within = number(Place::SetWithin { i }, 0, LONGEST, "within", value)?;
+    Ok(ReadSet { items, within })
+}
+
 #[tactic(auto, unfolding(crate::specs::Sets::set_at))]
 fn set(alloc: Global, i: usize, items: &NameTable, value: &Value) -> Result<ReadSet, FormError>
     ensures { GivesBy set_view result (set_at (place_in items.now) i (view value.now)) }
@@ -54,10 +75,7 @@ fn set(alloc: Global, i: usize, items: &NameTable, value: &Value) -> Result<Read
         Place::Set { i },
         if is_set(value) { Some(()) } else { None },
     )?;
-    let values = array(Place::SetItems { i }, "items", value)?;
-    let items = items_named(alloc, Owner::Set { i }, items, values)?;
-    let within = number(Place::SetWithin { i }, 0, LONGEST, "within", value)?;
-    Ok(ReadSet { items, within })
+    members_of(alloc, i, items, value)
 }
 
 /// The relative sets of an array.

@@ -19,20 +19,14 @@ pub(crate) enum Shape<'v> {
 fn op_of(text: &str) -> Option<BinOp>
     ensures { result ≡ op_word text.now }
 {
-    if text == "add" {
-        Some(BinOp::Add)
-    } else if text == "sub" {
-        Some(BinOp::Sub)
-    } else if text == "mul" {
-        Some(BinOp::Mul)
-    } else if text == "div" {
-        Some(BinOp::Div)
-    } else if text == "min" {
-        Some(BinOp::Min)
-    } else if text == "max" {
-        Some(BinOp::Max)
-    } else {
-        None
+    match text {
+        "add" => Some(BinOp::Add),
+        "sub" => Some(BinOp::Sub),
+        "mul" => Some(BinOp::Mul),
+        "div" => Some(BinOp::Div),
+        "min" => Some(BinOp::Min),
+        "max" => Some(BinOp::Max),
+        _ => None,
     }
 }
 

@@ -9,3 +9,4 @@ pub mod Merging
 mod Plain
 pub mod Ranges
 mod Runs
+mod Whole

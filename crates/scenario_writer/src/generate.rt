@@ -105,7 +105,6 @@ fn dated_item(n: u32, i: u32) -> ItemDecl
     ItemDecl { kind, initial: 0 }
 }
 
-#[tactic(auto, using(crate::proofs::Each::each_more))]
 fn items(alloc: Global, n: u32) -> Result<Vec<ItemDecl>, OutOfMemory>
     requires { n ≤ 64 }
     ensures { IfOk result (λ decls. decls.items ≡ each (dated_decl n) n ++ state_item ∷ []) }
@@ -247,6 +246,42 @@ fn room(n: u32) -> usize
     n as usize * (256 + 256 * (4 + 2)) + 2
 }
 
+fn names(alloc: Global, n: u32) -> Result<Names, OutOfMemory>
+    requires { n ≤ 64 }
+    ensures items { IfOk result (λ names. names.items ≡ each name_of_dated n ++ codes "m" ∷ []) }
+    ensures txns { IfOk result (λ names. names.txns ≡ each txn_name n) }
+{
+    let items = item_names(alloc, n)?;
+    let txns = txn_names(alloc, n)?;
+    Ok(Names {
+        items: List::of(items),
+        txns: List::of(txns),
+    })
+}
+
+// The items and the transactions.
+fn declared(alloc: Global, n: u32) -> Result<(List<ItemDecl>, List<TxnDecl>), OutOfMemory>
+    requires { n ≤ 64 }
+    ensures items { IfOk result (λ lists. lists.0 ≡ each (dated_decl n) n ++ state_item ∷ []) }
+    ensures txns { IfOk result (λ lists. lists.1 ≡ each (decl_of_txn n) n) }
+{
+    let items = items(alloc, n)?;
+    let txns = txns(alloc, n)?;
+    Ok((List::of(items), List::of(txns)))
+}
+
+// The scripts and the releases.
+fn scripted(alloc: Global, n: u32) -> Result<(List<Script>, List<Releases>), OutOfMemory>
+    requires { n ≤ 64 }
+    ensures scripts { IfOk result (λ lists. map program_of lists.0 ≡ each (program n) n) }
+    ensures begun { IfOk result (λ lists. All (λ s. IsTold s 0 []) lists.0) }
+    ensures releases { IfOk result (λ lists. lists.1 ≡ each releases_each n) }
+{
+    let scripts = scripts(alloc, n)?;
+    let releases = releases(alloc, n)?;
+    Ok((List::of(scripts), List::of(releases)))
+}
+
 /// The generated scenario of `n` transactions, each with 256 jobs; it is linear in `n`.
 pub fn generated(alloc: Global, n: u32) -> Result<Scenario, OutOfMemory>
     requires one { 1 ≤ n }
@@ -256,16 +291,16 @@ pub fn generated(alloc: Global, n: u32) -> Result<Scenario, OutOfMemory>
     ensures compiles { IfOk result (λ s. IsCompiled (set_of (shown s))) }
     ensures begun { IfOk result (λ s. All (λ script. IsTold script 0 []) s.scripts) }
 {
+    let names = names(alloc, n)?;
+    let (items, txns) = declared(alloc, n)?;
+    let (scripts, releases) = scripted(alloc, n)?;
     Ok(Scenario {
-        names: Names {
-            items: List::of(item_names(alloc, n)?),
-            txns: List::of(txn_names(alloc, n)?),
-        },
-        items: List::of(items(alloc, n)?),
-        txns: List::of(txns(alloc, n)?),
+        names,
+        items,
+        txns,
         together: List::of(Vec::new(alloc)),
-        scripts: List::of(scripts(alloc, n)?),
-        releases: List::of(releases(alloc, n)?),
+        scripts,
+        releases,
         room: room(n),
     })
 }

@@ -1,8 +1,9 @@
 //! Items and relative sets as JSON values.
-ghost use Rattle.std.specs.Prelude.{◌≡◌, ◌≤◌, ◌<◌, IfOk, codes, map, length};
+ghost use Rattle.std.specs.Prelude.{◌≡◌, ◌≤◌, ◌<◌, IfOk, OnOk, codes, map, length};
 ghost use Rattle.std.specs.List.{All};
-ghost use Rattle.serde_json.specs.View.{view, items_view};
-ghost use Rattle.scenario_writer.specs.Canonical.{array_of, kind_word as word_of_kind, item_data, items_data, item_words as words_of, set_data};
+ghost use Rattle.serde_json.specs.Data.{member, no_members};
+ghost use Rattle.serde_json.specs.View.{view, items_view, members_view};
+ghost use Rattle.scenario_writer.specs.Canonical.{array_of, integer, word as word_data, kind_word as word_of_kind, item_data, items_data, item_words as words_of, set_data};
 ghost use Rattle.scenario_writer.specs.Integers.{IsI64};
 
 use crate::object::{integer_value, item_value, name_value, word};
@@ -21,19 +22,33 @@ fn kind_word(kind: ItemKind) -> &'static str
     }
 }
 
+// Puts the kind, the name and the value into an empty object.
+fn put_declared(
+    members: &mut Map<String, Value>,
+    alloc: Global,
+    name: &Name,
+    decl: &ItemDecl,
+) -> Result<(), OutOfMemory>
+    requires { members_view members.old.entries ≡ no_members }
+    ensures data { OnOk result (members_view members.new.entries
+        ≡ member (codes "kind") (word_data (word_of_kind decl.now.kind))
+        (member (codes "name") (word_data name.now)
+        (member (codes "value") (integer decl.now.initial) no_members))) }
+    ensures fits { OnOk result (IsI64 decl.now.initial) }
+{
+    let kind = word(alloc, kind_word(decl.kind))?;
+    serde_json::put(members, alloc, "kind", kind)?;
+    let name = name_value(alloc, name)?;
+    serde_json::put(members, alloc, "name", name)?;
+    Ok(serde_json::put(members, alloc, "value", integer_value(decl.initial))?)
+}
+
 fn item(alloc: Global, name: &Name, decl: &ItemDecl) -> Result<Value, OutOfMemory>
     ensures data { IfOk result (λ v. view v ≡ item_data name.now decl.now) }
     ensures fits { IfOk result (λ v. IsI64 decl.now.initial) }
 {
     let mut members = Map::new(alloc);
-    serde_json::put(
-        &mut members,
-        alloc,
-        "kind",
-        word(alloc, kind_word(decl.kind))?,
-    )?;
-    serde_json::put(&mut members, alloc, "name", name_value(alloc, name)?)?;
-    serde_json::put(&mut members, alloc, "value", integer_value(decl.initial))?;
+    put_declared(&mut members, alloc, name, decl)?;
     match decl.kind {
         ItemKind::Sensor { validity } | ItemKind::Derived { validity } => {
             serde_json::put(&mut members, alloc, "validity", Value::from(validity))?;

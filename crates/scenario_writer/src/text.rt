@@ -1,12 +1,13 @@
 //! Canonical texts.
-ghost use Rattle.std.specs.Prelude.{◌≡◌, nat_lt, Some, None, IfOk, map, option_map, IsUtf8};
+ghost use Rattle.std.specs.Prelude.{◌≡◌, nat_lt, Some, None, IfOk, OnOk, codes, map, option_map, IsUtf8};
 ghost use Rattle.std.specs.List.{list_any};
 ghost use Rattle.serde_json.specs.Read.{read};
 ghost use Rattle.serde_json.specs.Written.{compact_text};
-ghost use Rattle.serde_json.specs.View.{view};
+ghost use Rattle.serde_json.specs.Data.{Data, object, member, no_members, put};
+ghost use Rattle.serde_json.specs.View.{view, members_view};
 ghost use Rattle.scenario.specs.Shown.{shown};
 ghost use Rattle.scenario.specs.Scenarios.{IsScenario};
-ghost use Rattle.scenario_writer.specs.Canonical.{array_of, items_data, is_second as is_second_text, set_data, txns_in, sets_data, canonical};
+ghost use Rattle.scenario_writer.specs.Canonical.{whole, array_of, items_data, is_second as is_second_text, set_data, txns_in, sets_data, canonical};
 ghost use Rattle.scenario_writer.specs.Members.{root_data};
 ghost use Rattle.scenario_writer.specs.Integers.{HasIntegers};
 
@@ -31,36 +32,59 @@ fn is_second(scenario: &Scenario) -> bool
     has_quiet(scenario.txns.as_slice()) || scenario.together.as_slice().len() > 0
 }
 
-// The object of version 1.
-fn first_root(alloc: Global, items: Value, txns: Value) -> Result<Value, OutOfMemory>
-    ensures { IfOk result (λ v. view v ≡ root_data (view items) (view txns) None) }
+// Puts the transactions and the version.
+fn put_txns(
+    members: &mut Map<String, Value>,
+    alloc: Global,
+    txns: Value,
+    version: u32,
+) -> Result<(), OutOfMemory>
+    ensures { OnOk result (members_view members.new.entries ≡ put (codes "version") (whole version)
+        (put (codes "transactions") (view txns) (members_view members.old.entries))) }
 {
-    let mut members = Map::new(alloc);
-    serde_json::put(&mut members, alloc, "items", items)?;
-    serde_json::put(&mut members, alloc, "transactions", txns)?;
-    serde_json::put(&mut members, alloc, "version", Value::from(1u32))?;
-    Ok(Value::Object(members))
+    serde_json::put(members, alloc, "transactions", txns)?;
+    Ok(serde_json::put(members, alloc, "version", Value::from(version))?)
 }
 
-// The object of version 2, which has relative sets.
-fn second_root(alloc: Global, items: Value, txns: Value, sets: Value) -> Result<Value, OutOfMemory>
-    ensures { IfOk result (λ v. view v ≡ root_data (view items) (view txns) (Some (view sets))) }
+// Puts what follows the items in version 2, which has relative sets.
+fn put_second(
+    members: &mut Map<String, Value>,
+    alloc: Global,
+    sets: Value,
+    txns: Value,
+) -> Result<(), OutOfMemory>
+    ensures { OnOk result (members_view members.new.entries ≡ put (codes "version") (whole 2)
+        (put (codes "transactions") (view txns) (put (codes "together") (view sets)
+        (members_view members.old.entries)))) }
 {
-    let mut members = Map::new(alloc);
-    serde_json::put(&mut members, alloc, "items", items)?;
-    serde_json::put(&mut members, alloc, "together", sets)?;
-    serde_json::put(&mut members, alloc, "transactions", txns)?;
-    serde_json::put(&mut members, alloc, "version", Value::from(2u32))?;
-    Ok(Value::Object(members))
+    serde_json::put(members, alloc, "together", sets)?;
+    put_txns(members, alloc, txns, 2)
+}
+
+// Puts what follows the items.
+fn put_rest(
+    members: &mut Map<String, Value>,
+    alloc: Global,
+    txns: Value,
+    sets: Option<Value>,
+) -> Result<(), OutOfMemory>
+    ensures { (items : Data) → members_view members.old.entries ≡ member (codes "items") items no_members
+        → OnOk result (object (members_view members.new.entries)
+        ≡ root_data items (view txns) (option_map view sets)) }
+{
+    match sets {
+        Some(sets) => put_second(members, alloc, sets, txns),
+        None => put_txns(members, alloc, txns, 1),
+    }
 }
 
 fn root(alloc: Global, items: Value, txns: Value, sets: Option<Value>) -> Result<Value, OutOfMemory>
     ensures { IfOk result (λ v. view v ≡ root_data (view items) (view txns) (option_map view sets)) }
 {
-    match sets {
-        Some(sets) => second_root(alloc, items, txns, sets),
-        None => first_root(alloc, items, txns),
-    }
+    let mut members = Map::new(alloc);
+    serde_json::put(&mut members, alloc, "items", items)?;
+    put_rest(&mut members, alloc, txns, sets)?;
+    Ok(Value::Object(members))
 }
 
 // The relative sets of a text of version 2.

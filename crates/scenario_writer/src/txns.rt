@@ -1,38 +1,70 @@
 //! Transactions as JSON values.
 ghost use Rattle.std.specs.Prelude.{◌≡◌, ◌≤◌, ◌<◌, IfOk, OnOk, IsTrue, codes, map, length, if◌then◌else◌};
 ghost use Rattle.std.specs.List.{All, list_all};
-ghost use Rattle.serde_json.specs.Data.{put};
+ghost use Rattle.serde_json.specs.Data.{put, no_members};
 ghost use Rattle.serde_json.specs.View.{view, members_view};
 ghost use Rattle.step_script.specs.Scripts.{program_of, is_good};
 ghost use Rattle.scenario.specs.Scripts.{steps_of};
 ghost use Rattle.scenario.specs.Shown.{shown};
 ghost use Rattle.scenario.specs.Scenarios.{IsScenario};
-ghost use Rattle.scenario_writer.specs.Canonical.{whole, integer, array_of, item_words as words_of, script_data, txn_data, written, txns_in};
-ghost use Rattle.scenario_writer.specs.Integers.{IsI64, ProgramHasIntegers};
+ghost use Rattle.scenario_writer.specs.Canonical.{whole, integer, word, array_of, item_words as words_of, script_data, txn_data, written, txns_in};
+ghost use Rattle.scenario_writer.specs.Integers.{IsI64, OpHasConstants, ProgramHasIntegers};
 ghost use Rattle.scenario_writer.specs.Members.{numbers_data, with_lists, releases_name, releases_data, with_quiet, AreWritable};
 
 use crate::items::item_words;
 use crate::object::{integer_value, name_value};
 use crate::script::script;
-use rt_base::{Name, OutOfMemory};
+use rt_base::{ItemId, Name, OutOfMemory};
 use scenario::{Releases, Scenario};
 use serde_json::{Map, Value};
 use std::alloc::Global;
 use step_script::Script;
 use txn_set::TxnDecl;
 
+fn put_number(
+    members: &mut Map<String, Value>,
+    alloc: Global,
+    label: &str,
+    number: u64,
+) -> Result<(), OutOfMemory>
+    ensures { OnOk result (members_view members.new.entries
+        ≡ put label.now (whole number) (members_view members.old.entries)) }
+{
+    Ok(serde_json::put(members, alloc, label, Value::from(number))?)
+}
+
+fn put_name(members: &mut Map<String, Value>, alloc: Global, name: &Name) -> Result<(), OutOfMemory>
+    ensures { OnOk result (members_view members.new.entries
+        ≡ put (codes "name") (word name.now) (members_view members.old.entries)) }
+{
+    Ok(serde_json::put(members, alloc, "name", name_value(alloc, name)?)?)
+}
+
 // The name and the numbers.
 fn numbers(alloc: Global, name: &Name, decl: &TxnDecl) -> Result<Map<String, Value>, OutOfMemory>
     ensures { IfOk result (λ m. members_view m.entries ≡ numbers_data name.now decl.now) }
 {
     let mut members = Map::new(alloc);
-    serde_json::put(&mut members, alloc, "deadline", Value::from(decl.deadline))?;
-    serde_json::put(&mut members, alloc, "name", name_value(alloc, name)?)?;
-    serde_json::put(&mut members, alloc, "offset", Value::from(decl.offset))?;
-    serde_json::put(&mut members, alloc, "period", Value::from(decl.period))?;
-    serde_json::put(&mut members, alloc, "priority", Value::from(decl.prio))?;
-    serde_json::put(&mut members, alloc, "steps", Value::from(decl.steps))?;
+    put_numbers(&mut members, alloc, name, decl)?;
     Ok(members)
+}
+
+// Puts the name and the numbers into an empty object.
+fn put_numbers(
+    members: &mut Map<String, Value>,
+    alloc: Global,
+    name: &Name,
+    decl: &TxnDecl,
+) -> Result<(), OutOfMemory>
+    requires { members_view members.old.entries ≡ no_members }
+    ensures { OnOk result (members_view members.new.entries ≡ numbers_data name.now decl.now) }
+{
+    put_number(members, alloc, "deadline", decl.deadline)?;
+    put_name(members, alloc, name)?;
+    put_number(members, alloc, "offset", decl.offset)?;
+    put_number(members, alloc, "period", decl.period)?;
+    put_number(members, alloc, "priority", u64::from(decl.prio))?;
+    put_number(members, alloc, "steps", decl.steps)
 }
 
 fn samples(alloc: Global, samples: &[i64]) -> Result<Value, OutOfMemory>
@@ -56,6 +88,53 @@ fn ticks(alloc: Global, ticks: &[u64]) -> Result<Value, OutOfMemory>
     Ok(Value::Array(values))
 }
 
+// Puts items by their names.
+fn put_items(
+    members: &mut Map<String, Value>,
+    alloc: Global,
+    label: &str,
+    names: &[Name],
+    items: &[ItemId],
+) -> Result<(), OutOfMemory>
+    requires { All (λ i. i.0 < length names.now) items.now }
+    ensures { OnOk result (members_view members.new.entries
+        ≡ put label.now (words_of names.now items.now) (members_view members.old.entries)) }
+{
+    let words = item_words(alloc, names, items)?;
+    Ok(serde_json::put(members, alloc, label, words)?)
+}
+
+fn put_samples(
+    members: &mut Map<String, Value>,
+    alloc: Global,
+    body: &Script,
+) -> Result<(), OutOfMemory>
+    ensures data { OnOk result (members_view members.new.entries
+        ≡ put (codes "samples") (array_of (map integer (program_of body.now).samples))
+        (members_view members.old.entries)) }
+    ensures fits { OnOk result (All IsI64 (program_of body.now).samples) }
+{
+    let values = samples(alloc, body.samples())?;
+    Ok(serde_json::put(members, alloc, "samples", values)?)
+}
+
+fn put_script(
+    members: &mut Map<String, Value>,
+    alloc: Global,
+    names: &[Name],
+    body: &Script,
+) -> Result<(), OutOfMemory>
+    requires good { IsTrue (list_all (is_good (length names.now)) (program_of body.now).ops) }
+    requires short { steps_of (program_of body.now).ops ≤ 10000 }
+    ensures data { OnOk result (members_view members.new.entries
+        ≡ put (codes "script") (script_data names.now (program_of body.now).ops)
+        (members_view members.old.entries)) }
+    ensures fits { OnOk result (All OpHasConstants (program_of body.now).ops) }
+{
+    let operations = script(alloc, names, body.ops())?;
+    Ok(serde_json::put(members, alloc, "script", operations)?)
+}
+
 fn put_lists(
     members: &mut Map<String, Value>,
     alloc: Global,
@@ -71,13 +150,18 @@ fn put_lists(
         ≡ with_lists names.now decl.now (program_of body.now) (members_view members.old.entries)) }
     ensures fits { OnOk result (ProgramHasIntegers (program_of body.now)) }
 {
-    let reads = item_words(alloc, names, decl.reads.as_slice())?;
-    serde_json::put(members, alloc, "reads", reads)?;
-    serde_json::put(members, alloc, "samples", samples(alloc, body.samples())?)?;
-    serde_json::put(members, alloc, "script", script(alloc, names, body.ops())?)?;
-    let writes = item_words(alloc, names, decl.writes.as_slice())?;
-    serde_json::put(members, alloc, "writes", writes)?;
-    Ok(())
+    put_items(members, alloc, "reads", names, decl.reads.as_slice())?;
+    put_samples(members, alloc, body)?;
+    put_script(members, alloc, names, body)?;
+    put_items(members, alloc, "writes", names, decl.writes.as_slice())
+}
+
+fn put_ticks(members: &mut Map<String, Value>, alloc: Global, at: &[u64]) -> Result<(), OutOfMemory>
+    ensures { OnOk result (members_view members.new.entries
+        ≡ put (codes "releases") (array_of (map whole at.now)) (members_view members.old.entries)) }
+{
+    let values = ticks(alloc, at)?;
+    Ok(serde_json::put(members, alloc, "releases", values)?)
 }
 
 fn put_releases(
@@ -89,13 +173,10 @@ fn put_releases(
         ≡ put (releases_name releases.now) (releases_data releases.now) (members_view members.old.entries)) }
 {
     match releases {
-        Releases::At(at) => {
-            serde_json::put(members, alloc, "releases", ticks(alloc, at.as_slice())?)?;
-        }
-        Releases::Jobs(n) => serde_json::put(members, alloc, "jobs", Value::from(*n))?,
-        Releases::Eager(n) => serde_json::put(members, alloc, "eager", Value::from(*n))?,
+        Releases::At(at) => put_ticks(members, alloc, at.as_slice()),
+        Releases::Jobs(n) => put_number(members, alloc, "jobs", u64::from(*n)),
+        Releases::Eager(n) => put_number(members, alloc, "eager", u64::from(*n)),
     }
-    Ok(())
 }
 
 fn put_quiet(
@@ -108,9 +189,10 @@ fn put_quiet(
         ≡ with_quiet second quiet (members_view members.old.entries)) }
 {
     if second {
-        serde_json::put(members, alloc, "quiet", Value::from(quiet))?;
+        put_number(members, alloc, "quiet", quiet)
+    } else {
+        Ok(())
     }
-    Ok(())
 }
 
 // A transaction; `second` says that the text is version 2's.

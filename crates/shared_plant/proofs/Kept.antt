@@ -42,3 +42,12 @@ operator_counts s u tx front first story k none took is =
     let marked : s.view.marked ≡ true = ap (λ (v : View Entry). v.marked) k.0 ∙ ap is_operator none in
     let own : counted (taking s.view story first) ≡ s.view.drained = ap (λ (b : Bool). if b then s.view.drained else first) marked in
     sym own ∙ (sym (ap counted took) ∙ is)
+
+-- the operator's seat carries the mark, and counts so many more once it drained them
+pub operator_drained : (s u w : Standing Entry) (tx : Option TxId) (front first n : ℕ) (story : List Entry) → IsKept s tx front → tx ≡ None → u.view ≡ taking s.view story first → counted u.view ≡ first → w.view ≡ draining u.view n
+    → (u.view.marked ≡ true) × (u.view.drained ≡ first) × (counted w.view ≡ first + n)
+operator_drained s u w tx front first n story k none took is more =
+    let marked : u.view.marked ≡ true = ap (λ (v : View Entry). v.marked) (took ∙ ap (λ v. taking v story first) k.0) ∙ ap is_operator none in
+    let own : counted u.view ≡ u.view.drained = ap (λ (b : Bool). if b then u.view.drained else u.view.base) marked in
+    let drained : u.view.drained ≡ first = sym own ∙ is in
+    (marked, drained, ap counted more ∙ (ap (λ (b : Bool). if b then u.view.drained + n else u.view.base) marked ∙ ap (λ m. m + n) drained))

@@ -1,4 +1,5 @@
 pub mod Kept
+pub mod Drains
 pub mod Answering
 pub mod Laters
 pub mod Closing

@@ -6,7 +6,7 @@ ghost use Rattle.rt_base.specs.declared.ids.TxId.{TxId as Transaction};
 ghost use Rattle.rt_base.specs.declared.ids.JobId.{JobId as Job};
 ghost use Rattle.board.specs.Stories.{plan_entry, plan_next_entry, step_entry, idle_entry, plan_answer, plan_next_answer, step_answer, idle_answer, now_of};
 ghost use Rattle.turn_cell.specs.Seats.{fresh};
-ghost use Rattle.shared_plant.specs.Seats.{TableId, IsOf, AreOf, Closed, newcomer, newcomers};
+ghost use Rattle.shared_plant.specs.Seats.{TableId, IsOf, AreOf, Closed, is_operator, newcomer, newcomers};
 ghost use Rattle.shared_plant.specs.Answers.{IsBusy, IfSaid, missed_once, Answered, AnsweredLate, nothing, Drained, DrainedLate, IsNotYet, WaitsAt};
 
 use crate::seat::Seat;
@@ -67,8 +67,7 @@ impl<B: Board> Plant<B> {
         ensures members { IfOk result (λ r. AreOf r.0 r.1.items) }
         ensures err { IfErr result (λ e. e.0 ≡ board) }
     {
-        board.set().is_compiled();
-        let txs = board.set().txns().len() as u32;
+        let txs = txs_of(&board);
         let front = board.count();
         let need = txs + 1;
         let Ok(mut seats) = Vec::with_capacity(alloc, need as usize) else {
@@ -257,6 +256,15 @@ impl<B: Board> Plant<B> {
     }
 }
 
+// How many transactions the board's set has.
+fn txs_of<B: Board>(board: &B) -> u32
+    ensures all { result ≡ length (B.set board.now).txns }
+    ensures small { result < 4294967295 }
+{
+    board.set().is_compiled();
+    board.set().txns().len() as u32
+}
+
 // Seats the transactions in order, and the operator last.
 fn seat_all<B: Board>(
     mut cells: Vec<TurnSeat<SharedBoard<B>>>,
@@ -271,17 +279,17 @@ fn seat_all<B: Board>(
     let operator = cells.pop().unwrap();
     for tx in 0..txs {
         let seat = cells.pop().unwrap();
-        seats.push_reserved(Seat {
-            seat,
-            tx: Some(TxId(tx)),
-            front,
-        });
+        seats.push_reserved(seated(seat, Some(TxId(tx)), front));
     }
-    seats.push_reserved(Seat {
-        seat: operator,
-        tx: None,
-        front,
-    });
+    seats.push_reserved(seated(operator, None, front));
+}
+
+// A seat that has seen the past, and made no call.
+fn seated<B: Board>(seat: TurnSeat<SharedBoard<B>>, tx: Option<TxId>, front: u64) -> Seat<B>
+    requires { (id : TableId) × (past : List Noted) × (first : ℕ) × (length past ≡ front) × (first ≤ length past) × (seat ≡ fresh id past first (is_operator tx)) }
+    ensures { (id : TableId) (past : List Noted) (first : ℕ) → seat ≡ fresh id past first (is_operator tx) → result ≡ newcomer id past first tx }
+{
+    Seat { seat, tx, front }
 }
 
 fn is_not_yet(reply: &StepReply) -> bool

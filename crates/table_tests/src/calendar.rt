@@ -30,6 +30,7 @@ fn refusals(rt: HostRuntime) -> Result<(), OutOfMemory> {
     }
     assert!(rt; calendar.due(20) == job(SLOW, 0));
     assert!(rt; calendar.check(SLOW, 30, 20) == Ok(1));
+    drop(calendar);
     Ok(())
 }
 
@@ -53,6 +54,7 @@ fn releases(rt: HostRuntime) -> Result<(), OutOfMemory> {
         assert!(rt; calendar.due(tick) == want);
     }
     assert!(rt; calendar.next_tick() == None);
+    drop(calendar);
     Ok(())
 }
 
@@ -175,5 +177,6 @@ fn beside_a_plain_scan(rt: HostRuntime) -> Result<(), OutOfMemory> {
         assert!(rt; same, "call {call}");
         now = now.saturating_add(rng.random_range(0..3u64));
     }
+    drop(calendar);
     Ok(())
 }

@@ -150,6 +150,7 @@ fn runs(rt: HostRuntime) -> Result<(), OutOfMemory> {
         count = count.saturating_add(1);
     }
     assert_eq!(rt; count, 26);
+    drop(held);
     Ok(())
 }
 
@@ -238,6 +239,7 @@ fn beside_a_plain_scan(rt: HostRuntime) -> Result<(), OutOfMemory> {
             assert!(rt; alike(&held, &locks, other, item), "call {call}");
         }
     }
+    drop(held);
     Ok(())
 }
 
@@ -268,5 +270,6 @@ fn ranks(rt: HostRuntime) -> Result<(), OutOfMemory> {
     }
     assert!(rt; asked::<Brand>(&held, TxId(0), Blank::new(1)) == Ok(()));
     assert_eq!(rt; held.ceiling_of(TxId(63)), 0);
+    drop(held);
     Ok(())
 }

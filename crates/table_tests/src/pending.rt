@@ -81,6 +81,7 @@ fn bystander(rt: HostRuntime) -> Result<(), OutOfMemory> {
     assert!(rt; pending.running() == Some(first_of(HIGH)));
     assert!(rt; pending.lock_refusal(HIGH, Op::Read(X)) == None);
     assert!(rt; !pending.is_pending(first_of(LOW)));
+    drop(pending);
     Ok(())
 }
 
@@ -120,5 +121,7 @@ fn shared_readers(rt: HostRuntime) -> Result<(), OutOfMemory> {
     assert!(rt; pending.next_deadline() == Some(20));
     assert!(rt; pending.due(20) == Some(first_of(MIDDLE)));
     assert!(rt; used_and_written(&pending) == (Some(1), None));
+    drop(pending);
+    drop(items);
     Ok(())
 }

@@ -37,7 +37,8 @@ fn plan(tables: &CoreTables, tick: Tick, kept: usize) -> Result<JobId, PlanRefus
 // Each refusal is answered where no earlier one holds.
 #[test]
 fn plans(rt: HostRuntime) -> Result<(), OutOfMemory> {
-    let (_, tables) = opened(rt.alloc())?;
+    let (set, tables) = opened(rt.alloc())?;
+    drop(set);
     for (tick, kept, want) in [
         (0, 0, Ok(JOB)),
         (5, 3, Ok(JOB)),
@@ -50,6 +51,7 @@ fn plans(rt: HostRuntime) -> Result<(), OutOfMemory> {
     ] {
         assert!(rt; plan(&tables, tick, kept) == want);
     }
+    drop(tables);
     Ok(())
 }
 
@@ -74,9 +76,11 @@ fn jobs(tables: &CoreTables) -> (usize, Option<Tick>, Option<JobId>, Option<JobI
 
 #[test]
 fn opens(rt: HostRuntime) -> Result<(), OutOfMemory> {
-    let (_, tables) = opened(rt.alloc())?;
+    let (set, tables) = opened(rt.alloc())?;
+    drop(set);
     assert!(rt; state(&tables) == (0, (7, 0), 0));
     assert!(rt; jobs(&tables) == (0, None, None, None));
+    drop(tables);
     Ok(())
 }
 

@@ -145,6 +145,7 @@ fn bystander(rt: HostRuntime) -> Result<(), OutOfMemory> {
     for row in BYSTANDER {
         assert!(rt; holds(&mut waits, row));
     }
+    drop(waits);
     Ok(())
 }
 
@@ -154,6 +155,7 @@ fn two_wait(rt: HostRuntime) -> Result<(), OutOfMemory> {
     for row in TWO_WAIT {
         assert!(rt; holds(&mut waits, row));
     }
+    drop(waits);
     Ok(())
 }
 
@@ -290,6 +292,7 @@ fn beside_a_plain_scan(rt: HostRuntime) -> Result<(), OutOfMemory> {
             assert!(rt; told == want, "call {call}");
         }
     }
+    drop(waits);
     Ok(())
 }
 

@@ -23,6 +23,12 @@ fn add(alloc: Global, names: &mut NameTable, name: &Name) -> Option<()> {
     names.add(alloc, name).ok()
 }
 
+// A word and a place.
+fn numbered(alloc: Global, word: &str, place: usize) -> Option<Name> {
+    let name = format!(in alloc; "{word}{place}").ok()?;
+    Name::new(name.as_bytes())
+}
+
 // The names with further ones, up to so many: the word and the place of each.
 fn padded(alloc: Global, names: &[Name], word: &str, count: usize) -> Option<NameTable> {
     let mut all = NameTable::new(alloc);
@@ -30,10 +36,32 @@ fn padded(alloc: Global, names: &[Name], word: &str, count: usize) -> Option<Nam
         add(alloc, &mut all, name)?;
     }
     for place in names.len()..count {
-        let name = format!(in alloc; "{word}{place}").ok()?;
-        add(alloc, &mut all, &Name::new(name.as_bytes())?)?;
+        add(alloc, &mut all, &numbered(alloc, word, place)?)?;
     }
     Some(all)
+}
+
+// The names that are declared, and further ones.
+fn all_names(alloc: Global, declared: &NameTables) -> Option<NameTables> {
+    let names = declared.names();
+    let items = padded(alloc, names.items.as_slice(), "item", 901)?;
+    let txns = padded(alloc, names.txns.as_slice(), "txn", 10)?;
+    Some(NameTables::of(items, txns))
+}
+
+// The set that declarations are. None where it is refused.
+fn compiled(alloc: Global, head: Head) -> Option<CompiledSet> {
+    let (items, txns) = (head.items.into_vec(), head.txns.into_vec());
+    compile_in_range(alloc, items, txns, head.together.into_vec())?.ok()
+}
+
+// The set and the names of a head.
+fn told_of(alloc: Global, head: Head) -> Option<Told> {
+    let names = all_names(alloc, &head.names);
+    match (names, compiled(alloc, head)) {
+        (Some(names), Some(set)) => Some(Told { names, set }),
+        _ => None,
+    }
 }
 
 /// The set that the head of a report declares. None where it is refused.
@@ -41,23 +69,9 @@ pub fn declared(alloc: Global, text: &str) -> Option<Told> {
     if text.len() >= 1 << 32 {
         return None;
     }
-    let Head {
-        names,
-        items,
-        txns,
-        together,
-        admitted: _,
-        lines: _,
-    } = read_head(alloc, text.as_bytes()).ok()?;
-    let declared = names.names();
-    let names = NameTables::of(
-        padded(alloc, declared.items.as_slice(), "item", 901)?,
-        padded(alloc, declared.txns.as_slice(), "txn", 10)?,
-    );
-    let (items, txns, together) = (items.into_vec(), txns.into_vec(), together.into_vec());
-    match compile_in_range(alloc, items, txns, together) {
-        Some(Ok(set)) => Some(Told { names, set }),
-        _ => None,
+    match read_head(alloc, text.as_bytes()) {
+        Ok(head) => told_of(alloc, head),
+        Err(_) => None,
     }
 }
 

@@ -1,4 +1,4 @@
-use Rattle.std.proofs.Common.{◌<◌, length, map, ap, ◌∙◌, arith}
+use Rattle.std.proofs.Common.{◌<◌, length, map, ap, ◌∙◌, refl, arith}
 use Rattle.std.proofs.lemmas.List.{length-map}
 use Rattle.serde_json.proofs.Views.{view-Array}
 use Rattle.step_script.specs.Scripts.{program_of}
@@ -7,6 +7,18 @@ use Rattle.scenario_writer.specs.Integers.{ProgramHasIntegers}
 use Rattle.scenario_writer.proofs.Loops.{one_more, done, more_hold, all_hold}
 use Rattle.scenario_writer.proofs.Ranges.{reads_at, writes_at, good_at, short_at, within, next_written, none_written}
 use Rattle.scenario_writer.proofs.txns.txn_values.Goals as goal
+
+pub bounds-txn_names-i : goal.bounds-txn_names-i
+bounds-txn_names-i c = omega (arith, c.requires.named, c.loop-i-test.true)
+
+pub bounds-scripts-i : goal.bounds-scripts-i
+bounds-scripts-i c = within _ _ _ _ _ c.requires c.loop-i.i c.loop-i-test.true
+
+pub bounds-releases-i : goal.bounds-releases-i
+bounds-releases-i c = omega (arith, c.requires.released, c.loop-i-test.true)
+
+pub loop-i-init : goal.loop-i-init
+loop-i-init c = rw (c.new-values.ensures.items) (record { same = refl; fits = λ k d lt. absurd (omega arith) })
 
 pub txn-requires-clause-reads : goal.txn-requires-clause-reads
 txn-requires-clause-reads c = reads_at _ _ _ _ _ c.requires c.loop-i.i c.index-decls-i.result c.loop-i-test.true

@@ -1,9 +1,10 @@
-use Rattle.std.proofs.Common.{◌≤◌, rules}
+use Rattle.std.proofs.Common.{◌≤◌, arith}
 use Rattle.txn_threads.proofs.Running.{so_far}
 use Rattle.txn_threads.proofs.run.are_done.Goals as goal
 
 pub loop-i-preserved : goal.loop-i-preserved
 loop-i-preserved g c =
     let m = c.index-members-i.result in
-    let ok : m.jobs ≤ m.ended = search rules in
+    let not = c.if-member.false in
+    let ok : m.jobs ≤ m.ended = omega (arith, not) in
     so_far (λ m. m.jobs ≤ m.ended) c.args.members.now c.loop-i.i m c.loop-i.invariant c.loop-i-test.true c.index-members-i.is ok

@@ -1,8 +1,19 @@
-use Rattle.std.proofs.Common.{◌≡◌, ◌∙◌, true, rules}
+use Rattle.std.proofs.Common.{◌≡◌, ◌∙◌, true, false, rules}
 use Rattle.board.specs.Stories.{now_of}
 use Rattle.shared_plant.proofs.Answering.{busy_of}
-use Rattle.shared_plant.proofs.Laters.{later_missed, later_answered, not_yet_has_none, tried_missed, tried_answered}
+use Rattle.shared_plant.proofs.Laters.{later_refl, later_of, tried_none, later_missed, later_answered, not_yet_has_none, tried_missed, tried_answered}
 use Rattle.shared_plant.proofs.plant.Plant.step.Goals as goal
+
+pub loop-init : goal.loop-init
+loop-init g c = (tt, tt, later_refl _, λ tx e. tried_none _ _ _)
+
+pub try_step-requires : goal.try_step-requires
+try_step-requires g c =
+    let later = c.loop.invariant.2 in let tx = c.requires.tx in
+    record { plant = later_of c.args.self.now _ _ later c.requires.plant; tx = (tx.0, later.tx ∙ tx.1) }
+
+pub returns-then-not-is_not_yet-clause-yet : goal.returns-then-not-is_not_yet-clause-yet
+returns-then-not-is_not_yet-clause-yet g c = let is : c.is_not_yet.result ≡ false = search rules in c.is_not_yet.ensures.no is
 
 pub returns-then-not-is_not_yet-clause-answer : goal.returns-then-not-is_not_yet-clause-answer
 returns-then-not-is_not_yet-clause-answer g c = λ tx e.

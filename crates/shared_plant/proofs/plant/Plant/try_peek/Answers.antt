@@ -1,13 +1,24 @@
-use Rattle.std.proofs.Common.{◌≡◌, ◌≤◌, List, None, Some, length, slice_get, refl, sym, ap, subst, ◌∙◌, arith}
+use Rattle.std.proofs.Common.{◌≡◌, ◌≤◌, ℕ, List, None, Some, length, slice_get, refl, sym, ap, subst, ◌∙◌, arith}
 use Rattle.step_journal.specs.declared.entry.Entry.{Entry}
 use Rattle.step_journal.specs.History.{state_of}
+use Rattle.txn_set.specs.Set.{Set}
 use Rattle.turn_cell.specs.declared.view.View.{View}
 use Rattle.turn_cell.specs.Turn.{released}
-use Rattle.shared_plant.specs.Seats.{PlantFacts}
+use Rattle.shared_plant.specs.Seats.{PlantFacts, SeatFacts}
 use Rattle.shared_plant.specs.Shared.{noting_own}
 use Rattle.shared_plant.proofs.Kept.{kept_noted}
 use Rattle.shared_plant.proofs.Answering.{answered}
 use Rattle.shared_plant.proofs.plant.Plant.try_peek.Goals as goal
+
+pub settle-seat-inside-requires : goal.settle-seat-inside-requires
+settle-seat-inside-requires g c =
+    let said = c.in-Some.ensures in record {
+      cell = said.cell ∙ (ap (λ (f : SeatFacts). f.plant) c.seat.view_is ∙ (c.requires.plant.0 ∙ sym (ap (λ (p : PlantFacts). p.id) c.self.view_is)));
+      turn = ap (λ (v : View Entry). v.holds) said.some.0;
+      story = said.story.1;
+      fixed = (ap (λ (q : Set × ℕ). q.0) said.story.2, ap (λ (q : Set × ℕ). q.1) said.story.2);
+      first = sym said.some.1;
+    }
 
 pub invariant_of-seat-2 : goal.invariant_of-seat-2
 invariant_of-seat-2 g c =

@@ -1,6 +1,7 @@
-use Rattle.std.proofs.Common.{◌≡◌, ◌-◌, List, length, sym, ap, subst, ◌∙◌}
+use Rattle.std.proofs.Common.{◌≡◌, ◌-◌, ℕ, List, length, sym, ap, subst, ◌∙◌}
 use Rattle.rt_base.specs.declared.ids.TxId.{TxId}
 use Rattle.step_journal.specs.declared.entry.Entry.{Entry}
+use Rattle.txn_set.specs.Set.{Set}
 use Rattle.turn_cell.specs.declared.view.View.{View}
 use Rattle.turn_cell.specs.Turn.{released}
 use Rattle.board.specs.Stories.{step_entry, step_answer, now_of}
@@ -9,6 +10,20 @@ use Rattle.shared_plant.specs.Shared.{noting_own}
 use Rattle.shared_plant.proofs.Kept.{kept_noted}
 use Rattle.shared_plant.proofs.Answering.{answered, the_tx}
 use Rattle.shared_plant.proofs.plant.Plant.try_step.Goals as goal
+
+pub settle-seat-inside-requires : goal.settle-seat-inside-requires
+settle-seat-inside-requires g c =
+    let said = c.in-Some-try_take.ensures in
+    let story : List Entry = c.try_take.new.seat.view.seen in
+    let at = ap (λ s. s.board.value) c.value_mut.ensures.value in
+    let next = c.step-reply.ensures.after story (subst (λ b. g.B.Board.stands b story) (sym at) said.story.1) in
+    let fixed = c.step-reply.ensures.fixed in record {
+      cell = said.cell ∙ (ap (λ (f : SeatFacts). f.plant) c.seat.view_is ∙ (c.requires.plant.0 ∙ sym (ap (λ (p : PlantFacts). p.id) c.self.view_is)));
+      turn = ap (λ (v : View Entry). v.holds) said.some.0;
+      story = next.stood;
+      fixed = (fixed.0 ∙ (ap g.B.Board.set at ∙ ap (λ (q : Set × ℕ). q.0) said.story.2), fixed.1 ∙ (ap g.B.Board.room at ∙ ap (λ (q : Set × ℕ). q.1) said.story.2));
+      first = fixed.2 ∙ (ap g.B.Board.first at ∙ sym said.some.1);
+    }
 
 pub invariant_of-seat-2 : goal.invariant_of-seat-2
 invariant_of-seat-2 g c =
