@@ -21,7 +21,10 @@ fn new_core(alloc: Global, set: &CompiledSet, room: usize) -> Option<Core>
 {
     match Core::new(alloc, set.copy(alloc).ok()?, room) {
         Ok(core) => Some(core),
-        Err(_) => None,
+        Err((set, _)) => {
+            drop(set);
+            None
+        }
     }
 }
 
@@ -30,7 +33,10 @@ fn new_plain(alloc: Global, set: &CompiledSet, room: usize) -> Option<PlainCore>
 {
     match PlainCore::new(alloc, set.copy(alloc).ok()?, room) {
         Ok(core) => Some(core),
-        Err(_) => None,
+        Err((set, _)) => {
+            drop(set);
+            None
+        }
     }
 }
 
@@ -40,18 +46,22 @@ pub fn boards_of(alloc: Global, set: &CompiledSet, room: usize) -> Option<Boards
         return None;
     }
     let core = new_core(alloc, set, room)?;
-    let plain = new_plain(alloc, set, room)?;
-    Some(Boards { core, plain })
+    match new_plain(alloc, set, room) {
+        Some(plain) => Some(Boards { core, plain }),
+        None => {
+            drop(core);
+            None
+        }
+    }
 }
 
 // What both answered, once where it is the same.
-fn both(one: String, other: String) -> Option<String> {
-    let mut text = one;
-    if text.as_str() != other.as_str() {
-        text.push_str(", and a plain core: ").ok()?;
-        text.push_str(other.as_str()).ok()?;
+fn both(alloc: Global, one: String, other: String) -> Option<String> {
+    if one.as_str() == other.as_str() {
+        Some(one)
+    } else {
+        format!(in alloc; "{one}, and a plain core: {other}").ok()
     }
-    Some(text)
 }
 
 // What a board says to a call.
@@ -63,6 +73,7 @@ fn said<B: Board>(alloc: Global, board: &mut B, call: Call) -> Option<String> {
 /// What both say to a call.
 pub fn call(alloc: Global, boards: &mut Boards, call: Call) -> Option<String> {
     both(
+        alloc,
         said(alloc, &mut boards.core, call)?,
         said(alloc, &mut boards.plain, call)?,
     )
@@ -79,6 +90,7 @@ fn drained<B: Board>(alloc: Global, board: &mut B, most: usize) -> Option<String
 /// So many entries at most, drained from both.
 pub fn drain(alloc: Global, boards: &mut Boards, most: usize) -> Option<String> {
     both(
+        alloc,
         drained(alloc, &mut boards.core, most)?,
         drained(alloc, &mut boards.plain, most)?,
     )
@@ -86,7 +98,11 @@ pub fn drain(alloc: Global, boards: &mut Boards, most: usize) -> Option<String> 
 
 /// What both show.
 pub fn look_at(alloc: Global, boards: &Boards) -> Option<String> {
-    both(look(alloc, &boards.core)?, look(alloc, &boards.plain)?)
+    both(
+        alloc,
+        look(alloc, &boards.core)?,
+        look(alloc, &boards.plain)?,
+    )
 }
 
 // The items of a board, and how many entries it handed out.
@@ -99,7 +115,8 @@ fn parts<B: Board>(alloc: Global, board: B) -> Option<String> {
 /// The items of both, and how many entries they handed out.
 pub fn take_apart(alloc: Global, boards: Boards) -> Option<String> {
     let Boards { core, plain } = boards;
-    both(parts(alloc, core)?, parts(alloc, plain)?)
+    let (one, other) = (parts(alloc, core), parts(alloc, plain));
+    both(alloc, one?, other?)
 }
 
 /// Whether new boards of the set with this room answer alike, driven from a seed. The kinds of their answers are added.

@@ -6,7 +6,7 @@ use rt_base::{ItemId, JobId, Op, Tick, TxId, Value};
 use std::alloc::Global;
 use std::collections::BTreeSet;
 use step_journal::Entry;
-use test_calls::{Call, look, make};
+use test_calls::{Call, Said, look, make};
 
 // A place in a list of `count`, or 0 where it has none.
 fn place(dice: &mut Pcg32, count: usize) -> usize {
@@ -84,6 +84,14 @@ fn some_call<B: Board>(board: &B, dice: &mut Pcg32) -> Call {
 /// The kinds of answers: what was said, without numbers.
 pub type Kinds = BTreeSet<String>;
 
+// Notes what was said, without its numbers.
+fn note_kind(alloc: Global, said: Said, kinds: &mut Kinds) -> Option<()> {
+    let text = format!(in alloc; "{said:?}").ok()?;
+    let kind = text.chars().filter(|c| !c.is_ascii_digit()).collect(alloc);
+    let _ = kinds.insert(kind.ok()?).ok()?;
+    Some(())
+}
+
 // One call on both boards: whether they answer alike, and are alike then.
 fn turn<A: Board, B: Board>(
     alloc: Global,
@@ -95,9 +103,7 @@ fn turn<A: Board, B: Board>(
     let call = some_call(a, dice);
     let said = make(a, call);
     let same = make(b, call) == said;
-    let text = format!(in alloc; "{said:?}").ok()?;
-    let kind = text.chars().filter(|c| !c.is_ascii_digit()).collect(alloc);
-    let _ = kinds.insert(kind.ok()?).ok()?;
+    note_kind(alloc, said, kinds)?;
     Some(same && are_alike(alloc, a, b)?)
 }
 
@@ -107,8 +113,8 @@ fn are_alike<A: Board, B: Board>(alloc: Global, a: &A, b: &B) -> Option<bool> {
     Some(a.entries() == b.entries() && one.as_str() == other.as_str())
 }
 
-// Both boards hand the same entries out.
-fn drain_alike<A: Board, B: Board>(
+// Whether both boards hand the same entries out.
+fn drain_same<A: Board, B: Board>(
     alloc: Global,
     a: &mut A,
     b: &mut B,
@@ -117,7 +123,30 @@ fn drain_alike<A: Board, B: Board>(
     let mut one = Vec::with_capacity(alloc, 16).ok()?;
     let mut other: Vec<Entry> = Vec::with_capacity(alloc, 16).ok()?;
     let same = a.drain(most, &mut one) == b.drain(most, &mut other);
-    Some(same && one.as_slice() == other.as_slice() && are_alike(alloc, a, b)?)
+    Some(same && one.as_slice() == other.as_slice())
+}
+
+// Whether both boards hand the same entries out, and are alike then.
+fn drain_alike<A: Board, B: Board>(
+    alloc: Global,
+    a: &mut A,
+    b: &mut B,
+    most: usize,
+) -> Option<bool> {
+    Some(drain_same(alloc, a, b, most)? && are_alike(alloc, a, b)?)
+}
+
+// Now and then both boards hand out entries: whether they were the same.
+fn sometimes_drain<A: Board, B: Board>(
+    alloc: Global,
+    a: &mut A,
+    b: &mut B,
+    dice: &mut Pcg32,
+) -> Option<bool> {
+    if dice.random_range(0..12u64) != 0 {
+        return Some(true);
+    }
+    drain_alike(alloc, a, b, dice.random_range(0..16usize))
 }
 
 // So many turns of both boards at most. How many were alike.
@@ -130,17 +159,18 @@ fn turns<A: Board, B: Board>(
 ) -> Option<u32> {
     let mut dice = Pcg32::new(seed, 1);
     for i in 0..3000 {
-        if dice.random_range(0..12u64) == 0 {
-            let most = dice.random_range(0..16usize);
-            if !drain_alike(alloc, a, b, most)? {
-                return Some(i);
-            }
-        }
-        if !turn(alloc, a, b, &mut dice, kinds)? {
+        if !sometimes_drain(alloc, a, b, &mut dice)? || !turn(alloc, a, b, &mut dice, kinds)? {
             return Some(i);
         }
     }
     Some(3000)
+}
+
+// Whether two boards come to the same items and hand out the same entries.
+fn end_alike<A: Board, B: Board>(a: A, b: B) -> bool {
+    let (items, entries) = a.into_parts();
+    let (other_items, other_entries) = b.into_parts();
+    items.as_slice() == other_items.as_slice() && entries.as_slice() == other_entries.as_slice()
 }
 
 /// Drives two boards up to 3,000 turns, and takes them apart: how many turns were alike, and whether they came to the same
@@ -153,9 +183,6 @@ pub fn compared<A: Board + Drop, B: Board + Drop>(
     kinds: &mut Kinds,
 ) -> Option<String> {
     let count = turns(alloc, &mut a, &mut b, seed, kinds)?;
-    let (items, entries) = a.into_parts();
-    let (other_items, other_entries) = b.into_parts();
-    let same = items.as_slice() == other_items.as_slice()
-        && entries.as_slice() == other_entries.as_slice();
+    let same = end_alike(a, b);
     format!(in alloc; "{count} turns alike, the parts {same}").ok()
 }

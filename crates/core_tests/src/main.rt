@@ -13,6 +13,15 @@ use scene::{Scene, follow};
 use std::alloc::Global;
 use std::io;
 
+// Prints what comes of a line.
+fn follow_line(rt: &HostRuntime, alloc: Global, scene: &mut Scene, line: &str) -> io::Result<()> {
+    match follow(alloc, scene, line) {
+        Some(said) if said.is_empty() => Ok(()),
+        Some(said) => println!(rt; "{line}: {said}"),
+        None => println!(rt; "{line}: not read"),
+    }
+}
+
 // Prints what comes of each line of standard input.
 fn follow_lines(rt: &HostRuntime, alloc: Global, scene: &mut Scene) -> io::Result<()> {
     for line in rt.lines(alloc) {
@@ -21,11 +30,7 @@ fn follow_lines(rt: &HostRuntime, alloc: Global, scene: &mut Scene) -> io::Resul
         if line.is_empty() || line.starts_with('#') {
             continue;
         }
-        match follow(alloc, scene, line) {
-            Some(said) if said.is_empty() => {}
-            Some(said) => println!(rt; "{line}: {said}")?,
-            None => println!(rt; "{line}: not read")?,
-        }
+        follow_line(rt, alloc, scene, line)?;
     }
     Ok(())
 }
@@ -33,5 +38,7 @@ fn follow_lines(rt: &HostRuntime, alloc: Global, scene: &mut Scene) -> io::Resul
 fn main(rt: HostRuntime) -> io::Result<()> {
     let alloc = rt.alloc();
     let mut scene = Scene::new(alloc);
-    follow_lines(&rt, alloc, &mut scene)
+    let followed = follow_lines(&rt, alloc, &mut scene);
+    drop(scene);
+    followed
 }

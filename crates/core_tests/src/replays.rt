@@ -27,12 +27,16 @@ fn are_told(set: &CompiledSet, entries: &[Entry], rows: &[JobRow]) -> bool
     true
 }
 
+fn push_row(alloc: Global, text: &mut String, row: &JobRow) -> Option<()> {
+    let line = format!(in alloc; "\n    {row:?}").ok()?;
+    text.push_str(line.as_str()).ok()
+}
+
 // The items and the rows of the jobs, and whether the entries alone tell the delays.
 fn rows_text(alloc: Global, told: bool, items: &[Stored], rows: &[JobRow]) -> Option<String> {
     let mut text = format!(in alloc; "delays told {told}, {items:?}").ok()?;
     for row in rows {
-        let more = format!(in alloc; "\n    {row:?}").ok()?;
-        text.push_str(more.as_str()).ok()?;
+        push_row(alloc, &mut text, row)?;
     }
     Some(text)
 }
@@ -46,7 +50,9 @@ pub fn replayed(alloc: Global, set: &CompiledSet, entries: &[Entry]) -> Option<S
     match replay(alloc, set, entries) {
         Ok(result) => {
             let told = are_told(set, entries, result.jobs.as_slice());
-            rows_text(alloc, told, result.items.as_slice(), result.jobs.as_slice())
+            let text = rows_text(alloc, told, result.items.as_slice(), result.jobs.as_slice());
+            drop(result);
+            text
         }
         Err(error) => refusal_text(alloc, error),
     }

@@ -7,6 +7,7 @@ use rt_base::TxId;
 use std::alloc::Global;
 use test_calls::{Call, call_of};
 use test_sets::{Told, declared, entry_of, generated};
+use txn_set::CompiledSet;
 
 /// The declarations so far, the set of the last ones that were whole, its boards, a history of it, whether the lines of entries
 /// tell that history, and the kinds of answers of boards that were compared.
@@ -41,7 +42,8 @@ fn declare(alloc: Global, scene: &mut Scene, word: &str, line: &str) -> Option<S
     scene.head.push_str(line).ok()?;
     scene.head.push_str("\n").ok()?;
     if word == "mode" {
-        scene.told = Some(declared(alloc, scene.head.as_str())?);
+        let told = declared(alloc, scene.head.as_str())?;
+        drop(scene.told.replace(told));
     }
     Some(String::new(alloc))
 }
@@ -58,21 +60,35 @@ fn take_entry(alloc: Global, scene: &mut Scene, line: &str) -> Option<String> {
 
 // New boards of this room. The lines of entries are calls on them.
 fn new_boards(alloc: Global, scene: &mut Scene, room: usize) -> Option<String> {
-    scene.boards = Some(boards_of(alloc, &scene.told.as_ref()?.set, room)?);
+    let boards = boards_of(alloc, &scene.told.as_ref()?.set, room)?;
+    drop(scene.boards.replace(boards));
     scene.tells = false;
     Some(String::new(alloc))
+}
+
+fn number(word: &str) -> Option<usize> {
+    word.parse::<usize>().ok()
+}
+
+// The next job of a transaction is planned on the boards.
+fn plan_next(alloc: Global, scene: &mut Scene, word: &str) -> Option<String> {
+    let tx = TxId(word.parse::<u32>().ok()?);
+    call(alloc, scene.boards.as_mut()?, Call::PlanNext(tx))
+}
+
+// So many entries at most, drained from the boards.
+fn drain_boards(alloc: Global, scene: &mut Scene, word: &str) -> Option<String> {
+    let most = number(word)?;
+    drain(alloc, scene.boards.as_mut()?, most)
 }
 
 // A line on the boards.
 fn on_boards(alloc: Global, scene: &mut Scene, word: &str, rest: &str) -> Option<String> {
     match word {
-        "boards" => new_boards(alloc, scene, rest.parse::<usize>().ok()?),
-        "next" => {
-            let tx = TxId(rest.parse::<u32>().ok()?);
-            call(alloc, scene.boards.as_mut()?, Call::PlanNext(tx))
-        }
+        "boards" => new_boards(alloc, scene, number(rest)?),
+        "next" => plan_next(alloc, scene, rest),
         "look" => look_at(alloc, scene.boards.as_ref()?),
-        "drain" => drain(alloc, scene.boards.as_mut()?, rest.parse::<usize>().ok()?),
+        "drain" => drain_boards(alloc, scene, rest),
         "parts" => take_apart(alloc, scene.boards.take()?),
         _ => None,
     }
@@ -84,8 +100,8 @@ fn on_history(alloc: Global, scene: &mut Scene, word: &str, rest: &str) -> Optio
     match word {
         "history" => scene.history.begin(),
         "keep" => scene.history.keep(alloc)?,
-        "front" => scene.history.front(alloc, rest.parse::<usize>().ok()?)?,
-        "from" => scene.history.go_on(alloc, rest.parse::<usize>().ok()?)?,
+        "front" => scene.history.front(alloc, number(rest)?)?,
+        "from" => scene.history.go_on(alloc, number(rest)?)?,
         _ => return None,
     }
     Some(String::new(alloc))
@@ -94,7 +110,7 @@ fn on_history(alloc: Global, scene: &mut Scene, word: &str, rest: &str) -> Optio
 // A room and a seed.
 fn room_and_seed(words: &str) -> Option<(usize, u64)> {
     let (room, seed) = words.split_once(' ')?;
-    Some((room.parse::<usize>().ok()?, seed.parse::<u64>().ok()?))
+    Some((number(room)?, seed.parse::<u64>().ok()?))
 }
 
 // Boards of the set that was declared, compared.
@@ -104,21 +120,48 @@ fn compare_declared(alloc: Global, scene: &mut Scene, words: &str) -> Option<Str
     compare(alloc, &told.set, room, seed, &mut scene.kinds)
 }
 
+fn generated_set(alloc: Global, n: &str) -> Option<CompiledSet> {
+    generated(alloc, n.parse::<u32>().ok()?).ok()?
+}
+
 // Boards of the generated set of so many transactions, compared.
 fn compare_generated(alloc: Global, scene: &mut Scene, words: &str) -> Option<String> {
     let (n, words) = words.split_once(' ')?;
     let (room, seed) = room_and_seed(words)?;
-    let set = generated(alloc, n.parse::<u32>().ok()?).ok()??;
-    compare(alloc, &set, room, seed, &mut scene.kinds)
+    let set = generated_set(alloc, n)?;
+    let said = compare(alloc, &set, room, seed, &mut scene.kinds);
+    drop(set);
+    said
+}
+
+fn push_line(text: &mut String, line: &str) -> Option<()> {
+    text.push_str("\n    ").ok()?;
+    text.push_str(line).ok()
 }
 
 fn kinds_of(alloc: Global, kinds: &Kinds) -> Option<String> {
     let mut text = String::new(alloc);
     for kind in kinds.iter() {
-        text.push_str("\n    ").ok()?;
-        text.push_str(kind.as_str()).ok()?;
+        push_line(&mut text, kind.as_str())?;
     }
     Some(text)
+}
+
+// The history replayed, as far as it is told.
+fn replay_history(alloc: Global, scene: &Scene) -> Option<String> {
+    let told = scene.told.as_ref()?;
+    replayed(alloc, &told.set, scene.history.entries())
+}
+
+// A line on a whole history, on boards driven from a seed, or on the kinds of their answers.
+fn on_wholes(alloc: Global, scene: &mut Scene, word: &str, rest: &str) -> Option<String> {
+    match word {
+        "replay" => replay_history(alloc, scene),
+        "compare" => compare_declared(alloc, scene, rest),
+        "generated" => compare_generated(alloc, scene, rest),
+        "kinds" => kinds_of(alloc, &scene.kinds),
+        _ => None,
+    }
 }
 
 /// Does what a line says. Some tells what is to be printed, if anything; None where the line is none, or memory ran out.
@@ -129,13 +172,6 @@ pub fn follow(alloc: Global, scene: &mut Scene, line: &str) -> Option<String> {
         "plan" | "step" | "block" | "idle" => take_entry(alloc, scene, line),
         "boards" | "next" | "look" | "drain" | "parts" => on_boards(alloc, scene, word, rest),
         "history" | "keep" | "front" | "from" => on_history(alloc, scene, word, rest),
-        "replay" => {
-            let told = scene.told.as_ref()?;
-            replayed(alloc, &told.set, scene.history.entries())
-        }
-        "compare" => compare_declared(alloc, scene, rest),
-        "generated" => compare_generated(alloc, scene, rest),
-        "kinds" => kinds_of(alloc, &scene.kinds),
-        _ => None,
+        _ => on_wholes(alloc, scene, word, rest),
     }
 }

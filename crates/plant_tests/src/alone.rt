@@ -5,7 +5,7 @@ ghost use Rattle.counting_laws.specs.Counting.{room_of_jobs};
 ghost use Rattle.sim_run.specs.Workloads.{AreAccepted, ticks_of};
 ghost use Rattle.sim_run.specs.Steady.{steady_set as set_of_two};
 
-use crate::steady::{Steady, are_accepted, new_board, ticks};
+use crate::steady::{Steady, new_board, releases};
 use board::{Board, IdleReply};
 use entry_out::{KeptEntries, Stopped};
 use plain_core::PlainCore;
@@ -36,34 +36,28 @@ fn run_steady(
     run(board, bodies, &mut serials, releases, spare, out)
 }
 
-// The entries that a run hands on. None where the releases are not spaced.
+// The entries that a run hands on. None where it stopped.
 fn handed_on(
     alloc: Global,
     bodies: &mut [Steady],
-    fast: List<Tick>,
-    slow: List<Tick>,
+    releases: &[List<Tick>],
 ) -> Result<Option<KeptEntries>, OutOfMemory>
-    requires { length bodies.old ≡ 2 }
+    requires two { length bodies.old ≡ 2 }
+    requires accepted { AreAccepted set_of_two releases.now }
+    requires short { room_of_jobs set_of_two.txns (λ tx. length (ticks_of releases.now tx)) ≤ 20000 }
 {
-    if !are_accepted(fast.as_slice(), slow.as_slice()) {
-        return Ok(None);
-    }
-    let mut board = new_board(alloc, 1100)?;
-    let mut spare = Vec::new(alloc);
-    spare.reserve(1100)?;
+    let mut spare = Vec::with_capacity(alloc, 1100)?;
     let mut out = KeptEntries::with_room(alloc, 20000)?;
-    let mut releases = Vec::new(alloc);
-    releases.push(fast)?;
-    releases.push(slow)?;
-    match run_steady(
-        &mut board,
-        bodies,
-        releases.as_slice(),
-        &mut spare,
-        &mut out,
-    ) {
+    let mut board = new_board(alloc, 1100)?;
+    let ran = run_steady(&mut board, bodies, releases, &mut spare, &mut out);
+    drop(board);
+    drop(spare);
+    match ran {
         Ok(()) => Ok(Some(out)),
-        Err(Stopped) => Ok(None),
+        Err(Stopped) => {
+            drop(out);
+            Ok(None)
+        }
     }
 }
 
@@ -90,25 +84,54 @@ fn goes_on<B: Board>(board: &mut B, bodies: &[Steady]) -> bool {
     }
 }
 
-// A board with room for all, after the same calls.
-fn kept_whole(
+// Plans the releases of all transactions.
+fn plan_all<B: Board>(board: &mut B, releases: &[List<Tick>]) {
+    let mut tx: u32 = 0;
+    for ticks in releases {
+        plan_ticks(board, TxId(tx), ticks.as_slice());
+        tx = tx.saturating_add(1);
+    }
+}
+
+// Whether a board with room for all keeps these entries after the same calls.
+fn keeps_same(
     alloc: Global,
     bodies: &[Steady],
-    fast: &[Tick],
-    slow: &[Tick],
-) -> Result<PlainCore, OutOfMemory> {
+    releases: &[List<Tick>],
+    entries: &[Entry],
+) -> Result<bool, OutOfMemory> {
     let mut board = new_board(alloc, 20000)?;
-    plan_ticks(&mut board, TxId(0), fast);
-    plan_ticks(&mut board, TxId(1), slow);
+    plan_all(&mut board, releases);
     for _ in 0..20000 {
         if !goes_on(&mut board, bodies) {
-            return Ok(board);
+            break;
         }
     }
-    Ok(board)
+    let same = board.entries() == entries;
+    drop(board);
+    Ok(same)
 }
 
 // How many entries are handed on, where they are those that a board with room for all keeps.
+fn count_of_same(
+    alloc: Global,
+    bodies: &mut [Steady],
+    releases: &[List<Tick>],
+) -> Result<Option<usize>, OutOfMemory>
+    requires two { length bodies.old ≡ 2 }
+    requires accepted { AreAccepted set_of_two releases.now }
+    requires short { room_of_jobs set_of_two.txns (λ tx. length (ticks_of releases.now tx)) ≤ 20000 }
+{
+    let Some(out) = handed_on(alloc, bodies, releases)? else {
+        return Ok(None);
+    };
+    let count = out.as_slice().len();
+    let same = keeps_same(alloc, bodies, releases, out.as_slice());
+    drop(out);
+    if same? { Ok(Some(count)) } else { Ok(None) }
+}
+
+// The same of so many jobs of the fast transaction and of the slow one.
 fn same_entries(
     alloc: Global,
     computes: (bool, bool),
@@ -123,22 +146,12 @@ fn same_entries(
             computes: computes.1,
         },
     ];
-    let whole = kept_whole(
-        alloc,
-        &bodies,
-        ticks(alloc, 4, fast)?.as_slice(),
-        ticks(alloc, 8, slow)?.as_slice(),
-    )?;
-    let handed = handed_on(
-        alloc,
-        &mut bodies,
-        ticks(alloc, 4, fast)?,
-        ticks(alloc, 8, slow)?,
-    )?;
-    match handed {
-        Some(out) if out.as_slice() == whole.entries() => Ok(Some(whole.entries().len())),
-        _ => Ok(None),
-    }
+    let Some(releases) = releases(alloc, fast, slow)? else {
+        return Ok(None);
+    };
+    let same = count_of_same(alloc, &mut bodies, releases.as_slice());
+    drop(releases);
+    same
 }
 
 #[test]

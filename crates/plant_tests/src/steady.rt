@@ -1,9 +1,9 @@
 //! Two transactions that read and write nothing, with bodies that always compute or always quit.
-ghost use Rattle.std.specs.Prelude.{◌≡◌, ◌≤◌, ◌^◌, ◌∷◌, [], length, true, IfOk};
+ghost use Rattle.std.specs.Prelude.{◌≡◌, ◌≤◌, ◌^◌, ◌∷◌, [], length, true, IfOk, IfSome};
 ghost use Rattle.plain_core.specs.Stands.{Stands};
 ghost use Rattle.counting_laws.specs.Counting.{room_of_jobs};
 ghost use Rattle.sim_run.specs.Workloads.{AreSpaced, AreAccepted, ticks_of};
-ghost use Rattle.sim_run.specs.Steady.{steady_txn as steady_of, steady_set as set_of_two};
+ghost use Rattle.sim_run.specs.Steady.{steady_txn as steady_of, steady_txns, steady_set as set_of_two};
 
 use plain_core::PlainCore;
 use rt_base::{List, Op, OutOfMemory, Outcome, Prio, Tick};
@@ -51,16 +51,20 @@ fn steady_txn(alloc: Global, prio: Prio, period: Tick) -> TxnDecl
     }
 }
 
+fn set_of(alloc: Global, txns: Vec<TxnDecl>) -> CompiledSet
+    requires { txns.items ≡ steady_txns }
+    ensures { result ≡ set_of_two }
+{
+    CompiledSet::of(Vec::new(alloc), txns, Vec::new(alloc), Vec::new(alloc))
+}
+
 fn steady_set(alloc: Global) -> Result<CompiledSet, OutOfMemory>
     ensures { IfOk result (λ s. s ≡ set_of_two) }
 {
-    let mut txns = Vec::new(alloc);
-    txns.push(steady_txn(alloc, 2, 4))?;
-    txns.push(steady_txn(alloc, 1, 8))?;
-    let items = Vec::new(alloc);
-    let together = Vec::new(alloc);
-    let ceilings = Vec::new(alloc);
-    Ok(CompiledSet::of(items, txns, together, ceilings))
+    let mut txns = Vec::with_capacity(alloc, 2)?;
+    txns.push_reserved(steady_txn(alloc, 2, 4));
+    txns.push_reserved(steady_txn(alloc, 1, 8));
+    Ok(set_of(alloc, txns))
 }
 
 /// A board of two transactions, whose history is empty.
@@ -73,12 +77,15 @@ pub fn new_board(alloc: Global, room: usize) -> Result<PlainCore, OutOfMemory>
     let set = steady_set(alloc)?;
     match PlainCore::new(alloc, set, room) {
         Ok(core) => Ok(core),
-        Err((_, error)) => Err(error),
+        Err((set, error)) => {
+            drop(set);
+            Err(error)
+        }
     }
 }
 
-/// So many ticks, each a period after the one before.
-pub fn ticks(alloc: Global, period: Tick, jobs: usize) -> Result<List<Tick>, OutOfMemory> {
+// So many ticks, each a period after the one before.
+fn ticks(alloc: Global, period: Tick, jobs: usize) -> Result<List<Tick>, OutOfMemory> {
     let mut ticks = Vec::new(alloc);
     let mut tick: Tick = 0;
     for _ in 0..jobs {
@@ -105,8 +112,8 @@ fn are_spaced(period: Tick, ticks: &[Tick]) -> bool
     true
 }
 
-/// Whether a run of these releases may be planned, and is short.
-pub fn are_accepted(fast: &[Tick], slow: &[Tick]) -> bool
+// Whether a run of these releases may be planned, and is short.
+fn are_accepted(fast: &[Tick], slow: &[Tick]) -> bool
     ensures accepted { result ≡ true → AreAccepted set_of_two (fast.now ∷ slow.now ∷ []) }
     ensures short { result ≡ true → room_of_jobs set_of_two.txns (λ tx. length (ticks_of (fast.now ∷ slow.now ∷ []) tx)) ≤ 20000 }
 {
@@ -120,4 +127,36 @@ pub fn are_accepted(fast: &[Tick], slow: &[Tick]) -> bool
         return false;
     }
     are_spaced(8, slow)
+}
+
+// A list of both.
+fn both(alloc: Global, fast: List<Tick>, slow: List<Tick>) -> Result<Vec<List<Tick>>, OutOfMemory>
+    ensures { IfOk result (λ v. v.items ≡ fast ∷ slow ∷ []) }
+{
+    let mut both = Vec::with_capacity(alloc, 2)?;
+    both.push_reserved(fast);
+    both.push_reserved(slow);
+    Ok(both)
+}
+
+/// The releases of so many jobs of the fast transaction and of the slow one. None where they are not spaced, or the run is
+/// long.
+pub fn releases(
+    alloc: Global,
+    fast: usize,
+    slow: usize,
+) -> Result<Option<Vec<List<Tick>>>, OutOfMemory>
+    ensures accepted { IfOk result (λ r. IfSome r (λ v. AreAccepted set_of_two v.items)) }
+    ensures short { IfOk result (λ r. IfSome r (λ v. room_of_jobs set_of_two.txns (λ tx. length (ticks_of v.items tx)) ≤ 20000)) }
+{
+    let fast = ticks(alloc, 4, fast)?;
+    let slow = ticks(alloc, 8, slow)?;
+    let accepted = are_accepted(fast.as_slice(), slow.as_slice());
+    let both = both(alloc, fast, slow)?;
+    if accepted {
+        Ok(Some(both))
+    } else {
+        drop(both);
+        Ok(None)
+    }
 }

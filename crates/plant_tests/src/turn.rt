@@ -1,10 +1,11 @@
 //! A diary behind a turn, by one thread and by two.
 ghost use Rattle.std.specs.Prelude.{◌≡◌, ℕ, List, ◌+◌, ◌<◌, ◌^◌, ◌++◌, ◌∷◌, [], true, false, length, drop, vec_len, vec_capacity, ◌≤◌, IfOk};
+ghost use Rattle.turn_cell.specs.Turn.{counted};
 
 use std::alloc::{AllocError, Global};
 use std::test::Fail;
 use std::thread::{Threads, join};
-use turn_cell::{Past, Storied, TurnCell, TurnSeat};
+use turn_cell::{Past, Storied, Taken, TurnCell, TurnSeat};
 
 /// Some notes, of which the oldest may be gone.
 #[derive(Drop)]
@@ -68,20 +69,46 @@ impl Past<u8> for NoNote {
     ghost past = { [] };
 }
 
+// Writes a note where there is room, and gives the turn back; whether there was room.
+fn write(cell: &TurnCell<Diary>, seat: &mut Writer, taken: Taken<Diary>, note: u8) -> bool
+    requires cell { seat.old.cell ≡ cell.now.id }
+    requires turn { seat.old.view.holds ≡ true }
+    requires story { (length seat.old.view.seen ≡ taken.value.gone + length taken.value.kept.items) × (drop taken.value.gone seat.old.view.seen ≡ taken.value.kept.items) }
+    requires first { taken.value.gone ≡ counted seat.old.view }
+    ensures cell { (seat.new.cell ≡ seat.old.cell) × (seat.new.view.holds ≡ false) }
+{
+    let mut taken = taken;
+    if taken.value_mut().add(note) {
+        cell.note(seat, &mut taken, note);
+        cell.give(seat, taken);
+        true
+    } else {
+        cell.give(seat, taken);
+        false
+    }
+}
+
 /// None where the turn was taken, and else whether there was room.
 fn try_write(cell: &TurnCell<Diary>, seat: &mut Writer, note: u8) -> Option<bool>
     requires cell { seat.old.cell ≡ cell.now.id }
     requires idle { seat.old.view.holds ≡ false }
     ensures cell { (seat.new.cell ≡ seat.old.cell) × (seat.new.view.holds ≡ false) }
 {
-    let mut taken = cell.try_take(seat)?;
-    if taken.value_mut().add(note) {
-        cell.note(seat, &mut taken, note);
-        cell.give(seat, taken);
-        Some(true)
-    } else {
-        cell.give(seat, taken);
-        Some(false)
+    let taken = cell.try_take(seat)?;
+    Some(write(cell, seat, taken, note))
+}
+
+// How often a seat misses the turn, which it gives back at once.
+fn missed(cell: &TurnCell<Diary>, seat: &mut Writer) -> u64
+    requires { (seat.old.cell ≡ cell.now.id) × (seat.old.view.holds ≡ false) }
+    ensures { (seat.new.cell ≡ seat.old.cell) × (seat.new.view.holds ≡ false) × (seat.new.view.marked ≡ seat.old.view.marked) }
+{
+    match cell.try_take(seat) {
+        Some(taken) => {
+            cell.give(seat, taken);
+            0
+        }
+        None => 1,
     }
 }
 
@@ -94,20 +121,11 @@ fn noted(cell: &TurnCell<Diary>, marked: &mut Writer, other: &mut Writer) -> Opt
     ensures other { (other.new.cell ≡ other.old.cell) × (other.new.view.holds ≡ false) }
 {
     let before = cell.look(other);
-    let mut taken = cell.try_take(other)?;
-    let missed = match cell.try_take(marked) {
-        Some(taken) => {
-            cell.give(marked, taken);
-            0
-        }
-        None => 1,
-    };
-    if !taken.value_mut().add(7) {
-        cell.give(other, taken);
+    let taken = cell.try_take(other)?;
+    let missed = missed(cell, marked);
+    if !write(cell, other, taken, 7) {
         return None;
     }
-    cell.note(other, &mut taken, 7);
-    cell.give(other, taken);
     Some((before, missed, cell.look(marked)))
 }
 
@@ -137,28 +155,59 @@ fn closed(
 {
     seats.push_reserved(marked);
     let (cell, mut seats, refused) = match cell.close(seats) {
-        Ok(_) => return None,
+        Ok(diary) => {
+            drop(other);
+            drop(diary);
+            return None;
+        }
         Err((cell, seats)) => (cell, seats, 1),
     };
     seats.push_reserved(other);
     match cell.close(seats) {
         Ok(diary) => Some((refused, diary)),
-        Err(_) => None,
+        Err((cell, seats)) => {
+            drop(cell);
+            drop(seats);
+            None
+        }
     }
+}
+
+// What the steps of both seats answer while the cell is open.
+fn asked(
+    cell: &TurnCell<Diary>,
+    marked: &mut Writer,
+    other: &mut Writer,
+) -> Option<((u64, u64, u64), (u64, u64))>
+    requires marked { (marked.old.cell ≡ cell.now.id) × (marked.old.view.holds ≡ false) × (marked.old.view.marked ≡ true) }
+    requires other { (other.old.cell ≡ cell.now.id) × (other.old.view.holds ≡ false) }
+    ensures marked { (marked.new.cell ≡ marked.old.cell) × (marked.new.view.holds ≡ false) }
+    ensures other { (other.new.cell ≡ other.old.cell) × (other.new.view.holds ≡ false) }
+{
+    let written = noted(cell, marked, other)?;
+    let drained = drained(cell, marked)?;
+    Some((written, drained))
 }
 
 /// One thread with both seats of a cell: what each step answered, and the diary.
 fn visited<P: Past<u8>>(alloc: Global, diary: Diary) -> Option<([u64; 6], Diary)>
     requires { (length P.past ≡ diary.gone + length diary.kept.items) × (drop diary.gone P.past ≡ diary.kept.items) }
 {
-    let Ok((cell, mut seats)) = TurnCell::new::<P>(alloc, diary, 2) else {
-        return None;
+    let (cell, mut seats) = match TurnCell::new::<P>(alloc, diary, 2) {
+        Ok(made) => made,
+        Err((diary, _)) => {
+            drop(diary);
+            return None;
+        }
     };
     let mut marked = seats.pop().unwrap();
     let mut other = seats.pop().unwrap();
-    let (before, missed, after) = noted(&cell, &mut marked, &mut other)?;
-    let (kept, gone) = drained(&cell, &mut marked)?;
+    let answers = asked(&cell, &mut marked, &mut other);
     let (refused, diary) = closed(cell, seats, marked, other)?;
+    let Some(((before, missed, after), (kept, gone))) = answers else {
+        drop(diary);
+        return None;
+    };
     Some(([before, missed, after, kept, gone, refused], diary))
 }
 
@@ -170,8 +219,12 @@ fn written<P: Past<u8>, R: Threads>(
 ) -> Option<(Diary, Option<bool>, Option<bool>)>
     requires { (length P.past ≡ diary.gone + length diary.kept.items) × (drop diary.gone P.past ≡ diary.kept.items) }
 {
-    let Ok((cell, mut seats)) = TurnCell::new::<P>(alloc, diary, 2) else {
-        return None;
+    let (cell, mut seats) = match TurnCell::new::<P>(alloc, diary, 2) {
+        Ok(made) => made,
+        Err((diary, _)) => {
+            drop(diary);
+            return None;
+        }
     };
     let one = seats.pop().unwrap();
     let two = seats.pop().unwrap();
@@ -190,7 +243,11 @@ fn written<P: Past<u8>, R: Threads>(
     seats.push_reserved(two);
     match cell.close(seats) {
         Ok(diary) => Some((diary, a, b)),
-        Err(_) => None,
+        Err((cell, seats)) => {
+            drop(cell);
+            drop(seats);
+            None
+        }
     }
 }
 
@@ -211,14 +268,21 @@ fn new_diary(alloc: Global) -> Result<Diary, AllocError>
     })
 }
 
+// How many notes are gone, and how many are kept.
+fn counts(diary: Diary) -> (u64, usize) {
+    let Diary { gone, kept } = diary;
+    let len = kept.len();
+    drop(kept);
+    (gone, len)
+}
+
 /// The turn is one seat's at a time, a note is counted and drained, and fewer seats than there are do not close a cell.
 #[test]
 fn one_thread_with_two_seats(rt: HostRuntime) -> Result<(), Fail> {
     let diary = new_diary(rt.alloc())?;
     let (answers, left) = visited::<NoNote>(rt.alloc(), diary).expect(&rt, "memory and turns");
     assert_eq!(rt; answers, [0, 1, 1, 1, 1, 1]);
-    assert_eq!(rt; left.gone, 1);
-    assert_eq!(rt; left.kept.len(), 0);
+    assert_eq!(rt; counts(left), (1, 0));
     Ok(())
 }
 
@@ -228,6 +292,7 @@ fn two_threads_write(rt: HostRuntime) -> Result<(), Fail> {
     let diary = new_diary(rt.alloc())?;
     let (left, a, b) = written::<NoNote, HostRuntime>(&rt, rt.alloc(), diary).expect(&rt, "memory");
     let wrote = usize::from(a == Some(true)) + usize::from(b == Some(true));
-    assert!(rt; wrote >= 1 && left.kept.len() == wrote);
+    let (_, kept) = counts(left);
+    assert!(rt; wrote >= 1 && kept == wrote);
     Ok(())
 }

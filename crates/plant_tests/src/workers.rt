@@ -1,13 +1,15 @@
 //! Runs by one, two and three workers, against the run on one board; an eager transaction; an out that stops; a set
 //! without transactions.
-ghost use Rattle.std.specs.Prelude.{◌≡◌, ℕ, ◌<◌, ◌≤◌, [], length, vec_capacity, IfOk, IfSome};
+ghost use Rattle.std.specs.Prelude.{◌≡◌, ℕ, ◌<◌, ◌≤◌, [], length, vec_capacity, IfOk};
 ghost use Rattle.sim_run.specs.Workloads.{workload, ticks_of, AreAccepted};
 ghost use Rattle.eager_laws.specs.Plannable.{ArePlannable};
+ghost use Rattle.plant_run.specs.Ready.{CanRun};
 ghost use Rattle.plant_run.specs.Runs.{own_at};
 ghost use Rattle.plant_run.specs.EagerSlow.{fast_releases};
-ghost use Rattle.sim_run.specs.Steady.{steady_set as set_of_two};
+ghost use Rattle.plain_core.specs.Stands.{Stands};
+ghost use Rattle.sim_run.specs.Steady.{steady_op, steady_set as set_of_two};
 
-use crate::steady::{Steady, are_accepted, new_board, ticks};
+use crate::steady::{Steady, new_board, releases};
 use board::Board;
 use entry_out::{EntryOut, Stopped};
 use plain_core::PlainCore;
@@ -72,21 +74,6 @@ fn few(alloc: Global, most: usize) -> Result<FewEntries, OutOfMemory> {
     })
 }
 
-// The releases of the fast transaction and of the slow one. None where they are not spaced.
-fn releases(alloc: Global, fast: usize, slow: usize) -> Result<Option<Vec<List<Tick>>>, OutOfMemory>
-    ensures { IfOk result (λ r. IfSome r (λ v. AreAccepted set_of_two v.items)) }
-{
-    let fast = ticks(alloc, 4, fast)?;
-    let slow = ticks(alloc, 8, slow)?;
-    if !are_accepted(fast.as_slice(), slow.as_slice()) {
-        return Ok(None);
-    }
-    let mut releases = Vec::new(alloc);
-    releases.push(fast)?;
-    releases.push(slow)?;
-    Ok(Some(releases))
-}
-
 // So many workers, from 1 to 64.
 fn few_workers(number: u32) -> Result<Workers, OutOfMemory> {
     match Workers::new(number) {
@@ -102,25 +89,89 @@ fn spare(alloc: Global) -> Result<Vec<Entry>, OutOfMemory>
     Ok(spare)
 }
 
-// The entries of a run on one board: the fast one's jobs overrun by their second step, the slow one's quit.
+// Runs on one board: the fast one's jobs overrun by their second step, the slow one's quit.
+fn run_one(
+    board: &mut PlainCore,
+    releases: &[List<Tick>],
+    spare: &mut Vec<Entry>,
+    out: &mut FewEntries,
+)
+    requires opened { Stands board.old [] }
+    requires set { board.old.set ≡ set_of_two }
+    requires room { board.old.journal.room ≡ 1100 }
+    requires accepted { AreAccepted set_of_two releases.now }
+    requires spare { (spare.old.items ≡ []) × (1100 ≤ vec_capacity spare.old) }
+{
+    let mut bodies = [Steady { computes: true }, Steady { computes: false }];
+    let mut serials = [7u32; 2];
+    let _whole = run(board, &mut bodies, &mut serials, releases, spare, out);
+}
+
+// The entries of such a run.
 fn alone(alloc: Global, fast: usize, slow: usize) -> Result<Vec<Entry>, OutOfMemory> {
     let Some(releases) = releases(alloc, fast, slow)? else {
         return Err(OutOfMemory);
     };
-    let mut board = new_board(alloc, ROOM)?;
-    let mut bodies = [Steady { computes: true }, Steady { computes: false }];
-    let mut serials = [7u32; 2];
     let mut spare = spare(alloc)?;
     let mut out = few(alloc, 20000)?;
-    let _whole = run(
-        &mut board,
-        &mut bodies,
-        &mut serials,
-        releases.as_slice(),
-        &mut spare,
-        &mut out,
-    );
+    let mut board = new_board(alloc, ROOM)?;
+    run_one(&mut board, releases.as_slice(), &mut spare, &mut out);
+    drop(board);
+    drop(spare);
+    drop(releases);
     Ok(out.entries)
+}
+
+// What a run answers, without its board.
+fn ended(ran: Result<PlainCore, RunFault>) -> Result<(), RunFault> {
+    match ran {
+        Ok(board) => {
+            drop(board);
+            Ok(())
+        }
+        Err(fault) => Err(fault),
+    }
+}
+
+// What a run answers, and the entries that this out took.
+fn told<R: Threads + Wait + Sync>(
+    rt: &R,
+    alloc: Global,
+    run: Run<PlainCore, Steady>,
+    out: FewEntries,
+) -> (Result<(), RunFault>, Vec<Entry>)
+    requires { CanRun Stands (λ c. c.set) (λ c. c.journal.room) (λ b serial outcomes. steady_op b.computes) run }
+{
+    let mut out = out;
+    let ran = ended(run_workers(rt, alloc, run, &NoGate, &mut out));
+    (ran, out.entries)
+}
+
+// A run of both bodies on a new board.
+fn run_of<'a>(
+    alloc: Global,
+    workers: Workers,
+    releases: &'a [List<Tick>],
+    own: &'a [u32],
+) -> Result<Run<'a, PlainCore, Steady>, OutOfMemory>
+    requires accepted { AreAccepted set_of_two releases.now }
+    requires each { length own.now ≡ 2 }
+    requires eager { (tx : ℕ) → 0 < own_at own.now tx → ticks_of releases.now tx ≡ [] }
+    requires plannable { ArePlannable (workload set_of_two [] releases.now) (own_at own.now) }
+    ensures { IfOk result (λ r. CanRun Stands (λ c. c.set) (λ c. c.journal.room) (λ b serial outcomes. steady_op b.computes) r) }
+{
+    let spare = spare(alloc)?;
+    let mut bodies = Vec::with_capacity(alloc, 2)?;
+    bodies.push_reserved(Steady { computes: true });
+    bodies.push_reserved(Steady { computes: false });
+    Ok(Run {
+        board: new_board(alloc, ROOM)?,
+        bodies,
+        ticks: releases,
+        own,
+        workers,
+        spare,
+    })
 }
 
 // What a run by workers answers, and the entries that its out took.
@@ -137,27 +188,25 @@ fn by_workers<R: Threads + Wait + Sync>(
     requires eager { (tx : ℕ) → 0 < own_at own.now tx → ticks_of releases.now tx ≡ [] }
     requires plannable { ArePlannable (workload set_of_two [] releases.now) (own_at own.now) }
 {
-    let board = new_board(alloc, ROOM)?;
-    let mut bodies = Vec::new(alloc);
-    bodies.push(Steady { computes: true })?;
-    bodies.push(Steady { computes: false })?;
-    let run = Run {
-        board,
-        bodies,
-        ticks: releases,
-        own,
-        workers,
-        spare: spare(alloc)?,
-    };
-    let mut out = few(alloc, most)?;
-    let ran = run_workers(rt, alloc, run, &NoGate, &mut out);
-    match ran {
-        Ok(_) => Ok((Ok(()), out.entries)),
-        Err(fault) => Ok((Err(fault), out.entries)),
-    }
+    let out = few(alloc, most)?;
+    let run = run_of(alloc, workers, releases, own)?;
+    Ok(told(rt, alloc, run, out))
 }
 
-// The same of so many jobs of the fast transaction and of the slow one, none of them eager.
+// The same where no transaction plans its jobs itself.
+fn none_eager<R: Threads + Wait + Sync>(
+    rt: &R,
+    alloc: Global,
+    workers: Workers,
+    releases: &[List<Tick>],
+    most: usize,
+) -> Result<(Result<(), RunFault>, Vec<Entry>), OutOfMemory>
+    requires accepted { AreAccepted set_of_two releases.now }
+{
+    by_workers(rt, alloc, workers, releases, &[0u32, 0], most)
+}
+
+// The same of so many jobs of the fast transaction and of the slow one.
 fn of_fixed<R: Threads + Wait + Sync>(
     rt: &R,
     alloc: Global,
@@ -168,7 +217,9 @@ fn of_fixed<R: Threads + Wait + Sync>(
     let Some(releases) = releases(alloc, jobs.0, jobs.1)? else {
         return Err(OutOfMemory);
     };
-    by_workers(rt, alloc, workers, releases.as_slice(), &[0u32, 0], most)
+    let ran = none_eager(rt, alloc, workers, releases.as_slice(), most);
+    drop(releases);
+    ran
 }
 
 // The releases of the fast transaction beside a slow one that plans its jobs itself.
@@ -193,7 +244,9 @@ fn of_eager<R: Threads + Wait + Sync>(
     most: usize,
 ) -> Result<(Result<(), RunFault>, Vec<Entry>), OutOfMemory> {
     let releases = beside_eager(alloc)?;
-    by_workers(rt, alloc, workers, releases.as_slice(), &[0u32, 2], most)
+    let ran = by_workers(rt, alloc, workers, releases.as_slice(), &[0u32, 2], most);
+    drop(releases);
+    ran
 }
 
 // How many jobs of a transaction the entries plan, and how many they end.
@@ -224,7 +277,30 @@ fn is_replayed(alloc: Global, entries: &[Entry]) -> Result<bool, OutOfMemory> {
     for i in 0..entries.len() {
         make(&mut board, call_of(entries[i]));
     }
-    Ok(board.entries() == entries)
+    let same = board.entries() == entries;
+    drop(board);
+    Ok(same)
+}
+
+// A board of no transaction.
+fn board_of_none(alloc: Global) -> Result<PlainCore, OutOfMemory>
+    ensures stands { IfOk result (λ c. Stands c []) }
+    ensures set { IfOk result (λ c. c.set ≡ record { items = []; txns = []; together = [] }) }
+    ensures room { IfOk result (λ c. c.journal.room ≡ 1100) }
+{
+    let set = CompiledSet::of(
+        Vec::new(alloc),
+        Vec::new(alloc),
+        Vec::new(alloc),
+        Vec::new(alloc),
+    );
+    match PlainCore::new(alloc, set, ROOM) {
+        Ok(core) => Ok(core),
+        Err((set, error)) => {
+            drop(set);
+            Err(error)
+        }
+    }
 }
 
 // A run of no transaction.
@@ -233,32 +309,17 @@ fn of_none<R: Threads + Wait + Sync>(
     alloc: Global,
     workers: Workers,
 ) -> Result<(Result<(), RunFault>, Vec<Entry>), OutOfMemory> {
-    let set = CompiledSet::of(
-        Vec::new(alloc),
-        Vec::new(alloc),
-        Vec::new(alloc),
-        Vec::new(alloc),
-    );
-    let board = match PlainCore::new(alloc, set, ROOM) {
-        Ok(core) => core,
-        Err((_, error)) => return Err(error),
-    };
-    let bodies: Vec<Steady> = Vec::new(alloc);
-    let releases: Vec<List<Tick>> = Vec::new(alloc);
+    let spare = spare(alloc)?;
+    let out = few(alloc, 0)?;
     let run = Run {
-        board,
-        bodies,
-        ticks: releases.as_slice(),
+        board: board_of_none(alloc)?,
+        bodies: Vec::<Steady>::new(alloc),
+        ticks: &[],
         own: &[],
         workers,
-        spare: spare(alloc)?,
+        spare,
     };
-    let mut out = few(alloc, 0)?;
-    let ran = run_workers(rt, alloc, run, &NoGate, &mut out);
-    match ran {
-        Ok(_) => Ok((Ok(()), out.entries)),
-        Err(fault) => Ok((Err(fault), out.entries)),
-    }
+    Ok(told(rt, alloc, run, out))
 }
 
 fn is_front(front: &[Entry], whole: &[Entry]) -> bool {
@@ -268,18 +329,49 @@ fn is_front(front: &[Entry], whole: &[Entry]) -> bool {
     }
 }
 
+// What a run by so many workers answers, and whether its entries are these.
+fn beside_whole<R: Threads + Wait + Sync>(
+    rt: &R,
+    alloc: Global,
+    number: u32,
+    whole: &[Entry],
+) -> Result<(Result<(), RunFault>, bool), OutOfMemory> {
+    let workers = few_workers(number)?;
+    let (ran, entries) = of_fixed(rt, alloc, workers, (800, 400), 20000)?;
+    let same = entries.as_slice() == whole;
+    drop(entries);
+    Ok((ran, same))
+}
+
 #[test]
 fn any_number_of_workers(rt: HostRuntime) -> Result<(), Fail> {
     let alloc = rt.alloc();
     let whole = alone(alloc, 800, 400)?;
     assert_eq!(rt; whole.len(), 1200 + 1600 + 400 + 799);
     for number in 1..4 {
-        let workers = few_workers(number)?;
-        let (ran, entries) = of_fixed(&rt, alloc, workers, (800, 400), 20000)?;
-        assert_eq!(rt; ran, Ok(()));
-        assert!(rt; entries.as_slice() == whole.as_slice());
+        assert_eq!(rt;
+            beside_whole(&rt, alloc, number, whole.as_slice())?,
+            (Ok(()), true)
+        );
     }
+    drop(whole);
     Ok(())
+}
+
+// What a run answers whose out takes so many entries, and whether those are no more than that, and the first of these.
+fn stopped<R: Threads + Wait + Sync>(
+    rt: &R,
+    alloc: Global,
+    number: u32,
+    most: usize,
+    whole: &[Entry],
+) -> Result<(Result<(), RunFault>, bool, bool), OutOfMemory> {
+    let workers = few_workers(number)?;
+    let (ran, entries) = of_fixed(rt, alloc, workers, (800, 400), most)?;
+    let few = entries.len() <= most;
+    let front = is_front(entries.as_slice(), whole);
+    drop(entries);
+    Ok((ran, few, front))
 }
 
 #[test]
@@ -289,37 +381,58 @@ fn an_out_that_stops(rt: HostRuntime) -> Result<(), Fail> {
     // while releases are planned, at the first drain, and later
     for most in [1023usize, 1024, 3000] {
         for number in 1..4 {
-            let workers = few_workers(number)?;
-            let (ran, entries) = of_fixed(&rt, alloc, workers, (800, 400), most)?;
-            assert_eq!(rt; ran, Err(RunFault::Writing));
-            assert!(rt; entries.len() <= most);
-            assert!(rt; is_front(entries.as_slice(), whole.as_slice()));
+            let told = stopped(&rt, alloc, number, most, whole.as_slice())?;
+            assert_eq!(rt; told, (Err(RunFault::Writing), true, true));
         }
     }
+    drop(whole);
     Ok(())
+}
+
+// What an eager run by so many workers answers, the jobs of both transactions, and whether its entries are replayed.
+fn eager_told<R: Threads + Wait + Sync>(
+    rt: &R,
+    alloc: Global,
+    number: u32,
+) -> Result<(Result<(), RunFault>, [(u32, u32); 2], bool), OutOfMemory> {
+    let workers = few_workers(number)?;
+    let (ran, entries) = of_eager(rt, alloc, workers, 20000)?;
+    let jobs = [
+        jobs_in(entries.as_slice(), 0),
+        jobs_in(entries.as_slice(), 1),
+    ];
+    let replayed = is_replayed(alloc, entries.as_slice());
+    drop(entries);
+    Ok((ran, jobs, replayed?))
 }
 
 #[test]
 fn an_eager_transaction(rt: HostRuntime) -> Result<(), Fail> {
     let alloc = rt.alloc();
     for number in 1..4 {
-        let workers = few_workers(number)?;
-        let (ran, entries) = of_eager(&rt, alloc, workers, 20000)?;
-        assert_eq!(rt; ran, Ok(()));
-        assert_eq!(rt; jobs_in(entries.as_slice(), 0), (3, 3));
-        assert_eq!(rt; jobs_in(entries.as_slice(), 1), (2, 2));
-        assert!(rt; is_replayed(alloc, entries.as_slice())?);
+        let told = eager_told(&rt, alloc, number)?;
+        assert_eq!(rt; told, (Ok(()), [(3, 3), (2, 2)], true));
     }
     Ok(())
+}
+
+// What a run of no transaction by so many workers answers, and how many entries it has.
+fn none_told<R: Threads + Wait + Sync>(
+    rt: &R,
+    alloc: Global,
+    number: u32,
+) -> Result<(Result<(), RunFault>, usize), OutOfMemory> {
+    let workers = few_workers(number)?;
+    let (ran, entries) = of_none(rt, alloc, workers)?;
+    let count = entries.len();
+    drop(entries);
+    Ok((ran, count))
 }
 
 #[test]
 fn no_transaction(rt: HostRuntime) -> Result<(), Fail> {
     for number in 1..4 {
-        let workers = few_workers(number)?;
-        let (ran, entries) = of_none(&rt, rt.alloc(), workers)?;
-        assert_eq!(rt; ran, Ok(()));
-        assert_eq!(rt; entries.len(), 0);
+        assert_eq!(rt; none_told(&rt, rt.alloc(), number)?, (Ok(()), 0));
     }
     Ok(())
 }
