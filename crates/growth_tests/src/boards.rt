@@ -23,12 +23,24 @@ const ROOM: usize = 16;
 fn core_twice<R: Print>(rt: &R, alloc: Global, set: CompiledSet) -> Result<(Core, Before), Fault> {
     match Core::new(alloc, set, ROOM) {
         Ok(core) => Ok((core, Before::First)),
+        Err((set, _)) => core_again(rt, alloc, set),
+    }
+}
+
+// A core, once a growth was refused.
+fn core_again<R: Print>(rt: &R, alloc: Global, set: CompiledSet) -> Result<(Core, Before), Fault> {
+    let before = match refused(rt, CORE, is_known_set(&set)) {
+        Ok(before) => before,
+        Err(fault) => {
+            drop(set);
+            return Err(fault);
+        }
+    };
+    match Core::new(alloc, set, ROOM) {
+        Ok(core) => Ok((core, before)),
         Err((set, _)) => {
-            let before = refused(rt, CORE, is_known_set(&set))?;
-            match Core::new(alloc, set, ROOM) {
-                Ok(core) => Ok((core, before)),
-                Err(_) => Err(failed(rt, CORE)),
-            }
+            drop(set);
+            Err(failed(rt, CORE))
         }
     }
 }
@@ -36,7 +48,9 @@ fn core_twice<R: Print>(rt: &R, alloc: Global, set: CompiledSet) -> Result<(Core
 /// Makes a core, which has to answer as is known.
 pub fn core<R: Print>(rt: &R, alloc: Global, set: CompiledSet) -> Result<(), Fault> {
     let (mut core, before) = core_twice(rt, alloc, set)?;
-    judged(rt, CORE, before, has_known_answers(&mut core))
+    let is_known = has_known_answers(&mut core);
+    drop(core);
+    judged(rt, CORE, before, is_known)
 }
 
 // A core over an admitted set, and whether a growth was refused at first.
@@ -47,12 +61,28 @@ fn admitted_core_twice<R: Print>(
 ) -> Result<(AdmittedCore, Before), Fault> {
     match AdmittedCore::new(alloc, set, ROOM) {
         Ok(core) => Ok((core, Before::First)),
+        Err((set, _)) => admitted_core_again(rt, alloc, set),
+    }
+}
+
+// A core over an admitted set, once a growth was refused.
+fn admitted_core_again<R: Print>(
+    rt: &R,
+    alloc: Global,
+    set: AdmittedSet,
+) -> Result<(AdmittedCore, Before), Fault> {
+    let before = match refused(rt, ADMITTED_CORE, is_known_admitted(&set)) {
+        Ok(before) => before,
+        Err(fault) => {
+            drop(set);
+            return Err(fault);
+        }
+    };
+    match AdmittedCore::new(alloc, set, ROOM) {
+        Ok(core) => Ok((core, before)),
         Err((set, _)) => {
-            let before = refused(rt, ADMITTED_CORE, is_known_admitted(&set))?;
-            match AdmittedCore::new(alloc, set, ROOM) {
-                Ok(core) => Ok((core, before)),
-                Err(_) => Err(failed(rt, ADMITTED_CORE)),
-            }
+            drop(set);
+            Err(failed(rt, ADMITTED_CORE))
         }
     }
 }
@@ -60,5 +90,7 @@ fn admitted_core_twice<R: Print>(
 /// Makes a core over the admitted set, which has to answer as is known.
 pub fn admitted_core<R: Print>(rt: &R, alloc: Global, set: AdmittedSet) -> Result<(), Fault> {
     let (mut core, before) = admitted_core_twice(rt, alloc, set)?;
-    judged(rt, ADMITTED_CORE, before, has_known_answers(&mut core))
+    let is_known = has_known_answers(&mut core);
+    drop(core);
+    judged(rt, ADMITTED_CORE, before, is_known)
 }

@@ -20,16 +20,27 @@ use sets::{admitted, compiled};
 use std::alloc::Global;
 use std::io;
 use texts::scenario;
+use txn_set::CompiledSet;
 
 const MOST: usize = 65_536;
 
+// The boards and the plant of a set that is not admitted yet.
+fn run_copies<R: Print>(rt: &R, alloc: Global, set: &CompiledSet) -> Result<(), Fault> {
+    core(rt, alloc, set.copy(alloc)?)?;
+    plant(rt, alloc, set.copy(alloc)?)
+}
+
+fn run_set<R: Print>(rt: &R, alloc: Global, set: CompiledSet) -> Result<(), Fault> {
+    if let Err(fault) = run_copies(rt, alloc, &set) {
+        drop(set);
+        return Err(fault);
+    }
+    admitted_core(rt, alloc, admitted(rt, alloc, set)?)
+}
+
 fn run<R: Print>(rt: &R, alloc: Global, text: &[u8]) -> Result<(), Fault> {
     let read = scenario(rt, alloc, text)?;
-    let set = compiled(rt, alloc, text, read)?;
-    core(rt, alloc, set.copy(alloc)?)?;
-    plant(rt, alloc, set.copy(alloc)?)?;
-    let set = admitted(rt, alloc, set)?;
-    admitted_core(rt, alloc, set)
+    run_set(rt, alloc, compiled(rt, alloc, text, read)?)
 }
 
 fn main(rt: HostRuntime) -> io::Result<()> {

@@ -1,6 +1,7 @@
 //! Starting a plant.
 ghost use Rattle.std.specs.Prelude.{◌≡◌, [], length, Some, IfOk, IfErr};
 ghost use Rattle.lock_core.specs.Stands.{Stands};
+ghost use Rattle.rt_base.specs.declared.ids.TxId.{TxId as Transaction};
 ghost use Rattle.shared_plant.specs.Seats.{IsOf, tx_of};
 
 use crate::answers::{done, first_of, is_new};
@@ -10,7 +11,7 @@ use crate::said::{Before, failed, judged, refused};
 use admitted_core::AdmittedCore;
 use board::{Board, StepReply};
 use rt_base::{Op, Outcome};
-use set_admission::admit;
+use set_admission::{AdmittedSet, admit};
 use shared_plant::{Plant, Seat, Tried};
 use std::alloc::Global;
 use step_journal::Entry;
@@ -46,18 +47,30 @@ struct Callers {
 fn core(alloc: Global, set: CompiledSet) -> Result<AdmittedCore, Fault>
     ensures { IfOk result (λ c. Stands c.board [] × (length c.board.set.txns ≡ 3) × (length c.board.set.items ≡ 3)) }
 {
-    if set.txns().len() != 3 {
+    if set.txns().len() != 3 || set.items().len() != 3 {
+        drop(set);
         return Err(Fault::NotKnown);
     }
-    if set.items().len() != 3 {
-        return Err(Fault::NotKnown);
+    match admit(alloc, set) {
+        Ok(set) => core_of(alloc, set),
+        Err((set, _)) => {
+            drop(set);
+            Err(Fault::OutOfMemory)
+        }
     }
-    let Ok(set) = admit(alloc, set) else {
-        return Err(Fault::OutOfMemory);
-    };
+}
+
+// A new core over an admitted set.
+fn core_of(alloc: Global, set: AdmittedSet) -> Result<AdmittedCore, Fault>
+    requires { (length set.txns ≡ 3) × (length set.items ≡ 3) }
+    ensures { IfOk result (λ c. Stands c.board [] × (length c.board.set.txns ≡ 3) × (length c.board.set.items ≡ 3)) }
+{
     match AdmittedCore::new(alloc, set, ROOM) {
         Ok(core) => Ok(core),
-        Err(_) => Err(Fault::OutOfMemory),
+        Err((set, _)) => {
+            drop(set);
+            Err(Fault::OutOfMemory)
+        }
     }
 }
 
@@ -89,6 +102,36 @@ fn started(alloc: Global, core: AdmittedCore) -> Result<Callers, AdmittedCore>
     }
 }
 
+// Whether the first job of the sampler is planned for tick 0.
+fn is_planned(plant: &Tank, seat: &mut TankSeat) -> bool
+    requires { IsOf plant.now seat.old × (length plant.now.set.txns ≡ 3) }
+{
+    match plant.try_plan(seat, SAMPLE, 0) {
+        Tried::Said(Ok(job)) => job == first_of(SAMPLE),
+        _ => false,
+    }
+}
+
+// Whether the first job of the seat's transaction is answered so.
+fn is_answered(plant: &Tank, seat: &mut TankSeat, op: Op, reply: StepReply) -> bool
+    requires { IsOf plant.now seat.old × ((tx : Transaction) × (seat.old.tx ≡ Some tx)) }
+{
+    match plant.try_step(seat, 0, op) {
+        Tried::Said(said) => said == reply,
+        Tried::Busy => false,
+    }
+}
+
+// Whether the sensor's item is as at first.
+fn is_unwritten(plant: &Tank, seat: &mut TankSeat) -> bool
+    requires { IsOf plant.now seat.old × (length plant.now.set.items ≡ 3) }
+{
+    match plant.try_peek(seat, TEMP) {
+        Tried::Said(stored) => stored == (0, 0),
+        Tried::Busy => false,
+    }
+}
+
 // Whether the seats are answered as is known: a plan, a step, a look at an item, and a step of no job.
 fn has_known_answers(callers: Callers) -> bool
     requires sizes { (length callers.plant.set.txns ≡ 3) × (length callers.plant.set.items ≡ 3) }
@@ -104,26 +147,19 @@ fn has_known_answers(callers: Callers) -> bool
         mut control,
         mut operator,
     } = callers;
-    let job = match plant.try_plan(&mut operator, SAMPLE, 0) {
-        Tried::Said(Ok(job)) => job == first_of(SAMPLE),
-        _ => false,
-    };
-    let put = match plant.try_step(&mut sample, 0, Op::Write(TEMP, 5)) {
-        Tried::Said(reply) => reply == done(Outcome::Put),
-        Tried::Busy => false,
-    };
-    let stored = match plant.try_peek(&mut average, TEMP) {
-        Tried::Said(stored) => stored == (0, 0),
-        Tried::Busy => false,
-    };
     let none = StepReply::NoJob {
         ended: 0,
         last: None,
     };
-    let refused = match plant.try_step(&mut control, 0, Op::Compute) {
-        Tried::Said(reply) => reply == none,
-        Tried::Busy => false,
-    };
+    let job = is_planned(&plant, &mut operator);
+    let put = is_answered(&plant, &mut sample, Op::Write(TEMP, 5), done(Outcome::Put));
+    let stored = is_unwritten(&plant, &mut average);
+    let refused = is_answered(&plant, &mut control, Op::Compute, none);
+    drop(sample);
+    drop(average);
+    drop(control);
+    drop(operator);
+    drop(plant);
     job && put && stored && refused
 }
 
@@ -135,15 +171,28 @@ fn is_as_made(core: &AdmittedCore) -> bool {
 /// Starts a plant over a new core of the set; its seats have to be answered as is known.
 pub fn plant<R: Print>(rt: &R, alloc: Global, set: CompiledSet) -> Result<(), Fault> {
     let core = core(alloc, set)?;
-    let (callers, before) = match started(alloc, core) {
-        Ok(callers) => (callers, Before::First),
-        Err(core) => {
-            let before = refused(rt, NAME, is_as_made(&core))?;
-            match started(alloc, core) {
-                Ok(callers) => (callers, before),
-                Err(_) => return Err(failed(rt, NAME)),
-            }
+    match started(alloc, core) {
+        Ok(callers) => judged(rt, NAME, Before::First, has_known_answers(callers)),
+        Err(core) => plant_again(rt, alloc, core),
+    }
+}
+
+// The plant once more, after a growth was refused.
+fn plant_again<R: Print>(rt: &R, alloc: Global, core: AdmittedCore) -> Result<(), Fault>
+    requires { Stands core.board [] × (length core.board.set.txns ≡ 3) × (length core.board.set.items ≡ 3) }
+{
+    let before = match refused(rt, NAME, is_as_made(&core)) {
+        Ok(before) => before,
+        Err(fault) => {
+            drop(core);
+            return Err(fault);
         }
     };
-    judged(rt, NAME, before, has_known_answers(callers))
+    match started(alloc, core) {
+        Ok(callers) => judged(rt, NAME, before, has_known_answers(callers)),
+        Err(core) => {
+            drop(core);
+            Err(failed(rt, NAME))
+        }
+    }
 }

@@ -15,23 +15,54 @@ const COMPILE: &str = "compile";
 
 const ADMIT: &str = "admit";
 
+// What compiling the declarations gives. None where an item is out of range.
+fn compiled_once(alloc: Global, scenario: Scenario) -> Option<Result<CompiledSet, CompileError>> {
+    let Scenario {
+        names,
+        items,
+        txns,
+        together,
+        scripts,
+        releases,
+        room: _,
+    } = scenario;
+    drop(names);
+    drop(scripts);
+    drop(releases);
+    compile_in_range(
+        alloc,
+        items.into_vec(),
+        txns.into_vec(),
+        together.into_vec(),
+    )
+}
+
 // The set of a scenario; the inner error is want of memory, the outer one any other refusal.
 fn set_of<R: Print>(
     rt: &R,
     alloc: Global,
     scenario: Scenario,
 ) -> Result<Result<CompiledSet, OutOfMemory>, Fault> {
-    let items = scenario.items.into_vec();
-    let txns = scenario.txns.into_vec();
-    let together = scenario.together.into_vec();
-    match compile_in_range(alloc, items, txns, together) {
+    match compiled_once(alloc, scenario) {
         Some(Ok(set)) => Ok(Ok(set)),
         Some(Err(CompileError::OutOfMemory)) => Ok(Err(OutOfMemory)),
         _ => Err(failed(rt, COMPILE)),
     }
 }
 
-/// The known set. What `compile` was given is not handed back, so the text is read again after a refused growth.
+// The set, once a growth was refused. What `compile` was given is not handed back, so the text is read again.
+fn compiled_again<R: Print>(
+    rt: &R,
+    alloc: Global,
+    text: &[u8],
+) -> Result<(CompiledSet, Before), Fault> {
+    let before = refused(rt, COMPILE, true)?;
+    let anew = read_anew(rt, alloc, text)?;
+    let set = set_of(rt, alloc, anew)??;
+    Ok((set, before))
+}
+
+/// The known set.
 pub fn compiled<R: Print>(
     rt: &R,
     alloc: Global,
@@ -40,14 +71,15 @@ pub fn compiled<R: Print>(
 ) -> Result<CompiledSet, Fault> {
     let (set, before) = match set_of(rt, alloc, scenario)? {
         Ok(set) => (set, Before::First),
-        Err(_) => {
-            let before = refused(rt, COMPILE, true)?;
-            let anew = read_anew(rt, alloc, text)?;
-            (set_of(rt, alloc, anew)??, before)
-        }
+        Err(_) => compiled_again(rt, alloc, text)?,
     };
-    judged(rt, COMPILE, before, is_known_set(&set))?;
-    Ok(set)
+    match judged(rt, COMPILE, before, is_known_set(&set)) {
+        Ok(()) => Ok(set),
+        Err(fault) => {
+            drop(set);
+            Err(fault)
+        }
+    }
 }
 
 // The set with its bounds, and whether a growth was refused at first.
@@ -58,20 +90,44 @@ fn admitted_twice<R: Print>(
 ) -> Result<(AdmittedSet, Before), Fault> {
     match admit(alloc, set) {
         Ok(admitted) => Ok((admitted, Before::First)),
-        Err((set, AdmitError::OutOfMemory)) => {
-            let before = refused(rt, ADMIT, is_known_set(&set))?;
-            match admit(alloc, set) {
-                Ok(admitted) => Ok((admitted, before)),
-                Err(_) => Err(failed(rt, ADMIT)),
-            }
+        Err((set, AdmitError::OutOfMemory)) => admitted_again(rt, alloc, set),
+        Err((set, _)) => {
+            drop(set);
+            Err(failed(rt, ADMIT))
         }
-        Err(_) => Err(failed(rt, ADMIT)),
+    }
+}
+
+// The set with its bounds, once a growth was refused.
+fn admitted_again<R: Print>(
+    rt: &R,
+    alloc: Global,
+    set: CompiledSet,
+) -> Result<(AdmittedSet, Before), Fault> {
+    let before = match refused(rt, ADMIT, is_known_set(&set)) {
+        Ok(before) => before,
+        Err(fault) => {
+            drop(set);
+            return Err(fault);
+        }
+    };
+    match admit(alloc, set) {
+        Ok(admitted) => Ok((admitted, before)),
+        Err((set, _)) => {
+            drop(set);
+            Err(failed(rt, ADMIT))
+        }
     }
 }
 
 /// The known set with its known bounds.
 pub fn admitted<R: Print>(rt: &R, alloc: Global, set: CompiledSet) -> Result<AdmittedSet, Fault> {
     let (admitted, before) = admitted_twice(rt, alloc, set)?;
-    judged(rt, ADMIT, before, is_known_admitted(&admitted))?;
-    Ok(admitted)
+    match judged(rt, ADMIT, before, is_known_admitted(&admitted)) {
+        Ok(()) => Ok(admitted),
+        Err(fault) => {
+            drop(admitted);
+            Err(fault)
+        }
+    }
 }

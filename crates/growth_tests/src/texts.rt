@@ -43,14 +43,32 @@ fn read_twice<R: Print>(rt: &R, alloc: Global, text: &[u8]) -> Result<(Scenario,
     }
 }
 
+// Good only where the scenario is written as the same text again.
+fn judged_again<R: Print>(
+    rt: &R,
+    alloc: Global,
+    text: &[u8],
+    scenario: &Scenario,
+    before: Before,
+) -> Result<(), Fault>
+    requires { IsScenario (shown scenario.now) }
+{
+    let again = write_scenario(alloc, scenario)?;
+    judged(rt, NAME, before, again.as_slice() == text)
+}
+
 /// The scenario of a canonical text. It is the known one where it is written as the same text again.
 pub fn scenario<R: Print>(rt: &R, alloc: Global, text: &[u8]) -> Result<Scenario, Fault>
     ensures { IfOk result (λ s. IsScenario (shown s)) }
 {
     let (scenario, before) = read_twice(rt, alloc, text)?;
-    let again = write_scenario(alloc, &scenario)?;
-    judged(rt, NAME, before, again.as_slice() == text)?;
-    Ok(scenario)
+    match judged_again(rt, alloc, text, &scenario, before) {
+        Ok(()) => Ok(scenario),
+        Err(fault) => {
+            drop(scenario);
+            Err(fault)
+        }
+    }
 }
 
 /// The scenario once more, for a call that took the first.

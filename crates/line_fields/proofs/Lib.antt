@@ -3,3 +3,4 @@ pub mod NumberLaws
 pub mod IdLaws
 pub mod Words
 pub mod FrontLaws
+mod FarLaws

@@ -329,18 +329,18 @@ fn is_front(front: &[Entry], whole: &[Entry]) -> bool {
     }
 }
 
-// What a run by so many workers answers, and whether its entries are these.
-fn beside_whole<R: Threads + Wait + Sync>(
+// Whether a run by so many workers is whole, and its entries are these.
+fn is_whole<R: Threads + Wait + Sync>(
     rt: &R,
     alloc: Global,
     number: u32,
     whole: &[Entry],
-) -> Result<(Result<(), RunFault>, bool), OutOfMemory> {
+) -> Result<bool, OutOfMemory> {
     let workers = few_workers(number)?;
     let (ran, entries) = of_fixed(rt, alloc, workers, (800, 400), 20000)?;
     let same = entries.as_slice() == whole;
     drop(entries);
-    Ok((ran, same))
+    Ok(ran == Ok(()) && same)
 }
 
 #[test]
@@ -349,29 +349,28 @@ fn any_number_of_workers(rt: HostRuntime) -> Result<(), Fail> {
     let whole = alone(alloc, 800, 400)?;
     assert_eq!(rt; whole.len(), 1200 + 1600 + 400 + 799);
     for number in 1..4 {
-        assert_eq!(rt;
-            beside_whole(&rt, alloc, number, whole.as_slice())?,
-            (Ok(()), true)
+        assert!(rt;
+            is_whole(&rt, alloc, number, whole.as_slice())?,
+            "{number} workers"
         );
     }
     drop(whole);
     Ok(())
 }
 
-// What a run answers whose out takes so many entries, and whether those are no more than that, and the first of these.
-fn stopped<R: Threads + Wait + Sync>(
+// Whether a run stops whose out takes so many entries, and has no more than those, the first of these.
+fn is_stopped<R: Threads + Wait + Sync>(
     rt: &R,
     alloc: Global,
     number: u32,
     most: usize,
     whole: &[Entry],
-) -> Result<(Result<(), RunFault>, bool, bool), OutOfMemory> {
+) -> Result<bool, OutOfMemory> {
     let workers = few_workers(number)?;
     let (ran, entries) = of_fixed(rt, alloc, workers, (800, 400), most)?;
-    let few = entries.len() <= most;
-    let front = is_front(entries.as_slice(), whole);
+    let front = entries.len() <= most && is_front(entries.as_slice(), whole);
     drop(entries);
-    Ok((ran, few, front))
+    Ok(ran == Err(RunFault::Writing) && front)
 }
 
 #[test]
@@ -381,58 +380,61 @@ fn an_out_that_stops(rt: HostRuntime) -> Result<(), Fail> {
     // while releases are planned, at the first drain, and later
     for most in [1023usize, 1024, 3000] {
         for number in 1..4 {
-            let told = stopped(&rt, alloc, number, most, whole.as_slice())?;
-            assert_eq!(rt; told, (Err(RunFault::Writing), true, true));
+            assert!(rt;
+                is_stopped(&rt, alloc, number, most, whole.as_slice())?,
+                "{number} workers"
+            );
         }
     }
     drop(whole);
     Ok(())
 }
 
-// What an eager run by so many workers answers, the jobs of both transactions, and whether its entries are replayed.
-fn eager_told<R: Threads + Wait + Sync>(
+// Whether three jobs of the fast transaction and two of the slow one are planned and ended.
+fn has_all_jobs(entries: &[Entry]) -> bool {
+    jobs_in(entries, 0) == (3, 3) && jobs_in(entries, 1) == (2, 2)
+}
+
+// Whether an eager run by so many workers is whole, has all jobs, and is replayed.
+fn is_eager<R: Threads + Wait + Sync>(
     rt: &R,
     alloc: Global,
     number: u32,
-) -> Result<(Result<(), RunFault>, [(u32, u32); 2], bool), OutOfMemory> {
+) -> Result<bool, OutOfMemory> {
     let workers = few_workers(number)?;
     let (ran, entries) = of_eager(rt, alloc, workers, 20000)?;
-    let jobs = [
-        jobs_in(entries.as_slice(), 0),
-        jobs_in(entries.as_slice(), 1),
-    ];
+    let all = has_all_jobs(entries.as_slice());
     let replayed = is_replayed(alloc, entries.as_slice());
     drop(entries);
-    Ok((ran, jobs, replayed?))
+    Ok(replayed? && ran == Ok(()) && all)
 }
 
 #[test]
 fn an_eager_transaction(rt: HostRuntime) -> Result<(), Fail> {
     let alloc = rt.alloc();
     for number in 1..4 {
-        let told = eager_told(&rt, alloc, number)?;
-        assert_eq!(rt; told, (Ok(()), [(3, 3), (2, 2)], true));
+        assert!(rt; is_eager(&rt, alloc, number)?, "{number} workers");
     }
     Ok(())
 }
 
-// What a run of no transaction by so many workers answers, and how many entries it has.
-fn none_told<R: Threads + Wait + Sync>(
+// Whether a run of no transaction by so many workers is whole, and has no entry.
+fn is_empty<R: Threads + Wait + Sync>(
     rt: &R,
     alloc: Global,
     number: u32,
-) -> Result<(Result<(), RunFault>, usize), OutOfMemory> {
+) -> Result<bool, OutOfMemory> {
     let workers = few_workers(number)?;
     let (ran, entries) = of_none(rt, alloc, workers)?;
     let count = entries.len();
     drop(entries);
-    Ok((ran, count))
+    Ok(ran == Ok(()) && count == 0)
 }
 
 #[test]
 fn no_transaction(rt: HostRuntime) -> Result<(), Fail> {
     for number in 1..4 {
-        assert_eq!(rt; none_told(&rt, rt.alloc(), number)?, (Ok(()), 0));
+        assert!(rt; is_empty(&rt, rt.alloc(), number)?, "{number} workers");
     }
     Ok(())
 }
