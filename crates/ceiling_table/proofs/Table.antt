@@ -1,9 +1,9 @@
 -- What a change of one transaction's locks leaves of the table, and the refusal by its first rows.
-use Rattle.std.proofs.Common.{◌≡◌, ℕ, zero, suc, ◌+◌, ◌*◌, ◌^◌, ◌<◌, ◌≤◌, ◌==◌, max, Bool, true, false, not, ◌&&◌, ◌||◌, cond, List, [], ◌∷◌, length, get_or, set, replicate, Option, None, Some, refl, ap, sym, ◌∙◌, subst, inl, inr, arith}
+use Rattle.std.proofs.Common.{◌≡◌, ℕ, zero, suc, ◌+◌, ◌*◌, ◌^◌, ◌<◌, ◌≤◌, ◌==◌, max, Bool, true, false, not, ◌&&◌, ◌||◌, cond, List, [], ◌∷◌, length, get_or, set, replicate, take, drop, ◌++◌, ◌-◌, Option, None, Some, refl, ap, sym, ◌∙◌, subst, inl, inr, arith}
 use Rattle.std.proofs.lemmas.Bool.{cases_eq, eqb-true, eqb-false, eq-eqb, ne_eqb, or_left, or_right, or_parts, and_parts, and_from, not-true, not_from_false}
 use Rattle.std.proofs.lemmas.Nat.{same_from_place, row_fits}
-use Rattle.std.proofs.lemmas.List.{get_or-set_same, get_or-set_other, length-set, get_or_read, length-replicate}
-use Rattle.std.proofs.lemmas.Bool.{lt-ltb, le-ltb, and_left, and_right}
+use Rattle.std.proofs.lemmas.List.{get_or-set_same, get_or-set_other, length-set, get_or_read, length-replicate, length-append, length-take-le, length-drop, get_or-append-add, get_or_append_left, get_or-take, get_or-drop, get_or-replicate}
+use Rattle.std.proofs.lemmas.Bool.{cases_lt, lt-ltb, le-ltb, and_left, and_right}
 use Rattle.rt_base.specs.Shelf.{Shelf}
 use Rattle.std.specs.Prelude.{nat_lt}
 use Rattle.std.specs.Option.{option_map}
@@ -383,21 +383,53 @@ lock_keeps cs ps ls ls' rows rows' m tx item ceiling row writes was k t s re c e
 
 -- ---- a transaction's locks less
 
-pub length_freed : (from n : ℕ) (ls : List LockKind) → length (freed_from from n ls) ≡ length ls
-length_freed from zero ls = refl
-length_freed from (suc n) ls = length-set (freed_from from n ls) (from + n) Free ∙ length_freed from n ls
+length_front : (from n : ℕ) (ls : List LockKind) → from + n ≤ length ls → length (take from ls ++ replicate n Free) ≡ from + n
+length_front from n ls le = omega (
+  arith,
+  length-append (take from ls) (replicate n Free),
+  length-take-le from ls (omega arith),
+  length-replicate n Free,
+)
+
+pub length_freed : (from n : ℕ) (ls : List LockKind) → from + n ≤ length ls → length (freed_from from n ls) ≡ length ls
+length_freed from n ls le = omega (
+  arith,
+  length-append (take from ls ++ replicate n Free) (drop (from + n) ls),
+  length_front from n ls le,
+  length-drop (from + n) ls,
+)
 
 freed_inside : (from n k : ℕ) (ls : List LockKind) → k < n → from + n ≤ length ls → get_or (freed_from from n ls) (from + k) Free ≡ Free
-freed_inside from zero k ls lt le = absurd (omega arith)
-freed_inside from (suc n) k ls lt le =
-    elim (cases_eq k n) [
-      | inl e ↦ ap (λ (j : ℕ). get_or (set (freed_from from n ls) (from + n) Free) (from + j) Free) e ∙ get_or-set_same (freed_from from n ls) (from + n) Free Free (omega (arith, length_freed from n ls))
-      | inr ne ↦ get_or-set_other (freed_from from n ls) (from + n) (from + k) Free Free (λ (q : from + k ≡ from + n). ne (omega arith)) ∙ freed_inside from n k ls (omega arith) (omega arith)
-    ]
+freed_inside from n k ls lt le =
+    get_or_append_left (take from ls ++ replicate n Free) (drop (from + n) ls) Free (from + k) (omega (arith, length_front from n ls le))
+    ∙ ap (λ (j : ℕ). get_or (take from ls ++ replicate n Free) (j + k) Free) (sym (length-take-le from ls (omega arith)))
+    ∙ get_or-append-add (take from ls) (replicate n Free) k Free
+    ∙ get_or-replicate n k Free Free lt
 
-freed_outside : (from n k : ℕ) (ls : List LockKind) → ((j : ℕ) → j < n → k ≡ from + j → ⊥) → get_or (freed_from from n ls) k Free ≡ get_or ls k Free
-freed_outside from zero k ls out = refl
-freed_outside from (suc n) k ls out = get_or-set_other (freed_from from n ls) (from + n) k Free Free (out n (omega arith)) ∙ freed_outside from n k ls (λ j lt. out j (omega arith))
+freed_before : (from n k : ℕ) (ls : List LockKind) → k < from → from + n ≤ length ls → get_or (freed_from from n ls) k Free ≡ get_or ls k Free
+freed_before from n k ls lt le =
+    get_or_append_left (take from ls ++ replicate n Free) (drop (from + n) ls) Free k (omega (arith, length_front from n ls le))
+    ∙ get_or_append_left (take from ls) (replicate n Free) Free k (omega (arith, length-take-le from ls (omega arith)))
+    ∙ get_or-take from ls k Free lt
+
+freed_after : (from n j : ℕ) (ls : List LockKind) → from + n ≤ length ls → get_or (freed_from from n ls) (from + n + j) Free ≡ get_or ls (from + n + j) Free
+freed_after from n j ls le =
+    ap (λ (i : ℕ). get_or (freed_from from n ls) (i + j) Free) (sym (length_front from n ls le))
+    ∙ get_or-append-add (take from ls ++ replicate n Free) (drop (from + n) ls) j Free
+    ∙ get_or-drop (from + n) ls j Free
+
+freed_outside : (from n k : ℕ) (ls : List LockKind) → from + n ≤ length ls → ((j : ℕ) → j < n → k ≡ from + j → ⊥) → get_or (freed_from from n ls) k Free ≡ get_or ls k Free
+freed_outside from n k ls le out =
+    elim (cases_lt k from) [
+      | inl lt ↦ freed_before from n k ls lt le
+      | inr ge ↦ elim (cases_lt k (from + n)) [
+        | inl lt ↦ absurd (out (k - from) (omega arith) (omega arith))
+        | inr past ↦ (
+            ap (λ (i : ℕ). get_or (freed_from from n ls) i Free) (omega arith)
+            ∙ freed_after from n (k - (from + n)) ls le
+            ∙ ap (λ (i : ℕ). get_or ls i Free) (omega arith))
+      ]
+    ]
 
 released_is : (cs : List CeilRow) (ps : List ℕ) (ls : List LockKind) (tx t i : ℕ) → length ls ≡ length ps * length cs → tx < length ps → i < length cs → get_or (freed_from (tx * length cs) (length cs) ls) (t * length cs + i) Free ≡ cond (t == tx) Free (get_or ls (t * length cs + i) Free)
 released_is cs ps ls tx t i size lt l =
@@ -407,7 +439,7 @@ released_is cs ps ls tx t i size lt l =
           ∙ freed_inside (tx * length cs) (length cs) i ls l (omega (arith, size, from_fits tx (length ps) (length cs) lt))
           ∙ sym (ap (λ (b : Bool). cond b Free (get_or ls (t * length cs + i) Free)) (eq-eqb _ _ e)))
       | inr ne ↦ (
-          freed_outside (tx * length cs) (length cs) (t * length cs + i) ls (λ j lj q. ne (same_from_place t i tx j (length cs) l lj q).0)
+          freed_outside (tx * length cs) (length cs) (t * length cs + i) ls (omega (arith, size, from_fits tx (length ps) (length cs) lt)) (λ j lj q. ne (same_from_place t i tx j (length cs) l lj q).0)
           ∙ sym (ap (λ (b : Bool). cond b Free (get_or ls (t * length cs + i) Free)) (ne_eqb _ _ ne)))
     ]
 
@@ -427,7 +459,7 @@ release_keeps cs ps ls ls' rows rows' m tx t lt e h u r =
     let is : (u i : ℕ) → i < length cs → get_or ls' (u * length cs + i) Free ≡ cond (u == tx) Free (get_or ls (u * length cs + i) Free) = (release_changes cs ps ls ls' m tx t.size lt e h).locks in
     let stays : Stays cs ls ls' tx = (λ u i ne l. is u i l ∙ ap (λ (b : Bool). cond b Free (get_or ls (u * length cs + i) Free)) (ne_eqb _ _ ne)) in
     let gone : is_holder (table cs ps ls') tx ≡ false = any_none (length cs) (λ i. is_lock (get_or ls' (tx * length cs + i) Free)) (λ i l. ap is_lock (is tx i l ∙ ap (λ (b : Bool). cond b Free (get_or ls (tx * length cs + i) Free)) (eq-eqb tx tx refl))) in
-    let size : length ls' ≡ length ls = ap length h ∙ length_freed (tx * m) m ls in
+    let size : length ls' ≡ length ls = ap length (freed_is cs ls ls' m tx e h) ∙ length_freed (tx * length cs) (length cs) ls (omega (arith, t.size, from_fits tx (length ps) (length cs) lt)) in
     record {
       few = t.few;
       distinct = t.distinct;

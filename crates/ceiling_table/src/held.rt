@@ -7,7 +7,7 @@ ghost use Rattle.ceiling_table.specs.Seated.{Changes};
 
 use crate::holders::Holders;
 use crate::seats::{
-    added, all_free, ceiling_at, first_above, free_from, holds, raise, row_ceiling, unseat, writes,
+    added, all_free, ceiling_at, first_above, holds, raise, row_ceiling, unseat, writes,
 };
 use crate::{Above, CeilRow, LockKind};
 use rt_base::{ItemId, Looked, Op, OutOfMemory, Prio, Steps, TxId};
@@ -183,7 +183,8 @@ impl Held {
     {
         let mut steps = Steps::<L>::start(blank);
         let count = self.ceilings.len();
-        free_from(&mut self.locks, tx.0 as usize * count, count);
+        self.locks
+            .fill(tx.0 as usize * count, count, LockKind::Free);
         unseat(&mut self.rows, tx, &mut steps);
     }
 }

@@ -1,5 +1,5 @@
 //! A list that is read by counted looks.
-ghost use Rattle.std.specs.Prelude.{◌≡◌, ℕ, ◌+◌, ◌<◌, ◌≤◌, [], IfOk, length, slice_index_or, slice_set, vec_capacity, replicate};
+ghost use Rattle.std.specs.Prelude.{◌≡◌, ℕ, ◌+◌, ◌<◌, ◌≤◌, ◌++◌, [], IfOk, length, slice_index_or, slice_set, vec_capacity, replicate, take, drop};
 ghost use Rattle.std.specs.List.{insert, remove};
 
 use crate::memory::OutOfMemory;
@@ -21,6 +21,15 @@ impl<T: Copy> Model for Looked<T> {
     ghost Value = { Shelf T };
 
     ghost view = { λ l. record { items = l.rows.items; room = vec_capacity l.rows } };
+}
+
+// Puts an element in each place.
+fn fill<T: Copy>(rows: &mut [T], row: T)
+    ensures { rows.new ≡ replicate (length rows.old) row }
+{
+    for place in rows.iter_mut() {
+        *place = row;
+    }
 }
 
 impl<T: Copy> Looked<T> {
@@ -70,6 +79,15 @@ impl<T: Copy> Looked<T> {
         ensures room { self.new.room ≡ self.old.room }
     {
         self.rows[place] = row;
+    }
+
+    /// Puts an element in so many places from one on. It takes no memory.
+    pub fn fill(&mut self, from: usize, count: usize, row: T)
+        requires { from + count ≤ length self.old.items }
+        ensures items { self.new.items ≡ take from self.old.items ++ replicate count row ++ drop (from + count) self.old.items }
+        ensures room { self.new.room ≡ self.old.room }
+    {
+        fill(&mut self.rows[from..from + count], row);
     }
 
     /// Puts an element before the one at this place, or at the end. It takes no memory.
