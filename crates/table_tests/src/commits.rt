@@ -45,6 +45,41 @@ fn group(
     Ok(TogetherDecl { items, within })
 }
 
+// A job that may read the temperature, the flow and the mean, and write the mean and the valve, and has done neither.
+fn fresh(alloc: Global) -> Result<Work, OutOfMemory>
+    ensures reads { IfOk result (λ w. w.may_read ≡ TEMP ∷ FLOW ∷ MEAN ∷ []) }
+    ensures writes { IfOk result (λ w. w.may_write ≡ MEAN ∷ VALVE ∷ []) }
+{
+    let reads = Vec::from_array(alloc, [TEMP, FLOW, MEAN])?;
+    let writes = Vec::from_array(alloc, [MEAN, VALVE])?;
+    Work::new(alloc, reads, writes)
+}
+
+// How a job that was released at 10 ends by its commit at a tick, and the mean after it.
+fn end_of(
+    alloc: Global,
+    work: &Work,
+    at: Tick,
+) -> Result<(Result<(), CommitRefused>, Option<Stored>), OutOfMemory>
+    requires { work.now.may_write ≡ MEAN ∷ VALVE ∷ [] }
+{
+    let mut items = Items::new(alloc, &DECLS)?;
+    match group(alloc, TEMP, FLOW, 5) {
+        Ok(pair) => {
+            let together = [pair];
+            let ended = work.commit(&DECLS, &together, &mut items, 10, at);
+            let mean = items.as_slice().get(2).copied();
+            drop(together);
+            drop(items);
+            Ok((ended, mean))
+        }
+        Err(error) => {
+            drop(items);
+            Err(error)
+        }
+    }
+}
+
 // A job that was released at 10 reads the temperature and the flow with these stamps, writes their mean, and commits at a
 // tick: how it ended, and the mean after it.
 fn ended(
@@ -53,16 +88,13 @@ fn ended(
     flow: Tick,
     at: Tick,
 ) -> Result<(Result<(), CommitRefused>, Option<Stored>), OutOfMemory> {
-    let together = [group(alloc, TEMP, FLOW, 5)?];
-    let mut items = Items::new(alloc, &DECLS)?;
-    let reads = Vec::from_array(alloc, [TEMP, FLOW])?;
-    let writes = Vec::from_array(alloc, [MEAN, VALVE])?;
-    let mut work = Work::new(alloc, reads, writes)?;
+    let mut work = fresh(alloc)?;
     work.note_read(TEMP, temp);
     work.note_read(FLOW, flow);
     work.put(MEAN, 4);
-    let ended = work.commit(&DECLS, &together, &mut items, 10, at);
-    Ok((ended, items.as_slice().get(2).copied()))
+    let told = end_of(alloc, &work, at);
+    drop(work);
+    told
 }
 
 fn stale_at(item: ItemId, stamp: Tick) -> Result<(), CommitRefused> {
@@ -89,17 +121,16 @@ fn commits(rt: HostRuntime) -> Result<(), OutOfMemory> {
 
 #[test]
 fn notes(rt: HostRuntime) -> Result<(), OutOfMemory> {
-    let reads = Vec::from_array(rt.alloc(), [TEMP, FLOW])?;
-    let writes = Vec::from_array(rt.alloc(), [MEAN, VALVE])?;
-    let mut work = Work::new(rt.alloc(), reads, writes)?;
-    assert_eq!(rt; work.unwritten(&DECLS), Some(MEAN));
+    let mut work = fresh(rt.alloc())?;
+    assert!(rt; work.unwritten(&DECLS) == Some(MEAN));
     work.put(MEAN, 4);
     work.put(VALVE, 1);
     work.put(MEAN, 5);
-    assert_eq!(rt; work.value_of(MEAN), Some(5));
-    assert_eq!(rt; work.unwritten(&DECLS), None);
+    assert!(rt; work.value_of(MEAN) == Some(5));
+    assert!(rt; work.unwritten(&DECLS) == None);
     work.clear();
-    assert_eq!(rt; work.value_of(VALVE), None);
+    assert!(rt; work.value_of(VALVE) == None);
+    drop(work);
     Ok(())
 }
 
@@ -209,34 +240,77 @@ fn noted(work: &mut Work, plain: &mut Plain, rng: &mut Pcg32, release: Tick) -> 
     same
 }
 
-#[test]
-fn beside_a_plain_scan(rt: HostRuntime) -> Result<(), OutOfMemory> {
-    let alloc = rt.alloc();
-    let reads = Vec::from_array(alloc, [TEMP, FLOW, MEAN])?;
-    let writes = Vec::from_array(alloc, [MEAN, VALVE])?;
-    let mut work = Work::new(alloc, reads, writes)?;
-    let mut items = Items::new(alloc, &DECLS)?;
-    let together = [group(alloc, TEMP, FLOW, 6)?, group(alloc, FLOW, MEAN, 8)?];
+// Whether a job that is released at a tick notes, and ends at another, as the plain one does.
+fn alike(
+    work: &mut Work,
+    items: &mut Items,
+    together: &[TogetherDecl],
+    stored: &mut [Stored; 4],
+    rng: &mut Pcg32,
+    release: Tick,
+) -> bool
+    requires reads { work.old.may_read ≡ TEMP ∷ FLOW ∷ MEAN ∷ [] }
+    requires writes { work.old.may_write ≡ MEAN ∷ VALVE ∷ [] }
+    ensures reads { work.new.may_read ≡ work.old.may_read }
+    ensures writes { work.new.may_write ≡ work.old.may_write }
+{
+    work.clear();
+    let mut plain = Plain {
+        reads: [None; 3],
+        writes: [None; 2],
+    };
+    let told = noted(work, &mut plain, rng, release);
+    let at = release.saturating_add(rng.random_range(0..16u64));
+    let ended = work.commit(&DECLS, together, items, release, at);
+    let wanted = committed(&plain, stored, release, at);
+    told && ended == wanted && items.as_slice() == stored.as_slice()
+}
+
+// The call of 300 at which they are not alike, if there is one.
+fn first_unlike(work: &mut Work, items: &mut Items, together: &[TogetherDecl]) -> Option<u32>
+    requires reads { work.old.may_read ≡ TEMP ∷ FLOW ∷ MEAN ∷ [] }
+    requires writes { work.old.may_write ≡ MEAN ∷ VALVE ∷ [] }
+{
     let mut stored = [Stored { value: 0, stamp: 0 }; 4];
     stored[3].value = 9;
     let mut rng = Pcg32::new(1, 1);
     let mut release = 30;
     for call in 0..300 {
-        work.clear();
-        let mut plain = Plain {
-            reads: [None; 3],
-            writes: [None; 2],
-        };
-        let told = noted(&mut work, &mut plain, &mut rng, release);
-        assert!(rt; told, "call {call}");
-        let at = release.saturating_add(rng.random_range(0..16u64));
-        let ended = work.commit(&DECLS, &together, &mut items, release, at);
-        assert!(rt;
-            ended == committed(&plain, &mut stored, release, at),
-            "call {call}"
-        );
-        assert!(rt; items.as_slice() == stored.as_slice(), "call {call}");
+        if !alike(work, items, together, &mut stored, &mut rng, release) {
+            return Some(call);
+        }
         release = release.saturating_add(rng.random_range(0..9u64));
     }
-    Ok(())
+    None
+}
+
+// Temperature and flow lie within 6, and flow and mean within 8.
+fn groups(alloc: Global) -> Result<[TogetherDecl; 2], OutOfMemory> {
+    let first = group(alloc, TEMP, FLOW, 6)?;
+    match group(alloc, FLOW, MEAN, 8) {
+        Ok(second) => Ok([first, second]),
+        Err(error) => {
+            drop(first);
+            Err(error)
+        }
+    }
+}
+
+#[test]
+fn beside_a_plain_scan(rt: HostRuntime) -> Result<(), OutOfMemory> {
+    let alloc = rt.alloc();
+    let (work, items, together) = (fresh(alloc), Items::new(alloc, &DECLS), groups(alloc));
+    match (work, items, together) {
+        (Ok(mut work), Ok(mut items), Ok(together)) => {
+            assert!(rt; first_unlike(&mut work, &mut items, &together) == None);
+            drop(work);
+            drop(items);
+            drop(together);
+            Ok(())
+        }
+        other => {
+            drop(other);
+            Err(OutOfMemory)
+        }
+    }
 }
