@@ -1,5 +1,5 @@
 //! A job's reads, writes and commit: worked commits, and many beside a plain scan.
-ghost use Rattle.std.specs.Prelude.{◌≡◌, ◌<◌, [], ◌∷◌};
+ghost use Rattle.std.specs.Prelude.{◌≡◌, ◌<◌, [], ◌∷◌, IfOk};
 
 use item_model::{ItemDecl, ItemKind, Items, Stored};
 use rand::RngExt;
@@ -296,21 +296,31 @@ fn groups(alloc: Global) -> Result<[TogetherDecl; 2], OutOfMemory> {
     }
 }
 
-#[test]
-fn beside_a_plain_scan(rt: HostRuntime) -> Result<(), OutOfMemory> {
-    let alloc = rt.alloc();
-    let (work, items, together) = (fresh(alloc), Items::new(alloc, &DECLS), groups(alloc));
-    match (work, items, together) {
-        (Ok(mut work), Ok(mut items), Ok(together)) => {
-            assert!(rt; first_unlike(&mut work, &mut items, &together) == None);
-            drop(work);
-            drop(items);
+// The same of new items and of relative sets.
+fn unlike_over_items(alloc: Global, work: &mut Work) -> Result<Option<u32>, OutOfMemory>
+    requires reads { work.old.may_read ≡ TEMP ∷ FLOW ∷ MEAN ∷ [] }
+    requires writes { work.old.may_write ≡ MEAN ∷ VALVE ∷ [] }
+{
+    let mut items = Items::new(alloc, &DECLS)?;
+    match groups(alloc) {
+        Ok(together) => {
+            let unlike = first_unlike(work, &mut items, &together);
             drop(together);
-            Ok(())
+            drop(items);
+            Ok(unlike)
         }
-        other => {
-            drop(other);
-            Err(OutOfMemory)
+        Err(error) => {
+            drop(items);
+            Err(error)
         }
     }
+}
+
+#[test]
+fn beside_a_plain_scan(rt: HostRuntime) -> Result<(), OutOfMemory> {
+    let mut work = fresh(rt.alloc())?;
+    let unlike = unlike_over_items(rt.alloc(), &mut work);
+    drop(work);
+    assert!(rt; unlike? == None);
+    Ok(())
 }
