@@ -1,3 +1,4 @@
 mod Orders
 mod Ranks
+mod Ranked
 mod Table

@@ -53,13 +53,12 @@ least_within on order tx rank left a least =
       | inr ge ↦ absurd (let no : has_rank left rank ≡ false = a.beyond rank ge in cc (no, least.has))
     ]
 
-pub waiter_below : (on : List (Option TxId)) (order : List TxId) (tx rank : ℕ) (left : RankSet) (waiter : TxId) → IsRanking order → AreRanksOn on order tx left → IsLeastRank left rank → waiter ≡ get_or order rank waiter → (waiter.0 < length order) × (waiter.0 ≡ tx_of order rank)
+pub waiter_below : (on : List (Option TxId)) (order : List TxId) (tx rank : ℕ) (left : RankSet) (waiter : TxId) → IsRanking order → AreRanksOn on order tx left → IsLeastRank left rank → waiter.0 ≡ tx_of order rank → (waiter.0 < length order) × (waiter.0 ≡ tx_of order rank)
 waiter_below on order tx rank left waiter o a least e =
     let lt : rank < length order = least_within on order tx rank left a least in
-    let is : waiter.0 ≡ tx_of order rank = ap (λ (t : TxId). t.0) (get_or_read order rank waiter lt e (record { 0 = 0 })) in
-    (omega (arith, is, o.in_range rank lt), is)
+    (omega (arith, e, o.in_range rank lt), e)
 
-pub ranks_step : (on : List (Option TxId)) (order : List TxId) (tx rank : ℕ) (left left' : RankSet) (waiter : TxId) → length on ≡ length order → IsRanking order → AreRanksOn on order tx left → IsLeastRank left rank → waiter ≡ get_or order rank waiter → Without left left' rank → AreRanksOn (set on waiter.0 None) order tx left'
+pub ranks_step : (on : List (Option TxId)) (order : List TxId) (tx rank : ℕ) (left left' : RankSet) (waiter : TxId) → length on ≡ length order → IsRanking order → AreRanksOn on order tx left → IsLeastRank left rank → waiter.0 ≡ tx_of order rank → Without left left' rank → AreRanksOn (set on waiter.0 None) order tx left'
 ranks_step on order tx rank left left' waiter size o a least e w =
     let lt : rank < length order = least_within on order tx rank left a least in
     let is : (waiter.0 < length order) × (waiter.0 ≡ tx_of order rank) = waiter_below on order tx rank left waiter o a least e in
@@ -86,7 +85,7 @@ unless_not tx None h = refl
 unless_not tx (Some v) h = ap (λ (b : Bool). cond b None (Some v)) h
 
 -- what remains of a wait once those on tx are gone is not changed by a waiter that stops
-pub remains_step : (on : List (Option TxId)) (order : List TxId) (tx rank : ℕ) (left : RankSet) (waiter : TxId) → length on ≡ length order → IsRanking order → AreRanksOn on order tx left → IsLeastRank left rank → waiter ≡ get_or order rank waiter → (t : ℕ) → unless_on tx (on_of (set on waiter.0 None) t) ≡ unless_on tx (on_of on t)
+pub remains_step : (on : List (Option TxId)) (order : List TxId) (tx rank : ℕ) (left : RankSet) (waiter : TxId) → length on ≡ length order → IsRanking order → AreRanksOn on order tx left → IsLeastRank left rank → waiter.0 ≡ tx_of order rank → (t : ℕ) → unless_on tx (on_of (set on waiter.0 None) t) ≡ unless_on tx (on_of on t)
 remains_step on order tx rank left waiter size o a least e t =
     let lt : rank < length order = least_within on order tx rank left a least in
     let is : (waiter.0 < length order) × (waiter.0 ≡ tx_of order rank) = waiter_below on order tx rank left waiter o a least e in

@@ -7,6 +7,7 @@ use Rattle.rt_base.specs.declared.ids.TxId.{TxId}
 use Rattle.rt_base.specs.declared.rank_set.RankSet.{RankSet}
 use Rattle.rt_base.specs.Ranks.{has_rank, IsLeastRank}
 use Rattle.inherit_prio.specs.Waits.{Waiting, prio_of, tx_of, on_of, is_tx, waits, highest_waiter, effective_of, IsOrder, unless_on, no_ranks, ranks_at, IsShallow, AreWaiters, IsTable}
+use Rattle.inherit_prio.specs.Ranks.{IsRanked}
 use Rattle.inherit_prio.proofs.Orders.{same_rank}
 
 abbrev pub table : List ℕ → List TxId → List (Option TxId) → Waiting
@@ -75,13 +76,12 @@ rewait prios order on waiters tx u rank now o b w = record {
   beyond = rewait_beyond prios order on waiters tx u rank now o b w;
 }
 
-rank_is : (prios : List ℕ) (order : List TxId) (on : List (Option TxId)) (ranks : List ℕ) (waiters : List RankSet) (tx rank : ℕ) → IsTable (table prios order on) ranks waiters → tx < length prios → rank ≡ get_or ranks tx rank → (rank < length prios) × (tx_of order rank ≡ tx)
+rank_is : (prios : List ℕ) (order : List TxId) (on : List (Option TxId)) (ranks : List ℕ) (waiters : List RankSet) (tx rank : ℕ) → IsTable (table prios order on) ranks waiters → tx < length prios → rank ≡ get_or ranks tx 0 → (rank < length prios) × (tx_of order rank ≡ tx)
 rank_is prios order on ranks waiters tx rank t lt e =
-    let is : rank ≡ get_or ranks tx 0 = get_or_read ranks tx rank (omega (arith, t.ranks_size)) e 0 in
     let r : (get_or ranks tx 0 < length prios) × (tx_of order (get_or ranks tx 0) ≡ tx) = t.ranked tx lt in
-    (omega (arith, is, r.0), ap (tx_of order) is ∙ r.1)
+    (omega (arith, e, r.0), ap (tx_of order) e ∙ r.1)
 
-pub counted : (prios : List ℕ) (order : List TxId) (on : List (Option TxId)) (ranks : List ℕ) (waiters : List RankSet) (tx rank : ℕ) → IsTable (table prios order on) ranks waiters → tx < length prios → rank ≡ get_or ranks tx rank → (rank < length prios) × (tx_of order rank ≡ tx)
+pub counted : (prios : List ℕ) (order : List TxId) (on : List (Option TxId)) (ranks : List ℕ) (waiters : List RankSet) (tx rank : ℕ) → IsTable (table prios order on) ranks waiters → tx < length prios → rank ≡ get_or ranks tx 0 → (rank < length prios) × (tx_of order rank ≡ tx)
 counted = rank_is
 
 shallow_more : (n : ℕ) (on : List (Option TxId)) (tx u : TxId) → length on ≡ n → tx.0 < n → u.0 < n → (tx.0 ≡ u.0 → ⊥) → on_of on u.0 ≡ None → ((t : ℕ) → on_of on t ≡ Some tx → ⊥) → IsShallow n on → IsShallow n (set on tx.0 (Some u))
@@ -106,7 +106,7 @@ shallow_more n on tx u size lt lu ne free no_waiter s =
     }
 
 pub block_keeps : (prios : List ℕ) (order : List TxId) (on on' : List (Option TxId)) (ranks : List ℕ) (waiters waiters' : List RankSet) (tx u : TxId) (rank : ℕ) (was now : RankSet) → IsTable (table prios order on) ranks waiters → tx.0 < length prios → u.0 < length prios → (tx.0 ≡ u.0 → ⊥) → on_of on tx.0 ≡ None → on_of on u.0 ≡ None → ((t : ℕ) → on_of on t ≡ Some tx → ⊥)
-    → rank ≡ get_or ranks tx.0 rank → was ≡ get_or waiters u.0 was → ((r : ℕ) → has_rank now r ≡ (r == rank || has_rank was r)) → on' ≡ set on tx.0 (Some u) → waiters' ≡ set waiters u.0 now → IsTable (table prios order on') ranks waiters'
+    → rank ≡ get_or ranks tx.0 0 → was ≡ get_or waiters u.0 was → ((r : ℕ) → has_rank now r ≡ (r == rank || has_rank was r)) → on' ≡ set on tx.0 (Some u) → waiters' ≡ set waiters u.0 now → IsTable (table prios order on') ranks waiters'
 block_keeps prios order on on' ranks waiters waiters' tx u rank was now t lt lu ne free u_free no_waiter re we has oe se =
     let ranked : (rank < length prios) × (tx_of order rank ≡ tx.0) = rank_is prios order on ranks waiters tx.0 rank t lt re in
     let there : was ≡ ranks_at waiters u.0 = get_or_read waiters u.0 was (omega (arith, t.waiting.size)) we no_ranks in
@@ -142,7 +142,7 @@ shallow_less n on on' back none s = record {
 }
 
 pub unblock_keeps : (prios : List ℕ) (order : List TxId) (on on' : List (Option TxId)) (ranks : List ℕ) (waiters waiters' : List RankSet) (tx u : TxId) (rank : ℕ) (was now : RankSet) → IsTable (table prios order on) ranks waiters → tx.0 < length prios → on_of on tx.0 ≡ Some u
-    → rank ≡ get_or ranks tx.0 rank → was ≡ get_or waiters u.0 was → ((r : ℕ) → has_rank now r ≡ (not (r == rank) && has_rank was r)) → on' ≡ set on tx.0 None → waiters' ≡ set waiters u.0 now → IsTable (table prios order on') ranks waiters'
+    → rank ≡ get_or ranks tx.0 0 → was ≡ get_or waiters u.0 was → ((r : ℕ) → has_rank now r ≡ (not (r == rank) && has_rank was r)) → on' ≡ set on tx.0 None → waiters' ≡ set waiters u.0 now → IsTable (table prios order on') ranks waiters'
 unblock_keeps prios order on on' ranks waiters waiters' tx u rank was now t lt waits_on_u re we has oe se =
     let ranked : (rank < length prios) × (tx_of order rank ≡ tx.0) = rank_is prios order on ranks waiters tx.0 rank t lt re in
     let lu : u.0 < length prios = t.shallow.in_range tx.0 u waits_on_u in
@@ -240,19 +240,16 @@ none_at (suc n) (suc t) = none_at n t
 pub nobody_waits : (n t : ℕ) (on : List (Option TxId)) → on ≡ replicate n None → on_of on t ≡ None
 nobody_waits n t on e = ap (λ (o : List (Option TxId)). on_of o t) e ∙ none_at n t
 
-pub new_keeps : (prios : List ℕ) (order : List TxId) (on : List (Option TxId)) (ranks : List ℕ) (waiters : List RankSet) (n : ℕ) (empty : RankSet) → length prios ≤ 64 → IsOrder prios order → n ≡ length prios → length ranks ≡ length prios → ((r : ℕ) → r < length prios → get_or ranks (tx_of order r) 0 ≡ r) → on ≡ replicate n None → waiters ≡ replicate n empty → ((r : ℕ) → has_rank empty r ≡ false)
+pub new_keeps : (prios : List ℕ) (order : List TxId) (on : List (Option TxId)) (ranks : List ℕ) (waiters : List RankSet) (n : ℕ) (empty : RankSet) → IsRanked (record { prios = prios; order = order; ranks = ranks }) → n ≡ length prios → on ≡ replicate n None → waiters ≡ replicate n empty → ((r : ℕ) → has_rank empty r ≡ false)
     → IsTable (table prios order on) ranks waiters
-new_keeps prios order on ranks waiters n empty few o size ranks_size ranked oe we nobody =
+new_keeps prios order on ranks waiters n empty h size oe we nobody =
     let nothing : (t r : ℕ) → t < length prios → has_rank (ranks_at waiters t) r ≡ false = (λ t r lt. ap (λ (s : List RankSet). has_rank (ranks_at s t) r) we ∙ ap (λ (s : RankSet). has_rank s r) (get_or-replicate n t empty no_ranks (omega arith)) ∙ nobody r) in
     record {
-      few = few;
-      order = o;
+      few = h.few;
+      order = h.order;
       size = ap length oe ∙ length-replicate n None ∙ size;
-      ranks_size = ranks_size;
-      ranked = λ t lt.
-          (let r : (rank : ℕ) × (rank < length prios) × (tx_of order rank ≡ t) = o.all t lt in
-          let is : get_or ranks t 0 ≡ r.0 = ap (λ (k : ℕ). get_or ranks k 0) (sym r.2) ∙ ranked r.0 r.1 in
-          (omega (arith, is, r.1), ap (tx_of order) is ∙ r.2));
+      ranks_size = h.size;
+      ranked = h.ranked;
       waiting = record {
         size = ap length we ∙ length-replicate n empty ∙ size;
         within = λ t r lt lr. nothing t r lt ∙ sym (ap (λ (p : Option TxId). is_tx p t) (nobody_waits n (tx_of order r) on oe));
@@ -301,7 +298,7 @@ rank_below prios order on ranks waiters tx rank was t lt we least =
     ] in
     (within, t.order.in_range rank within)
 
-pub inherits : (prios : List ℕ) (order : List TxId) (on : List (Option TxId)) (ranks : List ℕ) (waiters : List RankSet) (tx rank own : ℕ) (was : RankSet) → IsTable (table prios order on) ranks waiters → tx < length prios → was ≡ get_or waiters tx was → own ≡ get_or prios tx own → IsLeastRank was rank
+pub inherits : (prios : List ℕ) (order : List TxId) (on : List (Option TxId)) (ranks : List ℕ) (waiters : List RankSet) (tx rank own : ℕ) (was : RankSet) → IsTable (table prios order on) ranks waiters → tx < length prios → was ≡ get_or waiters tx was → own ≡ prio_of prios tx → IsLeastRank was rank
     → effective_of (table prios order on) tx ≡ max own (prio_of prios (tx_of order rank))
 unfolding effective_of
 inherits prios order on ranks waiters tx rank own was t lt we oe least =
@@ -320,15 +317,13 @@ inherits prios order on ranks waiters tx rank own was t lt we oe least =
     let le : highest_waiter (table prios order on) tx (length prios) ≤ prio_of prios (tx_of order rank) = highest_le (table prios order on) tx (length prios) (prio_of prios (tx_of order rank)) above in
     let ge : prio_of prios (tx_of order rank) ≤ highest_waiter (table prios order on) tx (length prios) = highest_at (table prios order on) tx (length prios) (tx_of order rank) in_range.1 (sym (has rank in_range.0) ∙ least.has) in
     let is : highest_waiter (table prios order on) tx (length prios) ≡ prio_of prios (tx_of order rank) = omega arith in
-    let mine : own ≡ prio_of prios tx = get_or_read prios tx own lt oe 0 in
-    ap (λ (k : ℕ). max (prio_of prios tx) k) is ∙ ap (λ (k : ℕ). max k (prio_of prios (tx_of order rank))) (sym mine)
+    ap (λ (k : ℕ). max (prio_of prios tx) k) is ∙ ap (λ (k : ℕ). max k (prio_of prios (tx_of order rank))) (sym oe)
 
-pub inherits_nothing : (prios : List ℕ) (order : List TxId) (on : List (Option TxId)) (ranks : List ℕ) (waiters : List RankSet) (tx own : ℕ) (was : RankSet) → IsTable (table prios order on) ranks waiters → tx < length prios → was ≡ get_or waiters tx was → own ≡ get_or prios tx own → ((r : ℕ) → has_rank was r ≡ false) → own ≡ effective_of (table prios order on) tx
+pub inherits_nothing : (prios : List ℕ) (order : List TxId) (on : List (Option TxId)) (ranks : List ℕ) (waiters : List RankSet) (tx own : ℕ) (was : RankSet) → IsTable (table prios order on) ranks waiters → tx < length prios → was ≡ get_or waiters tx was → own ≡ prio_of prios tx → ((r : ℕ) → has_rank was r ≡ false) → own ≡ effective_of (table prios order on) tx
 unfolding effective_of
 inherits_nothing prios order on ranks waiters tx own was t lt we oe nobody =
     let there : was ≡ ranks_at waiters tx = get_or_read waiters tx was (omega (arith, t.waiting.size)) we no_ranks in
     let none : highest_waiter (table prios order on) tx (length prios) ≡ 0 = highest_none (table prios order on) tx (length prios) (λ v lv.
     (let k : (r : ℕ) × (r < length prios) × (tx_of order r ≡ v) = t.order.all v lv in
     ap (λ (m : ℕ). waits on m tx) (sym k.2) ∙ sym (t.waiting.within tx k.0 lt k.1) ∙ ap (λ (s : RankSet). has_rank s k.0) (sym there) ∙ nobody k.0)) in
-    let mine : own ≡ prio_of prios tx = get_or_read prios tx own lt oe 0 in
-    omega (arith, none, mine)
+    omega (arith, none, oe)

@@ -2,6 +2,8 @@
 #![tactic(auto)]
 
 mod order;
+mod ranking;
 mod waits;
 
+pub use ranking::Ranking;
 pub use waits::Waits;

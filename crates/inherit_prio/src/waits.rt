@@ -1,21 +1,18 @@
 //! The table of waits.
 ghost use Rattle.std.specs.Prelude.{◌≡◌, ◌≢◌, ℕ, ◌+◌, ◌<◌, ◌≤◌, ◌==◌, if◌then◌else◌, length, slice_index_or, Some, None, IfOk, IfSome};
-ghost use Rattle.inherit_prio.specs.Waits.{IsOrder, IsRanking, AreRanksOn, Changes, prio_of, tx_of, on_of, effective_of, freed_at, unless_on};
+ghost use Rattle.inherit_prio.specs.Waits.{IsOrder, AreRanksOn, Changes, prio_of, tx_of, on_of, effective_of, freed_at, unless_on};
 
-use crate::order::{in_order, ranks_of};
+use crate::ranking::Ranking;
 use rt_base::{Looked, OutOfMemory, Prio, RankSet, Steps, TxId};
 use std::alloc::Global;
 use std::marker::{Brand, Model};
 use std::sync::ledger::{Blank, Ledger};
 
-/// Who waits on whom, and the ranks: the places of the transactions in falling priority, from 0. `order` has the
-/// transactions by rank, and `waiters` has for each transaction the ranks of those that wait on it. What a job waits on
-/// waits on nobody, so no chain of waits grows. No call after `new` takes memory.
+/// Who waits on whom, and the ranks of the transactions. `waiters` has for each transaction the ranks of those that wait on
+/// it. What a job waits on waits on nobody, so no chain of waits grows. No call after `new` takes memory.
 #[derive(Drop)]
 pub struct Waits {
-    prios: Looked<Prio>,
-    order: Looked<TxId>,
-    ranks: Looked<u32>,
+    ranking: Ranking,
     on: Looked<Option<TxId>>,
     waiters: Looked<RankSet>,
 }
@@ -25,9 +22,9 @@ impl Model for Waits {
 
     ghost Value = { Waiting };
 
-    ghost view = { λ w. record { prios = w.prios.items; order = w.order.items; on = w.on.items } };
+    ghost view = { λ w. record { prios = w.ranking.prios; order = w.ranking.order; on = w.on.items } };
 
-    ghost invariant = { λ w. IsTable (record { prios = w.prios.items; order = w.order.items; on = w.on.items }) w.ranks.items w.waiters.items };
+    ghost invariant = { λ w. IsTable (record { prios = w.ranking.prios; order = w.ranking.order; on = w.on.items }) w.ranking.ranks w.waiters.items };
 }
 
 impl Waits {
@@ -39,7 +36,14 @@ impl Waits {
         ensures order { IfOk result (λ w. IsOrder prios.items w.order) }
         ensures nobody { IfOk result (λ w. (t : ℕ) → on_of w.on t ≡ None) }
     {
-        Waits::made::<Brand>(alloc, prios, Blank::new(1))
+        let ranking = Ranking::new(alloc, prios)?;
+        let on = Looked::filled(alloc, ranking.len(), None)?;
+        let waiters = Looked::filled(alloc, ranking.len(), RankSet::empty())?;
+        Ok(Waits {
+            ranking,
+            on,
+            waiters,
+        })
     }
 
     /// A transaction waits on another, which waits on nobody. Neither waited, and nobody waits on the first.
@@ -83,13 +87,13 @@ impl Waits {
         ensures greatest { result ≡ effective_of self.now tx.0 }
         ensures looks { steps.new ≤ steps.old + 5 }
     {
-        let own = self.prios.at(tx.0 as usize, steps);
+        let own = self.ranking.prio(tx, steps);
         let waiters = self.waiters.at(tx.0 as usize, steps);
         let Some(rank) = waiters.first(steps) else {
             return own;
         };
-        let waiter = self.order.at(rank as usize, steps);
-        own.max(self.prios.at(waiter.0 as usize, steps))
+        let waiter = self.ranking.tx(rank, steps);
+        own.max(self.ranking.prio(waiter, steps))
     }
 
     /// The transaction with a rank, by at most one look.
@@ -99,7 +103,7 @@ impl Waits {
         ensures in_range { result.0 < length self.now.prios }
         ensures looks { steps.new ≤ steps.old + 1 }
     {
-        self.order.at(rank as usize, steps)
+        self.ranking.tx(rank, steps)
     }
 
     /// The rank of a transaction. It is not counted.
@@ -111,31 +115,6 @@ impl Waits {
         self.counted_rank::<Brand>(tx, Blank::new(1))
     }
 
-    fn made<L: Ledger>(alloc: Global, prios: Vec<Prio>, blank: Blank) -> Result<Waits, OutOfMemory>
-        requires name { blank.name ≡ L.name }
-        requires parts { blank.parts ≡ L.parts }
-        requires one_part { blank.parts ≡ 1 }
-        requires few { length prios.items ≤ 64 }
-        requires distinct { (i j : ℕ) → i < length prios.items → j < length prios.items → prio_of prios.items i ≡ prio_of prios.items j → i ≡ j }
-        ensures prios { IfOk result (λ w. w.prios ≡ prios.items) }
-        ensures order { IfOk result (λ w. IsOrder prios.items w.order) }
-        ensures nobody { IfOk result (λ w. (t : ℕ) → on_of w.on t ≡ None) }
-    {
-        let mut steps = Steps::<L>::start(blank);
-        let prios = Looked::of(prios);
-        let order = in_order(alloc, &prios, &mut steps)?;
-        let ranks = ranks_of(alloc, &prios, &order, &mut steps)?;
-        let on = Looked::filled(alloc, prios.len(), None)?;
-        let waiters = Looked::filled(alloc, prios.len(), RankSet::empty())?;
-        Ok(Waits {
-            prios,
-            order,
-            ranks,
-            on,
-            waiters,
-        })
-    }
-
     fn counted_rank<L: Ledger>(&self, tx: TxId, blank: Blank) -> u32
         requires name { blank.name ≡ L.name }
         requires parts { blank.parts ≡ L.parts }
@@ -145,7 +124,7 @@ impl Waits {
         ensures rank { tx_of self.now.order result ≡ tx.0 }
     {
         let mut steps = Steps::<L>::start(blank);
-        self.ranks.at(tx.0 as usize, &mut steps)
+        self.ranking.rank(tx, &mut steps)
     }
 
     fn set_on<L: Ledger>(&mut self, tx: TxId, on: TxId, blank: Blank)
@@ -161,7 +140,7 @@ impl Waits {
         ensures { Changes self.old self.new (λ t. if t == tx.0 then Some on else on_of self.old.on t) }
     {
         let mut steps = Steps::<L>::start(blank);
-        let rank = self.ranks.at(tx.0 as usize, &mut steps);
+        let rank = self.ranking.rank(tx, &mut steps);
         let waiters = self.waiters.at(on.0 as usize, &mut steps);
         self.on.set(tx.0 as usize, Some(on));
         self.waiters.set(on.0 as usize, waiters.with(rank));
@@ -176,13 +155,13 @@ impl Waits {
     {
         let mut steps = Steps::<L>::start(blank);
         if let Some(other) = self.on.at(on.0 as usize, &mut steps) {
-            let rank = self.ranks.at(on.0 as usize, &mut steps);
+            let rank = self.ranking.rank(on, &mut steps);
             let waiters = self.waiters.at(other.0 as usize, &mut steps);
             self.waiters.set(other.0 as usize, waiters.without(rank));
             self.on.set(on.0 as usize, None);
         } else {
             let waiters = self.waiters.at(on.0 as usize, &mut steps);
-            stop_waiting(&mut self.on, &self.order, on, waiters, &mut steps);
+            stop_waiting(&mut self.on, &self.ranking, on, waiters, &mut steps);
             self.waiters.set(on.0 as usize, RankSet::empty());
         }
     }
@@ -192,20 +171,20 @@ impl Waits {
 /// these alone.
 fn stop_waiting<L: Ledger>(
     on: &mut Looked<Option<TxId>>,
-    order: &Looked<TxId>,
+    ranking: &Ranking,
     tx: TxId,
     waiters: RankSet,
     steps: &mut Steps<L>,
 )
-    requires size { length on.old.items ≡ length order.now.items }
-    requires ranking { IsRanking order.now.items }
-    requires waiters { AreRanksOn on.old.items order.now.items tx.0 waiters }
+    requires size { length on.old.items ≡ length ranking.now.prios }
+    requires waiters { AreRanksOn on.old.items ranking.now.order tx.0 waiters }
     ensures size { length on.new.items ≡ length on.old.items }
     ensures freed { (t : ℕ) → on_of on.new.items t ≡ unless_on tx.0 (on_of on.old.items t) }
 {
+    ranking.is_ranked();
     let mut left = waiters;
     while let Some(rank) = left.first(steps) {
-        let waiter = order.at(rank as usize, steps);
+        let waiter = ranking.tx(rank, steps);
         on.set(waiter.0 as usize, None);
         left = left.without(rank);
     }
