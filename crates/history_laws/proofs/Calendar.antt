@@ -9,6 +9,7 @@ use Rattle.std.specs.List.{fold, filter}
 use Rattle.rt_base.specs.declared.ids.JobId.{JobId}
 use Rattle.std.proofs.Math.ListN.{get_or-map}
 use Rattle.std.specs.Prelude.{nat_lt}
+use Rattle.txn_set.specs.declared.decl.TxnDecl.{TxnDecl}
 use Rattle.txn_set.specs.Set.{Set, no_txn, txn_of, IsCompiled, HasGoodTimes}
 use Rattle.step_journal.specs.State.{State, Row, row_of, prio, new_row, pending}
 use Rattle.rt_base.specs.declared.release.Plans.{Plans}
@@ -58,6 +59,18 @@ pub record Calendar (set : Set) (refused : JobId → Bool) (t : ℕ) (s : State)
 pub times_at : (set : Set) (n : ℕ) → IsCompiled set → n < length set.txns → HasGoodTimes (txn_of set n)
 times_at set n ok lt = ok.times n _ lt
 
+-- of a compiled set, transactions of one priority are one, and so the priorities are distinct
+
+pub same_number : (set : Set) → IsCompiled set → (m n : ℕ) → m < length set.txns → n < length set.txns → (txn_of set m).prio ≡ (txn_of set n).prio → m ≡ n
+same_number set ok m n a b e =
+    elim (cases_order m n) [ inl same ↦ same | inr o ↦ elim o [ inl lt ↦ absurd (ok.prios m n no_txn lt b e) | inr gt ↦ absurd (ok.prios n m no_txn gt a (sym e)) ] ]
+
+pub distinct : (set : Set) (prios : List ℕ) → IsCompiled set → prios ≡ map (λ t. t.prio) set.txns → (i j : ℕ) → i < length prios → j < length prios → get_or prios i 0 ≡ get_or prios j 0 → i ≡ j
+distinct set prios ok is i j li lj e =
+    let size : length prios ≡ length set.txns = ap length is ∙ length-map set.txns (λ t. t.prio) in
+    let at : (n : ℕ) → get_or prios n 0 ≡ (txn_of set n).prio = λ n. ap (λ (l : List ℕ). get_or l n 0) is ∙ get_or-map (λ (t : TxnDecl). t.prio) set.txns n no_txn in
+    same_number set ok i j (omega (arith, li, size)) (omega (arith, lj, size)) (sym (at i) ∙ (e ∙ at j))
+
 pub named_from : (set : Set) (rows : List (Option Row)) → IsCompiled set → Frame set rows → AreNamed set rows
 named_from set rows ok frame = record {
   named = frame.named;
@@ -66,10 +79,7 @@ named_from set rows ok frame = record {
       let a : x.job.tx.0 < length set.txns = omega (arith, in_range rows _ x hx, frame.count) in
       let b : y.job.tx.0 < length set.txns = omega (arith, in_range rows _ y hy, frame.count) in
       same_number set ok x.job.tx.0 y.job.tx.0 a b e;
-} where
-  same_number : (set : Set) → IsCompiled set → (m n : ℕ) → m < length set.txns → n < length set.txns → (txn_of set m).prio ≡ (txn_of set n).prio → m ≡ n
-  same_number set ok m n a b e =
-      elim (cases_order m n) [ inl same ↦ same | inr o ↦ elim o [ inl lt ↦ absurd (ok.prios m n no_txn lt b e) | inr gt ↦ absurd (ok.prios n m no_txn gt a (sym e)) ] ]
+}
 
 pub deadline_le : (set : Set) (rows : List (Option Row)) (x : Row) → IsCompiled set → Frame set rows → IsPending rows x → deadline_of set x.job ≤ period_of set x.job
 deadline_le set rows x ok frame h = (times_at set x.job.tx.0 ok (omega (arith, in_range rows _ x h, frame.count))).deadline.1

@@ -1,4 +1,4 @@
-mod Orders
+pub mod Orders
 mod Ranks
 mod Ranked
 mod Table

@@ -20,18 +20,6 @@ use Rattle.pending_jobs.specs.Rows.{Accesses, AreRows, ceil_row, accesses_of}
 use Rattle.pending_jobs.specs.Tables.{head_at, row_at, row_by, rows_by, row_lock, no_job, waited_job, opening_job, access_of, IsTable}
 use Rattle.pending_jobs.proofs.RowsBy.{rows_are, rows_at}
 
--- the priorities of a compiled set are distinct
-pub distinct : (set : Set) (ps : List ℕ) → IsCompiled set → ps ≡ map (λ t. t.prio) set.txns → (i j : ℕ) → i < length ps → j < length ps → get_or ps i 0 ≡ get_or ps j 0 → i ≡ j
-distinct set ps ok is i j li lj e =
-    let size : length ps ≡ length set.txns = ap length is ∙ length-map set.txns (λ t. t.prio) in
-    let at : (n : ℕ) → get_or ps n 0 ≡ (txn_of set n).prio = λ n. ap (λ (l : List ℕ). get_or l n 0) is ∙ get_or-map (λ (t : TxnDecl). t.prio) set.txns n no_txn in
-    let same : (txn_of set i).prio ≡ (txn_of set j).prio = sym (at i) ∙ (e ∙ at j) in
-    elim (cases_order i j) [
-      | inl q ↦ q
-      | inr (inl lt) ↦ absurd (ok.prios i j no_txn lt (omega (arith, size)) same)
-      | inr (inr gt) ↦ absurd (ok.prios j i no_txn gt (omega (arith, size)) (sym same))
-    ]
-
 module _ (set : Set) (heads : List (Option Head)) (works : List Job) (on : List (Option TxId)) (empty : heads ≡ map (λ t. None) set.txns) where
   no_head : (tx : ℕ) → head_at heads tx ≡ None
   no_head tx = ap (λ (l : List (Option Head)). get_or l tx None) empty ∙ get_or-map (λ (t : TxnDecl). None) set.txns tx no_txn

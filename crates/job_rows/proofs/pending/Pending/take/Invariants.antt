@@ -1,0 +1,4 @@
+use Rattle.job_rows.proofs.pending.Pending.take.Given as goal
+
+abbrev pub ghosts-rank_of : goal.ghosts-rank_of
+ghosts-rank_of a = record { name = a.blank.name; parts = a.blank.parts }
