@@ -1,7 +1,8 @@
 -- The place of a name.
-use Rattle.std.proofs.Common.{◌≡◌, ℕ, suc, ◌+◌, ◌<◌, ◌≤◌, Bool, true, false, not, ltb, cond, List, [], ◌∷◌, ◌++◌, map, length, get_or, Option, Some, None, take, refl, sym, ap, ◌∙◌, arith, bytes_eq}
+use Rattle.std.proofs.Common.{◌≡◌, ℕ, zero, suc, ◌+◌, ◌<◌, ◌≤◌, Bool, true, false, not, ltb, cond, List, [], ◌∷◌, ◌++◌, map, length, get_or, Option, Some, None, take, refl, sym, ap, ◌∙◌, arith, bytes_eq}
 use Rattle.std.specs.Prelude.{position, ◌||◌, if◌then◌else◌}
-use Rattle.std.specs.List.{position_or_len, list_any}
+use Rattle.std.specs.List.{position_or_len, list_any, AllByRecursion, IsDistinct}
+use Rattle.std.proofs.lemmas.Map.Keys.{IsDistinct-head, IsDistinct-tail}
 use Rattle.std.specs.Cmp.Lexicographic.{nat_list_eq_equiv}
 use Rattle.std.proofs.lemmas.List.{length-map, map_push, length-take-le, get_or-take, get_or_default}
 use Rattle.std.proofs.lemmas.List.Quantifiers.{position-Some}
@@ -77,6 +78,32 @@ place_at names i lt once =
     apart : {a b : List ℕ} (r : Bool) → bytes_eq a b ≡ r → (a ≡ b → ⊥) → r ≡ false
     apart {a} {b} true e h = absurd (h ((bytes_eq-Decides a b).0 e))
     apart false e h = refl
+
+-- keys that differ: what one is written as stands at its own place alone
+module _ {X : Type 0} (text : X → List ℕ) (eq : X → X → Bool) (eq_is : (a b : X) → eq a b ≡ bytes_eq (text a) (text b)) where
+  each_at : (P : X → Type 0) (keys : List X) (i : ℕ) (d : X) → AllByRecursion P keys → i < length keys → P (get_or keys i d)
+  each_at P [] i d a lt = absurd (omega arith)
+  each_at P (x ∷ xs) zero d a lt = a.0
+  each_at P (x ∷ xs) (suc i) d a lt = each_at P xs i d a.1 (omega arith)
+
+  texts_differ : (keys : List X) (k i : ℕ) (d : X) → IsDistinct eq keys → k < i → i < length keys
+      → bytes_eq (text (get_or keys i d)) (text (get_or keys k d)) ≡ false
+  texts_differ [] k i d h less lt = absurd (omega arith)
+  texts_differ (x ∷ xs) k zero d h less lt = absurd (omega arith)
+  texts_differ (x ∷ xs) zero (suc i) d h less lt =
+      nat_list_eq_equiv.symm (text (get_or xs i d)) (text x)
+      ∙ (sym (eq_is x (get_or xs i d)) ∙ each_at (λ y. eq x y ≡ false) xs i d (IsDistinct-head eq x xs h) (omega arith))
+  texts_differ (x ∷ xs) (suc k) (suc i) d h less lt = texts_differ xs k i d (IsDistinct-tail eq x xs h) (omega arith) (omega arith)
+
+  pub place_of_key : (keys : List X) (i : ℕ) (d : X) (name : List ℕ) → IsDistinct eq keys → i < length keys
+      → text (get_or keys i d) ≡ name → place_in (map text keys) name ≡ Some i
+  place_of_key keys i d name h lt same =
+      let at : position_or_len (λ x. bytes_eq name (text x)) keys ≡ i =
+      position_or_len_is (λ x. bytes_eq name (text x)) keys i d (omega arith)
+      (λ k less. ap (λ (n : List ℕ). bytes_eq n (text (get_or keys k d))) (sym same) ∙ texts_differ keys k i d h less lt)
+      (λ more. (bytes_eq-Decides name (text (get_or keys i d))).1 (sym same)) in
+      sym (place_by_keys text name keys) ∙ ap (λ (n : ℕ). cond (ltb n (length keys)) (Some n) None) at
+      ∙ ap (λ (b : Bool). cond b (Some i) None) (lt-ltb i (length keys) lt)
 
 -- what stands at a place
 pub place_is : (names : List (List ℕ)) (name : List ℕ) (i : ℕ) → place_in names name ≡ Some i

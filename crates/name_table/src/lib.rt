@@ -10,11 +10,15 @@ use rt_base::{List, Name, Names, OutOfMemory};
 use std::alloc::Global;
 use std::marker::Model;
 
+// How many guesses there are.
+const GUESSES: usize = 256;
+
 // Names as keys of a hash set, in the order in which they came, each once, and at most 2^32 of them. The number of a name is
-// its place among them.
+// its place among them. A guess tells where a name is looked for first: the place of the last one that ends alike.
 #[derive(Drop)]
 struct Numbers {
     names: IndexSet<Vec<u8>>,
+    guesses: [u32; GUESSES],
 }
 
 impl Model for Numbers {
@@ -27,19 +31,37 @@ impl Model for Numbers {
     ghost invariant = { λ n. length n.names.keys ≤ 2 ^ 32 };
 }
 
+// By what it ends with, a name's guess: names often differ in two digits at their end.
+fn ending(name: &[u8]) -> usize
+    ensures { result < 256 }
+{
+    match name {
+        [] => 0,
+        [last] => *last as usize,
+        [.., before, last] => (10 * *before as usize + *last as usize) % GUESSES,
+    }
+}
+
 impl Numbers {
     fn new(alloc: Global) -> Numbers
         ensures { result ≡ [] }
     {
         Numbers {
             names: IndexSet::new(alloc),
+            guesses: [0; GUESSES],
         }
     }
 
+    // One comparison where the guess is right, else one look-up in the hash map.
     fn place(&self, name: &[u8]) -> Option<u32>
         ensures at { result ≡ place_in self.now name.now }
         ensures below { IfSome result (λ i. i < length self.now) }
     {
+        let keys = self.names.as_slice();
+        let guess = self.guesses[ending(name)] as usize;
+        if guess < keys.len() && keys[guess].as_slice() == name {
+            return Some(guess as u32);
+        }
         match self.names.get_index_of(name) {
             Some(at) => Some(at as u32),
             None => None,
@@ -53,7 +75,9 @@ impl Numbers {
         ensures added { OnOk result (self.new ≡ self.old ++ name.now ∷ []) }
         ensures kept { OnErr result (self.new ≡ self.old) }
     {
+        let place = self.names.len() as u32;
         self.names.insert(Vec::from_slice(alloc, name)?)?;
+        self.guesses[ending(name)] = place;
         Ok(())
     }
 }
@@ -107,7 +131,7 @@ impl NameTable {
         self.names.len()
     }
 
-    /// The number of a name, by one look-up in a hash map; None exactly where it is not in the table.
+    /// The number of a name, by one comparison or one look-up in a hash map; None exactly where it is not in the table.
     pub fn place(&self, name: &[u8]) -> Option<u32>
         ensures at { result ≡ place_in self.now name.now }
         ensures below { IfSome result (λ i. i < length self.now) }
@@ -188,7 +212,7 @@ impl NameTables {
         }
     }
 
-    /// The number of an item's name, by one look-up in a hash map; None exactly where no item has it.
+    /// The number of an item's name, by one comparison or one look-up in a hash map; None exactly where no item has it.
     pub fn item(&self, name: &[u8]) -> Option<u32>
         ensures at { result ≡ place_in self.now.items name.now }
         ensures below { IfSome result (λ i. i < length self.now.items) }
@@ -196,7 +220,7 @@ impl NameTables {
         self.items.place(name)
     }
 
-    /// The number of a transaction's name, by one look-up in a hash map; None exactly where no transaction has it.
+    /// The number of a transaction's name, by one comparison or one look-up in a hash map; None exactly where no transaction has it.
     pub fn txn(&self, name: &[u8]) -> Option<u32>
         ensures at { result ≡ place_in self.now.txns name.now }
         ensures below { IfSome result (λ i. i < length self.now.txns) }
