@@ -8,6 +8,7 @@ use board::{Board, IdleReply, StepReply};
 use rt_base::{ItemId, Op, Tick, TxId, Value};
 use shared_plant::{Plant, Seat, Tried};
 use std::alloc::Global;
+use std::fmt::Debug;
 use std::sync::Wait;
 use step_journal::Entry;
 
@@ -100,6 +101,14 @@ pub enum Ask {
     Front,
 }
 
+fn text<T: Debug>(alloc: Global, told: &T) -> Option<String> {
+    format!(in alloc; "{told:?}").ok()
+}
+
+fn grant_text(alloc: Global, granted: bool) -> Option<String> {
+    format!(in alloc; "granted {granted}").ok()
+}
+
 // What is told at a seat. None where it is none of a transaction that steps.
 fn told<R: Wait, B: Board>(
     rt: &R,
@@ -114,28 +123,16 @@ fn told<R: Wait, B: Board>(
     match ask {
         Ask::Plan(tx, tick) => {
             let granted = tx.0 < 3 && is_planned(plant, seat, tx, tick);
-            format!(in alloc; "granted {granted}").ok()
+            grant_text(alloc, granted)
         }
-        Ask::Peek => {
-            let stored = peeked(plant, seat);
-            format!(in alloc; "{stored:?}").ok()
-        }
-        Ask::Front => {
-            let front = seat.front();
-            format!(in alloc; "{front}").ok()
-        }
+        Ask::Peek => text(alloc, &peeked(plant, seat)),
+        Ask::Front => text(alloc, &seat.front()),
         Ask::Step(serial, op) => match seat.tx() {
-            Some(_) => {
-                let reply = replied(plant, seat, serial, op);
-                format!(in alloc; "{reply:?}").ok()
-            }
+            Some(_) => text(alloc, &replied(plant, seat, serial, op)),
             None => None,
         },
         Ask::Wait(serial, op) => match seat.tx() {
-            Some(_) => {
-                let reply = waited(rt, plant, seat, serial, op);
-                format!(in alloc; "{reply:?}").ok()
-            }
+            Some(_) => text(alloc, &waited(rt, plant, seat, serial, op)),
             None => None,
         },
     }
@@ -151,6 +148,11 @@ impl<B: Board> House<B> {
             "logger" => told(rt, alloc, &self.plant, &mut self.logger, ask),
             _ => None,
         }
+    }
+
+    /// Plans each of these, the transaction and the tick. Whether all were granted.
+    pub fn plan(&mut self, plans: &[(u32, Tick)]) -> bool {
+        plan_each(&self.plant, &mut self.operator, plans)
     }
 
     /// How many entries were drained, at most so many.

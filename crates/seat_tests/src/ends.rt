@@ -74,11 +74,13 @@ fn ended(alloc: Global, set: &CompiledSet, history: &[Entry], tx: TxId) -> Optio
     for entry in history {
         make(&mut board, call_of(*entry));
     }
-    if (tx.0 as usize) < board.set().txns().len() {
+    let ended = if (tx.0 as usize) < board.set().txns().len() {
         Some(board.ended(tx))
     } else {
         None
-    }
+    };
+    drop(board);
+    ended
 }
 
 /// How the jobs of a transaction ended in a history of this set.

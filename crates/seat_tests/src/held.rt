@@ -217,28 +217,33 @@ fn is_told<B: Board>(plant: &Plant<B>, seat: &mut Seat<B>) -> (bool, bool)
 // the first was answered, both tries were told Busy, and the controller's peek and step are answered after it.
 fn told_by_two<R: Threads, B: Board + Send + Drop>(
     rt: &R,
-    house: House<Held<B>>,
+    house: House<B>,
     stage: &AtomicU64,
 ) -> [bool; 4] {
     let House {
         plant,
-        operator: _,
+        operator,
         sample,
         control,
-        logger: _,
+        logger,
     } = house;
-    let ((_, peeked), (mut control, busy)) = join(
+    drop(operator);
+    drop(logger);
+    let ((sample, peeked), (mut control, busy)) = join(
         rt,
-        || -> (Seat<Held<B>>, bool)
+        || -> (Seat<B>, bool)
             requires { IsOf plant sample × (0 < length plant.set.items) }
             ensures { (result.0.plant ≡ sample.plant) × (result.0.tx ≡ sample.tx) }
         { peek_as(&plant, sample) },
-        || -> (Seat<Held<B>>, bool)
+        || -> (Seat<B>, bool)
             requires { IsOf plant control × (0 < length plant.set.items) }
             ensures { (result.0.plant ≡ control.plant) × (result.0.tx ≡ control.tx) }
         { try_as(&plant, control, stage) },
     );
+    drop(sample);
     let (again, stepped) = is_told(&plant, &mut control);
+    drop(control);
+    drop(plant);
     [peeked, busy, again, stepped]
 }
 
@@ -248,11 +253,10 @@ pub fn told_while_held<R: Threads, B: Opens + Send + Drop>(
     alloc: Global,
     set: &CompiledSet,
 ) -> Option<[bool; 4]> {
-    let board = B::open(alloc, set)?;
     let stage = Arc::new(alloc, AtomicU64::new(0)).ok()?;
     let inside = Arc::try_clone(&stage).ok()?;
     let board = Held {
-        board,
+        board: B::open(alloc, set)?,
         stage: inside,
     };
     let house = house_over(alloc, board)?;

@@ -87,16 +87,25 @@ fn fresh_seat<B: Board>(plant: &Plant<B>, seats: &mut Vec<Seat<B>>) -> Option<Se
     }
 }
 
+// The last two seats of a list, the last one first.
+fn two_seats<B: Board>(plant: &Plant<B>, seats: &mut Vec<Seat<B>>) -> Option<(Seat<B>, Seat<B>)>
+    requires { AreFresh plant.now seats.old.items }
+    ensures { IfSome result (λ s. IsFresh plant.now s.0 × IsFresh plant.now s.1 × AreFresh plant.now seats.new.items) }
+{
+    let last = fresh_seat(plant, seats)?;
+    let before = fresh_seat(plant, seats)?;
+    Some((last, before))
+}
+
 /// A plant over a board with an empty history, whose seats have made no call.
 pub fn house_over<B: Board + Drop>(alloc: Global, board: B) -> Option<House<B>>
     requires { B.stands board [] }
     ensures { IfSome result (λ h. IsFresh h.plant h.sample × IsFresh h.plant h.control × IsFresh h.plant h.logger) }
 {
     let (plant, mut seats) = started(alloc, board)?;
-    let operator = fresh_seat(&plant, &mut seats)?;
-    let logger = fresh_seat(&plant, &mut seats)?;
-    let control = fresh_seat(&plant, &mut seats)?;
-    let sample = fresh_seat(&plant, &mut seats)?;
+    let (operator, logger) = two_seats(&plant, &mut seats)?;
+    let (control, sample) = two_seats(&plant, &mut seats)?;
+    drop(seats);
     match operator.tx() {
         Some(_) => None,
         None => Some(House {
@@ -149,6 +158,41 @@ fn seats_of<B: Board>(
     Some(seats)
 }
 
+fn let_go<B: Board + Drop>(refused: CloseRefused<B>) {
+    let CloseRefused {
+        plant,
+        seats,
+        have: _,
+        need: _,
+    } = refused;
+    drop(plant);
+    drop(seats);
+}
+
+// The board of a plant that was not closed without this seat, and what was answered then.
+fn closed_with<B: Board + Drop>(
+    refused: CloseRefused<B>,
+    seat: Seat<B>,
+) -> Option<(usize, usize, B)>
+    requires { AreOf refused.plant refused.seats × IsOf refused.plant seat }
+{
+    let CloseRefused {
+        plant,
+        seats,
+        have,
+        need,
+    } = refused;
+    let mut seats = seats.into_vec();
+    put(&plant, &mut seats, seat).ok()?;
+    match plant.close(seats) {
+        Ok(board) => Some((have, need, board)),
+        Err(refused) => {
+            let_go(refused);
+            None
+        }
+    }
+}
+
 /// The board of a plant that all seats close; before them, all but the logger's, and what was answered then.
 pub fn closed<B: Board + Drop>(alloc: Global, house: House<B>) -> Option<(usize, usize, B)> {
     let House {
@@ -162,24 +206,5 @@ pub fn closed<B: Board + Drop>(alloc: Global, house: House<B>) -> Option<(usize,
     let Err(refused) = plant.close(seats) else {
         return None;
     };
-    let CloseRefused {
-        plant,
-        seats,
-        have,
-        need,
-    } = refused;
-    let mut seats = seats.into_vec();
-    put(&plant, &mut seats, logger).ok()?;
-    match plant.close(seats) {
-        Ok(board) => Some((have, need, board)),
-        Err(refused) => {
-            let CloseRefused {
-                plant: _,
-                seats: _,
-                have: _,
-                need: _,
-            } = refused;
-            None
-        }
-    }
+    closed_with(refused, logger)
 }

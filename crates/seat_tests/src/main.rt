@@ -30,6 +30,8 @@ use step_journal::Entry;
 use test_sets::{Told, declared, entry_of};
 use told::{has_told, history_of, is_legal};
 use turns::{Turned, take_turns};
+use txn_set::CompiledSet;
+use txn_threads::RunStop;
 use workers::{case_of, counts, ran};
 
 // The set, the plant of the last line that made one, the entries that were drained of it, and those of the last run.
@@ -47,7 +49,8 @@ fn declare<B: Board>(alloc: Global, scene: &mut Scene<B>, line: &str) -> Option<
     scene.head.push_str(line).ok()?;
     scene.head.push_str("\n").ok()?;
     if line.starts_with("mode") {
-        scene.told = Some(declared(alloc, scene.head.as_str())?);
+        let told = declared(alloc, scene.head.as_str())?;
+        drop(scene.told.replace(told));
     }
     Some(String::new(alloc))
 }
@@ -85,22 +88,24 @@ fn asked<R: Wait, B: Board>(
 }
 
 // Drains so many entries at most, behind those that were drained before.
-fn drain<B: Board>(alloc: Global, scene: &mut Scene<B>, most: usize) -> Option<String> {
+fn drain<B: Board>(alloc: Global, scene: &mut Scene<B>, most: &str) -> Option<String> {
+    let most = most.parse::<usize>().ok()?;
     let count = scene.house.as_mut()?.drain(most, &mut scene.drained);
     let drained = scene.drained.as_slice();
     format!(in alloc; "{count:?} {drained:?}").ok()
 }
 
-fn close<B: Board + Drop>(alloc: Global, house: House<B>) -> Option<String> {
-    let (have, need, board) = closed(alloc, house)?;
+fn close<B: Board + Drop>(alloc: Global, scene: &mut Scene<B>) -> Option<String> {
+    let (have, need, board) = closed(alloc, scene.house.take()?)?;
     let (first, left) = (board.first(), board.entries().len());
+    drop(board);
     format!(in alloc;
         "{have} seats where {need} are needed; then {first} entries gone, {left} left"
     ).ok()
 }
 
 // Whether in the history stands once what each seat was told that it had appended, and nothing else but the seven plans.
-fn told_once(alloc: Global, history: &[Entry], kept: [Vec<Entry>; 3]) -> Option<[bool; 4]> {
+fn told_once(alloc: Global, history: &[Entry], kept: &[Vec<Entry>; 3]) -> Option<[bool; 4]> {
     let [sampled, controlled, logged] = kept;
     let sample = has_told(alloc, history, 0, sampled.as_slice())?;
     let control = has_told(alloc, history, 1, controlled.as_slice())?;
@@ -110,18 +115,56 @@ fn told_once(alloc: Global, history: &[Entry], kept: [Vec<Entry>; 3]) -> Option<
     Some([sample, control, logger, all])
 }
 
+// Whether a history is legal, and whether it has what each seat was told.
+fn judged(
+    alloc: Global,
+    set: &CompiledSet,
+    history: Option<Vec<Entry>>,
+    kept: &[Vec<Entry>; 3],
+) -> Option<(bool, [bool; 4])> {
+    let history = history?;
+    let legal = is_legal(alloc, set, history.as_slice())?;
+    let once = told_once(alloc, history.as_slice(), kept)?;
+    Some((legal, once))
+}
+
 // Whether what was drained and what was kept is one legal history, whatever the schedule was.
-fn told_each<B: Board + Drop>(alloc: Global, told: &Told, turned: Turned<B>) -> Option<String> {
+fn told_each<B: Board + Drop>(
+    alloc: Global,
+    set: &CompiledSet,
+    turned: Turned<B>,
+) -> Option<String> {
     let Turned {
         drained,
         kept,
         board,
     } = turned;
     let all_drained = board.first() == drained.len() as u64;
-    let history = history_of(drained, &board)?;
-    let legal = is_legal(alloc, &told.set, history.as_slice())?;
-    let once = told_once(alloc, history.as_slice(), kept)?;
+    let history = history_of(drained, &board);
+    drop(board);
+    let judged = judged(alloc, set, history, &kept);
+    drop(kept);
+    let (legal, once) = judged?;
     format!(in alloc; "drained {all_drained}, legal {legal}, told once {once:?}").ok()
+}
+
+// What a run of workers on a new plant answers, and the entries that its out took.
+fn run_of<R: Threads + Wait + Sync, B: Opens + Send + Drop>(
+    rt: &R,
+    alloc: Global,
+    set: &CompiledSet,
+    words: &str,
+) -> Option<(Result<(), RunStop>, Vec<Entry>)> {
+    let (number, rest) = words.split_once(' ')?;
+    let (most, name) = rest.split_once(' ')?;
+    let number = number.parse::<u32>().ok()?;
+    let most = most.parse::<usize>().ok()?;
+    let house = new_house::<B>(alloc, set)?;
+    let Ok(case) = case_of(alloc, name, most) else {
+        drop(house);
+        return None;
+    };
+    ran(rt, alloc, house, number, case).ok()
 }
 
 // A run of so many workers with an out that takes so many entries.
@@ -131,17 +174,10 @@ fn run<R: Threads + Wait + Sync, B: Opens + Send + Drop>(
     scene: &mut Scene<B>,
     words: &str,
 ) -> Option<String> {
-    let (number, rest) = words.split_once(' ')?;
-    let (most, name) = rest.split_once(' ')?;
-    let number = number.parse::<u32>().ok()?;
-    let case = case_of(alloc, name, most.parse::<usize>().ok()?).ok()?;
     let Some(told) = &scene.told else {
         return None;
     };
-    let house = new_house::<B>(alloc, &told.set)?;
-    let Ok((answer, entries)) = ran(rt, alloc, house, number, case) else {
-        return None;
-    };
+    let (answer, entries) = run_of::<R, B>(rt, alloc, &told.set, words)?;
     scene.entries = entries;
     format!(in alloc; "{answer:?}").ok()
 }
@@ -215,6 +251,26 @@ fn jobs(alloc: Global, entries: &[Entry], tx: &str, end: End) -> Option<String> 
     format!(in alloc; "{ends} of {plans}").ok()
 }
 
+// The plant that is asked from now on.
+fn settle<B: Board + Drop>(alloc: Global, scene: &mut Scene<B>, house: House<B>) -> Option<String> {
+    let Ok(drained) = Vec::with_capacity(alloc, 16) else {
+        drop(house);
+        return None;
+    };
+    scene.drained = drained;
+    drop(scene.house.replace(house));
+    Some(String::new(alloc))
+}
+
+fn pair_text<R: Threads, B: Opens + Send + Drop>(
+    rt: &R,
+    alloc: Global,
+    house: House<B>,
+) -> Option<String> {
+    let said = planned_by_two(rt, alloc, house)?;
+    format!(in alloc; "{said:?}").ok()
+}
+
 // A new plant, and what becomes of it.
 fn with_house<R: Threads + Wait + Sync, B: Opens + Send + Drop>(
     rt: &R,
@@ -227,16 +283,26 @@ fn with_house<R: Threads + Wait + Sync, B: Opens + Send + Drop>(
     };
     let house = new_house::<B>(alloc, &told.set)?;
     match word {
-        "pair" => {
-            let said = planned_by_two(rt, alloc, house)?;
-            format!(in alloc; "{said:?}").ok()
-        }
-        "turns" => told_each(alloc, told, take_turns(rt, alloc, house)?),
-        _ => {
-            scene.drained = Vec::with_capacity(alloc, 16).ok()?;
-            scene.house = Some(house);
-            Some(String::new(alloc))
-        }
+        "pair" => pair_text(rt, alloc, house),
+        "turns" => told_each(alloc, &told.set, take_turns(rt, alloc, house)?),
+        _ => settle(alloc, scene, house),
+    }
+}
+
+// Does what a line says of a run, or tells of the last one.
+fn follow_run<R: Threads + Wait + Sync, B: Opens + Send + Drop>(
+    rt: &R,
+    alloc: Global,
+    scene: &mut Scene<B>,
+    word: &str,
+    rest: &str,
+) -> Option<String> {
+    match word {
+        "held" => held_text(rt, alloc, scene),
+        "run" => run(rt, alloc, scene, rest),
+        "hostile" => run_hostile(rt, alloc, scene),
+        "ends" => ends_text(alloc, scene, rest),
+        _ => seen(alloc, scene.entries.as_slice(), word, rest),
     }
 }
 
@@ -251,14 +317,10 @@ fn follow<R: Threads + Wait + Sync, B: Opens + Send + Drop>(
     match word {
         "rtdb" | "item" | "txn" | "mode" => declare(alloc, scene, line),
         "plant" | "pair" | "turns" => with_house(rt, alloc, scene, word),
-        "held" => held_text(rt, alloc, scene),
-        "drain" => drain(alloc, scene, rest.parse::<usize>().ok()?),
-        "close" => close(alloc, scene.house.take()?),
-        "run" => run(rt, alloc, scene, rest),
-        "hostile" => run_hostile(rt, alloc, scene),
-        "ends" => ends_text(alloc, scene, rest),
+        "drain" => drain(alloc, scene, rest),
+        "close" => close(alloc, scene),
         "operator" | "sample" | "control" | "logger" => asked(rt, alloc, scene, word, rest),
-        _ => seen(alloc, scene.entries.as_slice(), word, rest),
+        _ => follow_run(rt, alloc, scene, word, rest),
     }
 }
 
@@ -283,6 +345,18 @@ fn play_line<R: Threads + Wait + Sync + Print, B: Opens + Send + Drop>(
     }
 }
 
+fn play_lines<R: Threads + Wait + Sync + Print, B: Opens + Send + Drop>(
+    rt: &R,
+    alloc: Global,
+    scene: &mut Scene<B>,
+    input: &str,
+) -> io::Result<()> {
+    for line in input.lines() {
+        play_line(rt, alloc, scene, line)?;
+    }
+    Ok(())
+}
+
 // Does what each line says, and prints it with what was told.
 fn play<R: Threads + Wait + Sync + Print, B: Opens + Send + Drop>(
     rt: &R,
@@ -296,10 +370,9 @@ fn play<R: Threads + Wait + Sync + Print, B: Opens + Send + Drop>(
         drained: Vec::new(alloc),
         entries: Vec::new(alloc),
     };
-    for line in input.lines() {
-        play_line(rt, alloc, &mut scene, line)?;
-    }
-    Ok(())
+    let played = play_lines(rt, alloc, &mut scene, input);
+    drop(scene);
+    played
 }
 
 fn main(rt: HostRuntime) -> io::Result<()> {

@@ -66,7 +66,9 @@ pub fn is_legal(alloc: Global, set: &CompiledSet, history: &[Entry]) -> Option<b
     for entry in history {
         make(&mut board, call_of(*entry));
     }
-    Some(board.entries() == history)
+    let legal = board.entries() == history;
+    drop(board);
+    Some(legal)
 }
 
 /// Whether a caller kept the entries of its jobs, in order, and each time that it let go on.

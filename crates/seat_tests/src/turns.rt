@@ -1,10 +1,10 @@
 //! What each seat does on a thread of its own: a sampler, a controller and a logger run their scripts, and the operator
 //! drains. Each makes so many tries at most, so that it ends whatever the others do.
-ghost use Rattle.std.specs.Prelude.{◌≡◌, Some, None, IfSome};
+ghost use Rattle.std.specs.Prelude.{◌≡◌, Some, None};
 ghost use Rattle.shared_plant.specs.Seats.{IsOf};
 ghost use Rattle.rt_base.specs.declared.ids.TxId.{TxId as Transaction};
 
-use crate::calls::{drained, idled, plan_each, replied};
+use crate::calls::{drained, idled, replied};
 use crate::house::{House, closed};
 use board::{Board, StepReply};
 use rt_base::{End, ItemId, JobId, Op, Outcome, Tick, TxId, Value};
@@ -198,13 +198,31 @@ fn two_turns<R: Threads, B: Board + Send>(
     )
 }
 
-fn new_caller<B: Board>(alloc: Global, seat: Seat<B>) -> Option<Caller<B>>
-    ensures { IfSome result (λ c. c.seat ≡ seat) }
-{
-    match Vec::with_capacity(alloc, 4096) {
-        Ok(kept) => Some(Caller { seat, kept }),
-        Err(_) => None,
-    }
+// What the four callers keep.
+#[derive(Drop)]
+struct Kept {
+    operator: Vec<Entry>,
+    sample: Vec<Entry>,
+    control: Vec<Entry>,
+    logger: Vec<Entry>,
+}
+
+// Two lists with room for what a caller keeps.
+fn two_lists(alloc: Global) -> Option<(Vec<Entry>, Vec<Entry>)> {
+    let one = Vec::with_capacity(alloc, 4096).ok()?;
+    let other = Vec::with_capacity(alloc, 4096).ok()?;
+    Some((one, other))
+}
+
+fn new_kept(alloc: Global) -> Option<Kept> {
+    let (operator, sample) = two_lists(alloc)?;
+    let (control, logger) = two_lists(alloc)?;
+    Some(Kept {
+        operator,
+        sample,
+        control,
+        logger,
+    })
 }
 
 /// What was drained and what the three callers kept, and the board that was left.
@@ -215,24 +233,35 @@ pub struct Turned<B> {
     pub board: B,
 }
 
-/// Plans the releases, and lets all callers take their turns at once.
-pub fn take_turns<R: Threads + Sync, B: Board + Send + Drop>(
+// Lets all callers take their turns at once.
+fn after_all_turns<R: Threads + Sync, B: Board + Send>(
     rt: &R,
-    alloc: Global,
     house: House<B>,
-) -> Option<Turned<B>> {
+    kept: Kept,
+) -> (House<B>, Kept) {
     let House {
         plant,
-        mut operator,
+        operator,
         sample,
         control,
         logger,
     } = house;
-    if !plan_each(&plant, &mut operator, &PLANS) {
-        return None;
-    }
-    let (o, s) = (new_caller(alloc, operator)?, new_caller(alloc, sample)?);
-    let (c, l) = (new_caller(alloc, control)?, new_caller(alloc, logger)?);
+    let o = Caller {
+        seat: operator,
+        kept: kept.operator,
+    };
+    let s = Caller {
+        seat: sample,
+        kept: kept.sample,
+    };
+    let c = Caller {
+        seat: control,
+        kept: kept.control,
+    };
+    let l = Caller {
+        seat: logger,
+        kept: kept.logger,
+    };
     let ((o, s), (c, l)) = join(
         rt,
         || -> (Caller<B>, Caller<B>)
@@ -253,10 +282,48 @@ pub fn take_turns<R: Threads + Sync, B: Board + Send + Drop>(
         control: c.seat,
         logger: l.seat,
     };
-    let (_, _, board) = closed(alloc, house)?;
+    let kept = Kept {
+        operator: o.kept,
+        sample: s.kept,
+        control: c.kept,
+        logger: l.kept,
+    };
+    (house, kept)
+}
+
+// What was kept, and the board of the plant, which is closed.
+fn with_board<B: Board + Drop>(alloc: Global, house: House<B>, kept: Kept) -> Option<Turned<B>> {
+    let Some((_, _, board)) = closed(alloc, house) else {
+        drop(kept);
+        return None;
+    };
+    let Kept {
+        operator,
+        sample,
+        control,
+        logger,
+    } = kept;
     Some(Turned {
-        drained: o.kept,
-        kept: [s.kept, c.kept, l.kept],
+        drained: operator,
+        kept: [sample, control, logger],
         board,
     })
+}
+
+/// Plans the releases, and lets all callers take their turns at once.
+pub fn take_turns<R: Threads + Sync, B: Board + Send + Drop>(
+    rt: &R,
+    alloc: Global,
+    mut house: House<B>,
+) -> Option<Turned<B>> {
+    if !house.plan(&PLANS) {
+        drop(house);
+        return None;
+    }
+    let Some(kept) = new_kept(alloc) else {
+        drop(house);
+        return None;
+    };
+    let (house, kept) = after_all_turns(rt, house, kept);
+    with_board(alloc, house, kept)
 }
