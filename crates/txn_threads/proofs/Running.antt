@@ -21,7 +21,7 @@ use Rattle.txn_threads.specs.Plans.{plans_in, ArePlanned}
 use Rattle.txn_threads.specs.Rising.{AreRising}
 use Rattle.txn_threads.specs.Tasks.{Tied}
 use Rattle.txn_threads.specs.Rounds.{Each, Sits, Ran, Halted, WorkerSits, WorkerRan}
-use Rattle.txn_threads.specs.Runs.{MayRun, HasRun, IsDone, FirstStop, FirstHalt, HaltIs, StopIs, run_stop, IfStopped, Cleared, WorkerCleared}
+use Rattle.txn_threads.specs.Runs.{MayRun, HasRun, IsDone, FirstStop, FirstHalt, HaltIs, StopIs, run_stop, IfStopped, NoMembers, Cleared, WorkerCleared}
 use Rattle.txn_threads.proofs.Rounding.{each_refl, each_trans, each_step, each_has, all_sit, all_refl, all_trans, none_some_halt}
 use Rattle.txn_threads.proofs.Planning.{few_plans}
 
@@ -151,6 +151,13 @@ module _ {B Y : Type 0} (gives : Y → ℕ → List Outcome → Op) (stands : Y 
         let up : i < length us = subst (λ n. i < n) (sym e.0) less in let k = e.1 i d less in let no = none i d up in
         (k.0.0, λ j c at. absurd (let b = k.0.0 in omega (arith, no, b, at))),
   )
+
+  -- clearing leaves each worker as many members as it has
+  pub no_members_after : (ws us : List (Worker B Y)) → Each (WorkerCleared gives stands) ws us → NoMembers ws → NoMembers us
+  no_members_after ws us e none i d less = let low : i < length ws = subst (λ n. i < n) e.0 less in (e.1 i d low).0.0 ∙ none i d low
+
+  pub no_members_before : (ws us : List (Worker B Y)) → Each (WorkerCleared gives stands) ws us → NoMembers us → NoMembers ws
+  no_members_before ws us e none i d less = sym (e.1 i d less).0.0 ∙ none i d (subst (λ n. i < n) (sym e.0) less)
 
   pub all_done : (p : PlantFacts) (ws us : List (Worker B Y)) → Each (WorkerRan gives stands p) ws us → All (λ (u : Worker B Y). All (λ (m : Member B Y). m.jobs ≤ m.ended) u.members.items) us → All (λ (u : Worker B Y). All (IsDone p) u.members.items) us
   all_done p ws us r done i d less j c at tx is =

@@ -1,4 +1,4 @@
-use Rattle.std.proofs.Common.{◌≡◌, ◌<◌, length, subst, arith, rules}
+use Rattle.std.proofs.Common.{◌≡◌, ◌<◌, length, arith, rules}
 use Rattle.txn_threads.specs.Rounds.{Sits, Met}
 use Rattle.txn_threads.proofs.Rounding.{all_refl, all_step, all_sit, at_place, met_at, none_kept}
 use Rattle.txn_threads.proofs.round.eager_turns.Goals as goal

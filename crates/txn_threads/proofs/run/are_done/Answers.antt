@@ -8,3 +8,6 @@ loop-i-preserved g c =
     let not = c.if-member.false in
     let ok : m.jobs ≤ m.ended = omega (arith, not) in
     so_far (λ m. m.jobs ≤ m.ended) c.args.members.now c.loop-i.i m c.loop-i.invariant c.loop-i-test.true c.index-members-i.is ok
+
+pub returns : goal.returns
+returns g c told i d less = let past = c.loop-i-test.false in c.loop-i.invariant i d (omega (arith, less, past))

@@ -1,4 +1,5 @@
 use Rattle.std.proofs.Common.{sym, subst, ◌∙◌, arith}
+use Rattle.std.proofs.lemmas.Bool.{false≢true}
 use Rattle.txn_threads.specs.Runs.{HaltIs}
 use Rattle.txn_threads.proofs.Rounding.{of_same}
 use Rattle.txn_threads.proofs.Draining.{operated_trans, got_more, got_stopped, got_stopped_first, rose_later}
@@ -107,3 +108,84 @@ loop-preserved g c = let i = c.loop.invariant in let d = c.drain_all-in-loop.ens
   (λ places. let same = i.7 in d.all (omega (arith, places, same))),
   c.round_of-alone.ensures.within,
 )
+
+pub returns-in_default-clause-all : goal.returns-in_default-clause-all
+returns-in_default-clause-all g c = c.drain_all.ensures.all
+
+pub drain_all-requires-in-loop-clause-spare : goal.drain_all-requires-in-loop-clause-spare
+drain_all-requires-in-loop-clause-spare g c = c.loop.invariant.6
+
+pub returns-then-all_done-clause-ran : goal.returns-then-all_done-clause-ran
+returns-then-all_done-clause-ran g c = c.loop.invariant.2
+
+pub returns-then-all_done-clause-none : goal.returns-then-all_done-clause-none
+returns-then-all_done-clause-none g c = c.loop.invariant.3
+
+pub returns-then-all_done-clause-stop : goal.returns-then-all_done-clause-stop
+returns-then-all_done-clause-stop g c = tt
+
+pub returns-then-all_done-clause-stops : goal.returns-then-all_done-clause-stops
+returns-then-all_done-clause-stops g c = c.loop.invariant.10
+
+pub returns-then-all_done-clause-got : goal.returns-then-all_done-clause-got
+returns-then-all_done-clause-got g c = c.loop.invariant.8
+
+pub returns-in_default-drain_all-clause-done : goal.returns-in_default-drain_all-clause-done
+returns-in_default-drain_all-clause-done g c = tt
+
+pub returns-in_default-drain_all-clause-none : goal.returns-in_default-drain_all-clause-none
+returns-in_default-drain_all-clause-none g c = tt
+
+pub returns-in_default-drain_all-clause-stop : goal.returns-in_default-drain_all-clause-stop
+returns-in_default-drain_all-clause-stop g c = tt
+
+pub returns-in_default-drain_all-clause-spare : goal.returns-in_default-drain_all-clause-spare
+returns-in_default-drain_all-clause-spare g c = let s = c.drain_all-in-loop.ensures.spare in (s.0, s.1 ∙ c.loop.invariant.7)
+
+pub returns-in-Some-first_halt-clause-within : goal.returns-in-Some-first_halt-clause-within
+returns-in-Some-first_halt-clause-within g c = c.drain_all-in-loop.ensures.within
+
+pub returns-in-Some-first_halt-clause-spare : goal.returns-in-Some-first_halt-clause-spare
+returns-in-Some-first_halt-clause-spare g c = let s = c.drain_all-in-loop.ensures.spare in (s.0, s.1 ∙ c.loop.invariant.7)
+
+pub returns-in_default-clause-within : goal.returns-in_default-clause-within
+returns-in_default-clause-within g c = c.drain_all.ensures.within
+
+pub returns-in_default-clause-stops : goal.returns-in_default-clause-stops
+returns-in_default-clause-stops g c = c.drain_all.ensures.stops
+
+pub returns-then-all_done-clause-done : goal.returns-then-all_done-clause-done
+returns-then-all_done-clause-done g c = c.all_done.ensures c.if-all_done.true
+
+pub returns-then-all_done-clause-operated : goal.returns-then-all_done-clause-operated
+returns-then-all_done-clause-operated g c = c.loop.invariant.4
+
+pub returns-then-all_done-clause-within : goal.returns-then-all_done-clause-within
+returns-then-all_done-clause-within g c = c.loop.invariant.5
+
+pub returns-then-all_done-clause-all : goal.returns-then-all_done-clause-all
+returns-then-all_done-clause-all g c = c.loop.invariant.12
+
+pub returns-then-all_done-clause-good : goal.returns-then-all_done-clause-good
+returns-then-all_done-clause-good g c = c.loop.invariant.11
+
+pub returns-then-all_done-clause-spare : goal.returns-then-all_done-clause-spare
+returns-then-all_done-clause-spare g c = (c.loop.invariant.6, c.loop.invariant.7)
+
+pub returns-in_default-drain_all-clause-within : goal.returns-in_default-drain_all-clause-within
+returns-in_default-drain_all-clause-within g c = c.drain_all-in-loop.ensures.within
+
+pub returns-in_default-drain_all-clause-all : goal.returns-in_default-drain_all-clause-all
+returns-in_default-drain_all-clause-all g c = λ places. let same = c.loop.invariant.7 in c.drain_all-in-loop.ensures.all (omega (arith, places, same))
+
+pub returns-in-Some-first_halt-clause-done : goal.returns-in-Some-first_halt-clause-done
+returns-in-Some-first_halt-clause-done g c = tt
+
+pub returns-in-Some-first_halt-clause-none : goal.returns-in-Some-first_halt-clause-none
+returns-in-Some-first_halt-clause-none g c = tt
+
+pub returns-in-Some-first_halt-clause-all : goal.returns-in-Some-first_halt-clause-all
+returns-in-Some-first_halt-clause-all g c = λ places. let same = c.loop.invariant.7 in c.drain_all-in-loop.ensures.all (omega (arith, places, same))
+
+pub unreachable-requires : goal.unreachable-requires
+unreachable-requires g c = absurd (false≢true c.in-None.ensures.steps)

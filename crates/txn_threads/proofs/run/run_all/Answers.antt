@@ -1,19 +1,17 @@
-use Rattle.std.proofs.Common.{◌≡◌, ◌≤◌, All, false, rules}
+use Rattle.std.proofs.Common.{◌≤◌, All, refl}
 use Rattle.std.proofs.lemmas.Result.{IfOk-weaker, IfErr-weaker}
 use Rattle.txn_threads.specs.Runs.{HaltIs, StopIs, IsDone}
 use Rattle.txn_threads.proofs.Draining.{operated_refl, got_none}
-use Rattle.txn_threads.proofs.Running.{workers_cleared_sit, workers_have_run, cleared_none, none_have_run, none_done, all_done, stop_is}
+use Rattle.txn_threads.proofs.Running.{workers_cleared_sit, workers_have_run, cleared_none, none_have_run, none_done, no_members_after, no_members_before, all_done, stop_is}
 use Rattle.txn_threads.proofs.run.run_all.Goals as goal
 
 pub returns-then-not-has_members-clause-members : goal.returns-then-not-has_members-clause-members
 returns-then-not-has_members-clause-members g c =
-    let no : c.has_members.result ≡ false = search rules in
-    none_have_run g.Y.Body.gives g.Y.Body.stands c.args.plant.now c.args.workers.now c.clear_all.new.workers c.clear_all.ensures (c.has_members.ensures.none no)
+    none_have_run g.Y.Body.gives g.Y.Body.stands c.args.plant.now c.args.workers.now c.clear_all.new.workers c.clear_all.ensures (c.has_members.ensures.none c.if-not-has_members.true)
 
 pub returns-then-not-has_members-clause-done : goal.returns-then-not-has_members-clause-done
 returns-then-not-has_members-clause-done g c =
-    let no : c.has_members.result ≡ false = search rules in
-    none_done c.args.plant.now c.clear_all.new.workers (c.has_members.ensures.none no)
+    none_done c.args.plant.now c.clear_all.new.workers (c.has_members.ensures.none c.if-not-has_members.true)
 
 pub returns-then-not-has_members-clause-none : goal.returns-then-not-has_members-clause-none
 returns-then-not-has_members-clause-none g c = cleared_none g.Y.Body.gives g.Y.Body.stands c.args.workers.now c.clear_all.new.workers c.clear_all.ensures
@@ -44,3 +42,18 @@ returns-clause-stop g c = IfErr-weaker c.rounds.result
     (λ s. HaltIs c.rounds.new.workers s)
     (λ s. StopIs g.Y.Body.gives c.args.plant.now c.rounds.new.workers s)
     (λ s h. stop_is g.Y.Body.gives g.Y.Body.stands c.args.plant.now c.clear_all.new.workers c.rounds.new.workers s c.rounds.ensures.ran h) c.rounds.ensures.stop
+
+pub returns-clause-at_once : goal.returns-clause-at_once
+returns-clause-at_once g c = λ none. absurd (c.has_members.ensures.some c.if-not-has_members.false (no_members_after g.Y.Body.gives g.Y.Body.stands c.args.workers.now c.clear_all.new.workers c.clear_all.ensures none))
+
+pub returns-clause-all : goal.returns-clause-all
+returns-clause-all g c = λ members places. c.rounds.ensures.all places
+
+pub returns-clause-within : goal.returns-clause-within
+returns-clause-within g c = λ before. c.rounds.ensures.within
+
+pub returns-then-not-has_members-clause-all : goal.returns-then-not-has_members-clause-all
+returns-then-not-has_members-clause-all g c = λ members places. absurd (members (no_members_before g.Y.Body.gives g.Y.Body.stands c.args.workers.now c.clear_all.new.workers c.clear_all.ensures (c.has_members.ensures.none c.if-not-has_members.true)))
+
+pub returns-then-not-has_members-clause-at_once : goal.returns-then-not-has_members-clause-at_once
+returns-then-not-has_members-clause-at_once g c = λ none. (tt, refl, refl)
