@@ -92,6 +92,14 @@ abbrev pub decl : Numbers → ℕ → List ItemId → List ItemId → TxnDecl
 decl n quiet reads writes =
     record { prio = n.prio; period = n.period; offset = n.offset; deadline = n.deadline; steps = n.steps; quiet = quiet; reads = reads; writes = writes }
 
+-- a transaction with these numbers and reads, from what stands after them
+unfoldable pub written : List (List ℕ) → Bool → Numbers → List ItemId → List ℕ → Option Found
+written items two numbers reads bs = do
+  w ← worded (codes "writes") bs
+  writes ← list_of items w.0
+  quiet ← quiet_of two w.1
+  Some (found.Txn numbers.name (decl numbers quiet reads writes))
+
 unfoldable pub txn_of : List (List ℕ) → List (List ℕ) → Bool → List ℕ → Option Found
 txn_of items txns two bs = do
   numbers ← numbers_of txns bs
@@ -190,6 +198,11 @@ ended n (b ∷ bs) = Err (BadLine n)
 abbrev pub head : Decls → Bool → ℕ → Head
 head d admitted lines =
     record { names = record { items = d.names; txns = d.txn_names }; items = d.items; txns = d.txns; together = d.sets; admitted = admitted; lines = lines }
+
+-- the head of these declarations, where the mode line and its number are found
+abbrev pub head_with : Decls → Result (Bool × ℕ) HeadError → Result Head HeadError
+head_with d (Ok (admitted, n)) = Ok (head d admitted n)
+head_with d (Err e) = Err e
 
 -- the head from line n on
 abbrev pub lines_of : Bool → Decls → ℕ → List (List ℕ) → List ℕ → Result Head HeadError

@@ -1,13 +1,13 @@
 //! What one line declares.
 ghost use Rattle.std.specs.Prelude.{◌≡◌, ◌^◌, ◌<◌, length, option_map, IfOk};
-ghost use Rattle.report_head.specs.Head.{timed_of, state_of, decl_of, item_of, numbers_of, quiet_of, txn_of, set_of, mode_line_of, found_after, found_of};
+ghost use Rattle.report_head.specs.Head.{timed_of, state_of, decl_of, item_of, numbers_of, quiet_of, written, txn_of, set_of, mode_line_of, found_after, found_of};
 
 use crate::lists::{list, word_after};
 use crate::words::{next_fresh, next_mode};
 use item_model::{ItemDecl, ItemKind};
 use line_fields::{done, field, next_short, next_signed, next_unsigned, next_word, word};
 use name_table::NameTable;
-use rt_base::{Name, OutOfMemory, TogetherDecl};
+use rt_base::{ItemId, List, Name, OutOfMemory, TogetherDecl};
 use std::alloc::Global;
 use txn_set::TxnDecl;
 
@@ -145,7 +145,55 @@ fn quiet(two: bool, rest: &[u8]) -> Option<u64>
     }
 }
 
-#[tactic(auto, unfolding(crate::specs::Head::txn_of))]
+// A transaction with these numbers and reads, from what stands after them.
+#[tactic(auto, unfolding(crate::specs::Head::written))]
+fn txn_written(
+    alloc: Global,
+    items: &NameTable,
+    two: bool,
+    numbers: Numbers,
+    reads: List<ItemId>,
+    rest: &[u8],
+) -> Result<Option<Found>, OutOfMemory>
+    requires { length items.now < 2 ^ 32 }
+    ensures { IfOk result (λ o. o ≡ written items.now two numbers reads rest.now) }
+{
+    let Some((word, rest)) = word_after(b"writes", rest) else {
+        drop(reads);
+        return Ok(None);
+    };
+    let writes = match list(alloc, items, word) {
+        Ok(Some(writes)) => writes,
+        Ok(None) => {
+            drop(reads);
+            return Ok(None);
+        }
+        Err(OutOfMemory) => {
+            drop(reads);
+            return Err(OutOfMemory);
+        }
+    };
+    let Some(quiet) = quiet(two, rest) else {
+        drop(reads);
+        drop(writes);
+        return Ok(None);
+    };
+    Ok(Some(Found::Txn(
+        numbers.name,
+        TxnDecl {
+            prio: numbers.prio,
+            period: numbers.period,
+            offset: numbers.offset,
+            deadline: numbers.deadline,
+            steps: numbers.steps,
+            quiet,
+            reads,
+            writes,
+        },
+    )))
+}
+
+#[tactic(auto, unfolding(crate::specs::Head::txn_of, crate::specs::Head::written))]
 fn txn(
     alloc: Global,
     items: &NameTable,
@@ -165,36 +213,7 @@ fn txn(
     let Some(reads) = list(alloc, items, word)? else {
         return Ok(None);
     };
-    let Some((word, rest)) = word_after(b"writes", rest) else {
-        return Ok(None);
-    };
-    let Some(writes) = list(alloc, items, word)? else {
-        return Ok(None);
-    };
-    let Some(quiet) = quiet(two, rest) else {
-        return Ok(None);
-    };
-    let Numbers {
-        name,
-        prio,
-        period,
-        offset,
-        deadline,
-        steps,
-    } = numbers;
-    Ok(Some(Found::Txn(
-        name,
-        TxnDecl {
-            prio,
-            period,
-            offset,
-            deadline,
-            steps,
-            quiet,
-            reads,
-            writes,
-        },
-    )))
+    txn_written(alloc, items, two, numbers, reads, rest)
 }
 
 #[tactic(auto, unfolding(crate::specs::Head::set_of))]

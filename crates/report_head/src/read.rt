@@ -1,6 +1,6 @@
 //! The head of a report.
 ghost use Rattle.std.specs.Prelude.{◌≡◌, ◌^◌, ◌<◌, ◌≤◌, ◌+◌, length, IfOk, None, Err};
-ghost use Rattle.report_head.specs.Head.{nothing, IsNew, told, told_as, line_of, head, lines_of, head_of, ended, Gives};
+ghost use Rattle.report_head.specs.Head.{nothing, IsNew, told, told_as, line_of, head, head_with, lines_of, head_of, ended, Gives};
 ghost use Rattle.report_head.specs.declared.found.Found.TheVariants.{Item as AnItem, Txn as ATxn, Set as ASet};
 ghost use Rattle.line_fields.specs.Ids.{index_of};
 ghost use Rattle.report_head.specs.IsHead.{IsHead};
@@ -104,10 +104,14 @@ impl Growing {
         ensures txns { length self.new.txn_names ≤ length self.old.txn_names + 1 }
     {
         if self.part == Part::Sets {
+            drop(decl);
             return Ok(Line::Bad);
         }
         self.part = Part::Txns;
-        self.txn_names.add(alloc, name)?;
+        if let Err(error) = self.txn_names.add(alloc, name) {
+            drop(decl);
+            return Err(error);
+        }
         self.txns.push(decl)?;
         Ok(Line::More)
     }
@@ -152,6 +156,32 @@ impl Growing {
         }
     }
 
+    // Takes the lines from line 2 on. Whether the mode line says admitted, and its number.
+    fn take_lines(
+        &mut self,
+        alloc: Global,
+        two: bool,
+        bytes: &[u8],
+    ) -> Result<(bool, usize), HeadError>
+        requires new { self.old ≡ nothing }
+        requires few { length bytes.now + 1 < 2 ^ 32 }
+        ensures { Gives (head_with self.new result) (lines_of two nothing 2 (pieces 10 bytes.now).0 (pieces 10 bytes.now).1) }
+    {
+        let mut rest = bytes;
+        let mut n = 2;
+        while let Some((line, after)) = cut(b'\n', rest) {
+            match self.line(alloc, two, line) {
+                Err(OutOfMemory) => return Err(HeadError::OutOfMemory),
+                Ok(Line::Bad) => return Err(HeadError::BadLine { n }),
+                Ok(Line::Mode(admitted)) => return Ok((admitted, n)),
+                Ok(Line::More) => {}
+            }
+            rest = after;
+            n += 1;
+        }
+        Err(end(n, rest))
+    }
+
     fn head(self, admitted: bool, lines: usize) -> Head
         ensures { result ≡ head self admitted lines }
     {
@@ -190,19 +220,13 @@ fn lines(alloc: Global, two: bool, bytes: &[u8]) -> Result<Head, HeadError>
     ensures { Gives result (lines_of two nothing 2 (pieces 10 bytes.now).0 (pieces 10 bytes.now).1) }
 {
     let mut growing = Growing::new(alloc);
-    let mut rest = bytes;
-    let mut n = 2;
-    while let Some((line, after)) = cut(b'\n', rest) {
-        match growing.line(alloc, two, line) {
-            Err(OutOfMemory) => return Err(HeadError::OutOfMemory),
-            Ok(Line::Bad) => return Err(HeadError::BadLine { n }),
-            Ok(Line::Mode(admitted)) => return Ok(growing.head(admitted, n)),
-            Ok(Line::More) => {}
+    match growing.take_lines(alloc, two, bytes) {
+        Ok((admitted, n)) => Ok(growing.head(admitted, n)),
+        Err(error) => {
+            drop(growing);
+            Err(error)
         }
-        rest = after;
-        n += 1;
     }
-    Err(end(n, rest))
 }
 
 // The head of a report.

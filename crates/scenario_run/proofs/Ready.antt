@@ -1,6 +1,5 @@
 -- What a scenario declares can be run, and what its run leaves.
-use Rattle.std.proofs.Common.{◌≡◌, ℕ, ◌+◌, ◌<◌, ◌≤◌, Bool, List, [], ◌∷◌, map, Result, Ok, Err, refl, ap, sym, subst, ◌∙◌, length, arith}
-use Rattle.std.specs.Result.{IsErrOf}
+use Rattle.std.proofs.Common.{◌≡◌, ℕ, ◌+◌, ◌<◌, ◌≤◌, Bool, List, [], ◌∷◌, map, refl, ap, sym, subst, ◌∙◌, length, arith}
 use Rattle.std.proofs.lemmas.List.{length-map}
 use Rattle.rt_base.specs.declared.name.Names.{Names}
 use Rattle.step_script.specs.declared.script.Script.{Script}

@@ -6,7 +6,7 @@ use Rattle.txn_set.specs.Set.{Set, IsCompiled}
 use Rattle.txn_compiler.specs.Refusal.{compile_refusal}
 use Rattle.txn_compiler.proofs.Verdict.{compiled-unless-refused}
 use Rattle.step_journal.specs.declared.entry.Entry.{Entry}
-use Rattle.sim_history.specs.Sim.{Body, Workload, IsSim}
+use Rattle.sim_history.specs.Sim.{Workload, IsSim}
 use Rattle.counting_laws.specs.Counting.{room_of_jobs}
 use Rattle.sim_run.specs.Workloads.{workload, ticks_of}
 use Rattle.plant_history.specs.Histories.{IsRunOf}

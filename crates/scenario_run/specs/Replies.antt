@@ -1,5 +1,7 @@
 -- The status and the text of a run's answer.
 use Rattle.std.specs.Prelude.{◌≡◌, ℕ, List, Bool, true, false}
+use Rattle.rt_base.specs.declared.name.Names.{Names}
+use Rattle.txn_set.specs.Set.{Set}
 use Rattle.txn_compiler.specs.Refusal.{compile_refusal}
 use Rattle.set_admission.specs.Admission.{refusal}
 use Rattle.scenario.specs.Shown.{Shown, set_of}
@@ -15,6 +17,14 @@ abbrev pub RunReply : Bool → Shown → Reply
 RunReply true s = Compiling (Ran true s) s.names (compile_refusal (set_of s))
 RunReply false s =
     Compiling (Admitting (Ran false s) s.names (refusal (set_of s))) s.names (compile_refusal (set_of s))
+
+-- no reply
+abbrev pub Never : Reply
+Never status text = ⊥
+
+-- the set is refused
+abbrev pub IsRefusal : Names → Set → Reply
+IsRefusal names set = Compiling (Admitting Never names (refusal set)) names (compile_refusal set)
 
 -- the text of a run
 abbrev pub RunText : Bool → Shown → List ℕ → Type 0

@@ -1,12 +1,15 @@
 //! The summary of a generated scenario's run.
-ghost use Rattle.std.specs.Prelude.{◌≡◌, ◌+◌, ◌≤◌, ℕ, length, IfOk};
+ghost use Rattle.std.specs.Prelude.{◌≡◌, ◌+◌, ◌<◌, ◌≤◌, ℕ, [], length, IfOk};
 ghost use Rattle.txn_set.specs.Set.{IsCompiled};
 ghost use Rattle.counting_laws.specs.Counting.{room_of_jobs};
-ghost use Rattle.sim_run.specs.Workloads.{ticks_of};
+ghost use Rattle.sim_run.specs.Workloads.{workload, ticks_of};
+ghost use Rattle.plant_run.specs.Runs.{own_at};
 ghost use Rattle.plant_run.specs.Ready.{CanRun, workload_in, own_in};
-ghost use Rattle.scenario_run.specs.Runs.{asked_by, IsSummaryBy};
+ghost use Rattle.scenario_run.specs.Runs.{Declares, IsReady, asked_by, functions_of, IsSummaryBy};
+ghost use Rattle.scenario_run.specs.Begun.{workload_by, own_by};
 ghost use Rattle.scenario_run.specs.Replies.{LoadReply};
 
+use crate::begun::Tasks;
 use crate::making::{BOARD_ROOM, Bodies, prepared, run_on};
 use board::Board;
 use command_replies::{Reply, compiled, written};
@@ -21,6 +24,7 @@ use std::alloc::Global;
 use std::sync::Wait;
 use std::thread::Threads;
 use step_script::Script;
+use txn_set::CompiledSet;
 use txn_threads::Gate;
 use worker_count::Workers;
 
@@ -42,6 +46,82 @@ fn summary_on<R: Threads + Wait + Sync, B: Board + Send + Drop, G: Gate + Sync>(
     summary(alloc, board.set(), history.as_slice())
 }
 
+// The summary of the run of bodies on a new board, by so many workers.
+fn summary_of<R: Threads + Wait + Sync, B: Board + Send + Drop, G: Gate + Sync>(
+    rt: &R,
+    alloc: Global,
+    workers: Workers,
+    board: B,
+    bodies: Bodies,
+    entries: usize,
+    gate: &G,
+) -> Result<Vec<u8>, OutOfMemory>
+    requires opened { B.stands board [] }
+    requires room { 1024 < B.room board }
+    requires ready { IsReady (B.set board) bodies.scripts.items bodies.ticks.items bodies.own.items }
+    requires compiled { IsCompiled (B.set board) }
+    requires fixed { (tx : ℕ) → own_at bodies.own.items tx ≡ 0 }
+    requires entries { room_of_jobs (B.set board).txns (λ tx. length (ticks_of bodies.ticks.items tx) + own_at bodies.own.items tx) ≤ entries }
+    ensures { IfOk result (λ text. IsSummaryBy (workload (B.set board) (functions_of bodies.scripts.items) bodies.ticks.items) text.items) }
+{
+    let Bodies {
+        scripts,
+        ticks,
+        own,
+    } = bodies;
+    let run = match run_on(alloc, board, scripts, &ticks, &own, workers) {
+        Ok(run) => run,
+        Err(OutOfMemory) => {
+            drop(ticks);
+            drop(own);
+            return Err(OutOfMemory);
+        }
+    };
+    let text = summary_on(rt, alloc, run, entries, gate);
+    drop(ticks);
+    drop(own);
+    text
+}
+
+// The summary of the run of tasks in which no transaction is eager.
+fn loaded<R: Threads + Wait + Sync, G: Gate + Sync>(
+    rt: &R,
+    alloc: Global,
+    workers: Workers,
+    set: CompiledSet,
+    tasks: Tasks,
+    gate: &G,
+) -> Result<Vec<u8>, OutOfMemory>
+    requires tasks { Declares set tasks.scripts tasks.releases }
+    requires fixed { (tx : ℕ) → own_by tasks tx ≡ 0 }
+    requires entries { room_of_jobs set.txns (λ tx. length (ticks_of (workload_by set tasks).releases tx) + own_by tasks tx) ≤ tasks.room }
+    ensures { IfOk result (λ text. IsSummaryBy (workload_by set tasks) text.items) }
+{
+    set.is_compiled();
+    let Tasks {
+        scripts,
+        releases,
+        room,
+    } = tasks;
+    let bodies = prepared(alloc, &set, scripts, &releases);
+    drop(releases);
+    let bodies = match bodies {
+        Ok(bodies) => bodies,
+        Err(OutOfMemory) => {
+            drop(set);
+            return Err(OutOfMemory);
+        }
+    };
+    match Core::new(alloc, set, BOARD_ROOM) {
+        Ok(board) => summary_of(rt, alloc, workers, board, bodies, room, gate),
+        Err((set, _)) => {
+            drop(set);
+            drop(bodies);
+            Err(OutOfMemory)
+        }
+    }
+}
+
 /// The reply of `load`: the summary of the run, by so many workers, of the scenario that is generated of so many
 /// transactions. Err comes only where a growth was refused. It may wait.
 pub fn load<R: Threads + Wait + Sync, G: Gate + Sync>(
@@ -55,7 +135,7 @@ pub fn load<R: Threads + Wait + Sync, G: Gate + Sync>(
     ensures { IfOk result (λ r. LoadReply n r.status r.text.items) }
 {
     let Scenario {
-        names: _,
+        names,
         items,
         txns,
         together,
@@ -63,19 +143,18 @@ pub fn load<R: Threads + Wait + Sync, G: Gate + Sync>(
         releases,
         room,
     } = generated(alloc, n)?;
-    let Ok(set) = compiled(alloc, items, txns, together)? else {
-        unreachable!()
-    };
-    let bodies = prepared(alloc, &set, scripts, &releases)?;
-    let Ok(board) = Core::new(alloc, set, BOARD_ROOM) else {
-        return Err(OutOfMemory);
-    };
-    let Bodies {
+    drop(names);
+    let tasks = Tasks {
         scripts,
-        ticks,
-        own,
-    } = bodies;
-    let run = run_on(alloc, board, scripts, &ticks, &own, workers)?;
-    let text = summary_on(rt, alloc, run, room, gate)?;
-    Ok(written(text))
+        releases,
+        room,
+    };
+    match compiled(alloc, items, txns, together) {
+        Ok(Ok(set)) => Ok(written(loaded(rt, alloc, workers, set, tasks, gate)?)),
+        Ok(Err(_)) => unreachable!(),
+        Err(OutOfMemory) => {
+            drop(tasks);
+            Err(OutOfMemory)
+        }
+    }
 }

@@ -1,18 +1,25 @@
 //! What a run has before it begins.
-ghost use Rattle.std.specs.Prelude.{◌≡◌, ◌+◌, ◌<◌, ◌≤◌, [], map, length, IfOk};
+ghost use Rattle.std.specs.Prelude.{◌≡◌, ◌+◌, ◌<◌, ◌≤◌, [], map, length, IfOk, IfErr, None};
 ghost use Rattle.std.specs.List.{sum};
+ghost use Rattle.txn_compiler.specs.Kept.{AreLists};
+ghost use Rattle.txn_compiler.specs.Refusal.{compile_refusal};
+ghost use Rattle.set_admission.specs.Admission.{refusal};
 ghost use Rattle.scenario.specs.Releases.{fixed_ticks, eager_of};
 ghost use Rattle.plant_run.specs.Ready.{CanRun};
 ghost use Rattle.scenario_run.specs.Runs.{Declares, IsReady, asked_by};
+ghost use Rattle.scenario_run.specs.Replies.{IsRefusal};
 
 use crate::ticks::{all_fixed, all_own, count, count_own};
 use board::Board;
+use command_replies::{Reply, admitted, compiled, refused_admission, refused_set};
+use item_model::ItemDecl;
 use plant_run::Run;
-use rt_base::{List, OutOfMemory, Tick};
+use rt_base::{List, Names, OutOfMemory, Tick, TogetherDecl};
 use scenario::Releases;
+use set_admission::AdmittedSet;
 use std::alloc::Global;
 use step_script::Script;
-use txn_set::CompiledSet;
+use txn_set::{CompiledSet, TxnDecl};
 use worker_count::Workers;
 
 /// How many entries the board of a run keeps at most.
@@ -34,6 +41,29 @@ impl Bodies {
         ensures { result ≡ sum (map length self.now.ticks.items) + sum self.now.own.items }
     {
         count(&self.ticks) + count_own(&self.own)
+    }
+}
+
+/// The admitted set of declarations, or the reply that refuses them.
+pub fn judged(
+    alloc: Global,
+    names: &Names,
+    items: List<ItemDecl>,
+    txns: List<TxnDecl>,
+    together: List<TogetherDecl>,
+) -> Result<Result<AdmittedSet, Reply>, OutOfMemory>
+    requires { AreLists (record { items = items; txns = txns; together = together }) }
+    ensures set { IfOk result (λ r. IfOk r (λ a. a ≡ record { items = items; txns = txns; together = together })) }
+    ensures compiles { IfOk result (λ r. IfOk r (λ a. compile_refusal (record { items = items; txns = txns; together = together }) ≡ None)) }
+    ensures admits { IfOk result (λ r. IfOk r (λ a. refusal (record { items = items; txns = txns; together = together }) ≡ None)) }
+    ensures refused { IfOk result (λ r. IfErr r (λ reply. IsRefusal names.now (record { items = items; txns = txns; together = together }) reply.status reply.text.items)) }
+{
+    match compiled(alloc, items, txns, together)? {
+        Ok(set) => match admitted(alloc, set)? {
+            Ok(set) => Ok(Ok(set)),
+            Err(error) => Ok(Err(refused_admission(alloc, names, error)?)),
+        },
+        Err(error) => Ok(Err(refused_set(alloc, names, error)?)),
     }
 }
 

@@ -1,5 +1,5 @@
 //! The run of a scenario, whose report is written.
-ghost use Rattle.std.specs.Prelude.{◌≡◌, ◌⊎◌, ◌≤◌, IfOk, IsErrOf, IfSome, true, false, None};
+ghost use Rattle.std.specs.Prelude.{◌≡◌, ◌⊎◌, IfOk, IsErrOf, IfSome, true, false, None};
 ghost use Rattle.std.specs.Io.KnownBytes.{Keeps};
 ghost use Rattle.io_edge.specs.Causes.{Rose};
 ghost use Rattle.scenario.specs.Shown.{shown};
@@ -7,13 +7,11 @@ ghost use Rattle.scenario.specs.Scenarios.{IsScenario};
 ghost use Rattle.report_out.specs.Written.{Wrote, WroteFront};
 ghost use Rattle.scenario_run.specs.Replies.{RunReply, RunText};
 
-use crate::making::{BOARD_ROOM, Bodies, prepared, run_on};
-use admitted_core::AdmittedCore;
-use command_replies::{Reply, admitted, compiled, refused_admission, refused_set};
+use crate::begun::{Tasks, begun_admitted, begun_trial, run_begun};
+use crate::making::judged;
+use command_replies::{Reply, compiled, refused_set};
 use io_edge::Sink;
-use lock_core::Core;
-use plant_report::write_run;
-use report_out::Report;
+use rt_base::OutOfMemory;
 use run_fault::RunFault;
 use scenario::Scenario;
 use std::alloc::Global;
@@ -50,24 +48,38 @@ pub fn run_trial<R: Threads + Wait + Sync, K: Sink, G: Gate + Sync>(
         releases,
         room,
     } = scenario;
-    let set = match compiled(alloc, items, txns, together)? {
-        Ok(set) => set,
-        Err(error) => return Ok(Some(refused_set(alloc, &names, error)?)),
-    };
-    let bodies = prepared(alloc, &set, scripts, &releases)?;
-    let jobs = bodies.jobs();
-    let report = Report::begin(alloc, &names, &set, None, jobs, room)?;
-    let Ok(board) = Core::new(alloc, set, BOARD_ROOM) else {
-        return Err(RunFault::Memory);
-    };
-    let Bodies {
+    let tasks = Tasks {
         scripts,
-        ticks,
-        own,
-    } = bodies;
-    let run = run_on(alloc, board, scripts, &ticks, &own, workers)?;
-    write_run(rt, alloc, run, report, gate, sink)?;
-    Ok(None)
+        releases,
+        room,
+    };
+    let set = match compiled(alloc, items, txns, together) {
+        Ok(Ok(set)) => set,
+        Ok(Err(error)) => {
+            drop(tasks);
+            let reply = refused_set(alloc, &names, error);
+            drop(names);
+            return Ok(Some(reply?));
+        }
+        Err(OutOfMemory) => {
+            drop(tasks);
+            drop(names);
+            return Err(RunFault::Memory);
+        }
+    };
+    let begun = match begun_trial(alloc, &names, set, tasks) {
+        Ok(begun) => begun,
+        Err(OutOfMemory) => {
+            drop(names);
+            return Err(RunFault::Memory);
+        }
+    };
+    let written = run_begun(rt, alloc, workers, begun, sink, gate);
+    drop(names);
+    match written {
+        Ok(()) => Ok(None),
+        Err(fault) => Err(fault),
+    }
 }
 
 /// Runs a scenario as admitted, in the same way.
@@ -95,26 +107,35 @@ pub fn run_admitted<R: Threads + Wait + Sync, K: Sink, G: Gate + Sync>(
         releases,
         room,
     } = scenario;
-    let set = match compiled(alloc, items, txns, together)? {
-        Ok(set) => set,
-        Err(error) => return Ok(Some(refused_set(alloc, &names, error)?)),
-    };
-    let set = match admitted(alloc, set)? {
-        Ok(set) => set,
-        Err(error) => return Ok(Some(refused_admission(alloc, &names, error)?)),
-    };
-    let bodies = prepared(alloc, set.set(), scripts, &releases)?;
-    let jobs = bodies.jobs();
-    let report = Report::begin(alloc, &names, set.set(), Some(&set), jobs, room)?;
-    let Ok(board) = AdmittedCore::new(alloc, set, BOARD_ROOM) else {
-        return Err(RunFault::Memory);
-    };
-    let Bodies {
+    let tasks = Tasks {
         scripts,
-        ticks,
-        own,
-    } = bodies;
-    let run = run_on(alloc, board, scripts, &ticks, &own, workers)?;
-    write_run(rt, alloc, run, report, gate, sink)?;
-    Ok(None)
+        releases,
+        room,
+    };
+    let set = match judged(alloc, &names, items, txns, together) {
+        Ok(Ok(set)) => set,
+        Ok(Err(reply)) => {
+            drop(tasks);
+            drop(names);
+            return Ok(Some(reply));
+        }
+        Err(OutOfMemory) => {
+            drop(tasks);
+            drop(names);
+            return Err(RunFault::Memory);
+        }
+    };
+    let begun = match begun_admitted(alloc, &names, set, tasks) {
+        Ok(begun) => begun,
+        Err(OutOfMemory) => {
+            drop(names);
+            return Err(RunFault::Memory);
+        }
+    };
+    let written = run_begun(rt, alloc, workers, begun, sink, gate);
+    drop(names);
+    match written {
+        Ok(()) => Ok(None),
+        Err(fault) => Err(fault),
+    }
 }

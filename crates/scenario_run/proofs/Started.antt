@@ -1,0 +1,76 @@
+-- What has begun for a scenario can be run, and the text of its run is the scenario's.
+use Rattle.std.proofs.Common.{◌≡◌, ℕ, ◌+◌, ◌≤◌, Bool, List, sym, ap, subst, ◌∙◌, length}
+use Rattle.rt_base.specs.declared.name.Names.{Names}
+use Rattle.txn_set.specs.Set.{Set}
+use Rattle.step_journal.specs.declared.entry.Entry.{Entry}
+use Rattle.step_script.specs.declared.script.Script.{Script}
+use Rattle.counting_laws.specs.Counting.{room_of_jobs}
+use Rattle.sim_history.specs.Sim.{Workload}
+use Rattle.sim_run.specs.Workloads.{workload, ticks_of}
+use Rattle.plant_run.specs.Runs.{own_at}
+use Rattle.eager_laws.specs.Plannable.{own_of}
+use Rattle.scenario.specs.Shown.{Shown, set_of}
+use Rattle.scenario.specs.Scenarios.{IsScenario}
+use Rattle.report_lines.specs.Texts.{NamesSet}
+use Rattle.workload_laws.specs.Runs.{workload_of}
+use Rattle.report_out.specs.Opened.{IsOpened}
+use Rattle.plant_report.specs.Eager.{IsRunTextBy}
+use Rattle.scenario_run.specs.declared.begun.Tasks.{Tasks}
+use Rattle.scenario_run.specs.declared.begun.Begun.{Begun}
+use Rattle.scenario_run.specs.Runs.{Declares, IsReady, functions_of}
+use Rattle.scenario_run.specs.Begun.{HasBegun, IsBegun, BegunText}
+use Rattle.scenario_run.proofs.Ready.{moved, room_is, text_of, text_as}
+
+module _ {B : Type 0} (stands : B → List Entry → Type 0) (set_on : B → Set) (room : B → ℕ) (names : Names) (admitted : Bool) (set : Set) (tasks : Tasks) (begun : Begun B)
+    (d : Declares set tasks.scripts tasks.releases) (h : HasBegun stands set_on room names admitted set tasks begun) where
+  -- it can be run
+  pub can_run : tasks.room ≡ d.scenario.room → IsBegun stands set_on room begun
+  can_run same =
+      let parts = h.parts in
+      let bodies = begun.bodies in
+      let low = room_is set tasks.scripts tasks.releases d bodies.scripts.items bodies.ticks.items bodies.own.items parts.scripts parts.ticks parts.own in
+      let enough : room_of_jobs set.txns (λ tx. length (ticks_of bodies.ticks.items tx) + own_at bodies.own.items tx) ≤ begun.report.entries =
+      subst (λ (n : ℕ). room_of_jobs set.txns (λ tx. length (ticks_of bodies.ticks.items tx) + own_at bodies.own.items tx) ≤ n) (sym same ∙ sym parts.entries) low in
+      record {
+        board = h.board;
+        more = h.more;
+        ready = subst (λ (q : Set). IsReady q bodies.scripts.items bodies.ticks.items bodies.own.items) (sym h.set_is) parts.ready;
+        opened = subst (λ (q : Set). IsOpened q begun.report) (sym h.set_is) parts.opened;
+        places = parts.places;
+        entries = subst (λ (q : Set). room_of_jobs q.txns (λ tx. length (ticks_of bodies.ticks.items tx) + own_at bodies.own.items tx) ≤ begun.report.entries) (sym h.set_is) enough;
+      }
+
+  -- the text of its run
+  pub text_is : (text : List ℕ) → BegunText set_on begun text → IsRunTextBy names admitted (workload_of d.scenario) (own_of d.scenario) text
+  text_is text t =
+      let parts = h.parts in
+      let bodies = begun.bodies in
+      let w : Set → Workload = λ q. workload q (functions_of bodies.scripts.items) bodies.ticks.items in
+      let on = subst (λ (q : Set). IsRunTextBy begun.report.names.now begun.report.admitted (w q) (own_at bodies.own.items) text) h.set_is t in
+      text_of names admitted set tasks.scripts tasks.releases d bodies.scripts.items bodies.ticks.items bodies.own.items text parts.scripts parts.ticks parts.own
+      (text_as begun.report.names.now names begun.report.admitted admitted (w set) (own_at bodies.own.items) text parts.names_are parts.admitted_is on)
+
+-- the run of a board, scripts, ticks and own jobs that are those of what has begun
+pub run_of : {B : Type 0} (set_on : B → Set) (begun : Begun B) (board : B) (scripts : List Script) (ticks : List (List ℕ)) (own : List ℕ)
+    → board ≡ begun.board → scripts ≡ begun.bodies.scripts.items → ticks ≡ begun.bodies.ticks.items → own ≡ begun.bodies.own.items
+    → (text : List ℕ) → IsRunTextBy begun.report.names.now begun.report.admitted (workload (set_on board) (functions_of scripts) ticks) (own_at own) text → BegunText set_on begun text
+run_of set_on begun board scripts ticks own e f g k text h =
+    moved (λ w o. IsRunTextBy begun.report.names.now begun.report.admitted w o text) (set_on board) (set_on begun.board) (functions_of scripts) (functions_of begun.bodies.scripts.items) ticks begun.bodies.ticks.items (own_at own) (own_at begun.bodies.own.items)
+    (ap set_on e) (ap functions_of f) g (ap own_at k) h
+
+-- the run of a new board has the bodies of what has begun, and room for its entries
+pub ready_as : (set : Set) (scripts : List Script) (ticks ticks' : List (List ℕ)) (own own' : List ℕ) → ticks' ≡ ticks → own' ≡ own
+    → IsReady set scripts ticks own → IsReady set scripts ticks' own'
+ready_as set scripts ticks ticks' own own' e f h =
+    subst (λ (t : List (List ℕ)). IsReady set scripts t own') (sym e) (subst (λ (o : List ℕ). IsReady set scripts ticks o) (sym f) h)
+
+pub room_as : (room : ℕ) (set set' : Set) (ticks ticks' : List (List ℕ)) (own own' : List ℕ) → set' ≡ set → ticks' ≡ ticks → own' ≡ own
+    → room_of_jobs set.txns (λ tx. length (ticks_of ticks tx) + own_at own tx) ≤ room → room_of_jobs set'.txns (λ tx. length (ticks_of ticks' tx) + own_at own' tx) ≤ room
+room_as room set set' ticks ticks' own own' e f g h =
+    subst (λ (q : Set). room_of_jobs q.txns (λ tx. length (ticks_of ticks' tx) + own_at own' tx) ≤ room) (sym e)
+    (subst (λ (t : List (List ℕ)). room_of_jobs set.txns (λ tx. length (ticks_of t tx) + own_at own' tx) ≤ room) (sym f)
+    (subst (λ (o : List ℕ). room_of_jobs set.txns (λ tx. length (ticks_of ticks tx) + own_at o tx) ≤ room) (sym g) h))
+
+-- the names of a scenario are those of its set
+pub names_set : (s : Shown) (set : Set) → IsScenario s → set ≡ set_of s → NamesSet s.names set
+names_set s set is e = subst (NamesSet s.names) (sym e) (record { items = is.named_items; txns = is.named_txns })

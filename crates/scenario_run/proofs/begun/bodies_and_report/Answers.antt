@@ -1,0 +1,19 @@
+use Rattle.std.proofs.Common.{◌∙◌}
+use Rattle.scenario_run.proofs.Ready.{own_few}
+use Rattle.scenario_run.proofs.begun.bodies_and_report.Goals as goal
+
+pub jobs-requires-clause-eager : goal.jobs-requires-clause-eager
+jobs-requires-clause-eager c = own_few _ _ _ _ c.in_ok-bodies.ensures.ready
+
+pub returns-in-Ok : goal.returns-in-Ok
+returns-in-Ok c = record {
+  scripts = c.in_ok-bodies.ensures.scripts;
+  ticks = c.in_ok-bodies.ensures.ticks;
+  own = c.in_ok-bodies.ensures.own;
+  ready = c.in_ok-bodies.ensures.ready;
+  opened = c.in-Ok.ensures.opened;
+  places = c.in-Ok.ensures.parts.2 ∙ c.jobs.ensures;
+  entries = c.in-Ok.ensures.parts.3;
+  names_are = c.in-Ok.ensures.parts.0;
+  admitted_is = c.in-Ok.ensures.parts.1;
+}
