@@ -23,13 +23,25 @@ fn find_far(byte: u8, bytes: &[u8]) -> Option<usize>
     memchr(byte, bytes)
 }
 
-/// What stands before the first such byte, and what stands after it; None where there is none.
+/// What stands before the first such byte, and what stands after it; None where there is none. It is for long texts.
 #[inline(always)]
 #[tactic(auto, using(crate::proofs::CutLaws::rest_of))]
 pub fn cut(byte: u8, bytes: &[u8]) -> Option<(&[u8], &[u8])>
     ensures { option_map (λ p. (p.0.now, p.1.now)) result ≡ cut_at byte bytes.now }
 {
     match find_far(byte, bytes) {
+        Some(at) => Some((&bytes[..at], &bytes[at + 1..])),
+        None => None,
+    }
+}
+
+/// The same for a word, which is short.
+#[inline(always)]
+#[tactic(auto, using(crate::proofs::CutLaws::rest_of))]
+pub fn cut_word(byte: u8, bytes: &[u8]) -> Option<(&[u8], &[u8])>
+    ensures { option_map (λ p. (p.0.now, p.1.now)) result ≡ cut_at byte bytes.now }
+{
+    match find(byte, bytes) {
         Some(at) => Some((&bytes[..at], &bytes[at + 1..])),
         None => None,
     }
