@@ -104,6 +104,12 @@ step_takes names bs e h =
     ∙ ap (λ (r : List ℕ). field (job_text names.txns job.got) ⊕ field (decimal tick.got) ⊕ op_text names op.0.0 ⊕ outcome_text outcome.0.0 ⊕ r) v.1 in
     subst (EntryLine names (codes "step") bs) (some_is _ e over.2) ((job.fits, tick.fits, o.0, r.0, r.1, v.0), ap (λ (r : List ℕ). codes "step" ++ r) line)
 
+-- a line that begins with the word of a step
+pub step_in : (names : Names) (line rest : List ℕ) → line ≡ codes "step" ++ rest → Ends rest → entry_of names line ≡ step_of names rest
+unfolding form_of
+step_in names line rest is ends =
+    ap (λ (p : List ℕ × List ℕ). form_of names p.0 p.1) (ap word_of is ∙ word_again (codes "step") rest (lacks_test 32 (codes "step") refl) ends)
+
 step_again : (names : Names) (job : JobId) (op : Op) (outcome : Outcome) (over : Option End) (tick : ℕ)
     → AreNames names.items → AreNames names.txns → HasLine names (Step job op outcome over tick)
     → step_of names (field (job_text names.txns job) ⊕ field (decimal tick) ⊕ op_text names op ⊕ outcome_text outcome ⊕ over_text names over) ≡ Some (Step job op outcome over tick)

@@ -1,6 +1,6 @@
 //! From lines to entries.
-ghost use Rattle.std.specs.Prelude.{◌≡◌, option_map, IfSome};
-ghost use Rattle.line_fields.specs.Cuts.{next};
+ghost use Rattle.std.specs.Prelude.{◌≡◌, ◌++◌, codes, option_map, IfSome};
+ghost use Rattle.line_fields.specs.Cuts.{next, Ends};
 ghost use Rattle.rt_base.specs.Names.{AreNames};
 ghost use Rattle.journal_text.specs.Lines.{entry_line, HasLine, IsEntryOf, IsWritable};
 ghost use Rattle.journal_text.specs.Reading.{read_of, write_of, op_form, op_of, stamp_of, got_of, outcome_of, stale_of, apart_of, end_form, end_of, over_of, plan_of, step_of, block_of, idle_of, form_of, entry_of};
@@ -250,10 +250,28 @@ fn form(names: &NameTables, word: &[u8], rest: &[u8]) -> Option<Entry>
     }
 }
 
+// What follows the word of a step, where a line begins with it.
+#[inline(always)]
+fn after_step(line: &[u8]) -> Option<&[u8]>
+    ensures { IfSome result (λ rest. (line.now ≡ codes "step" ++ rest.now) × Ends rest.now) }
+{
+    match line {
+        [b's', b't', b'e', b'p', rest @ ..] => match rest {
+            [b' ', ..] => Some(rest),
+            _ => None,
+        },
+        _ => None,
+    }
+}
+
+// Most lines are those of steps, whose word is not looked for.
 #[inline(always)]
 fn entry_in(names: &NameTables, line: &[u8]) -> Option<Entry>
     ensures { result ≡ entry_of names.now line.now }
 {
+    if let Some(rest) = after_step(line) {
+        return step(names, rest);
+    }
     let (word, rest) = word(line);
     form(names, word, rest)
 }

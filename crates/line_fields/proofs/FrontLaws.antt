@@ -1,11 +1,19 @@
 -- Numbers at the front of a text.
-use Rattle.std.proofs.Common.{◌≡◌, ℕ, pos, ◌^◌, ◌<◌, ◌≤◌, ◌-◌, List, [], ◌∷◌, ◌++◌, length, take, drop, get_or, Some, decimal, sym, ap, ◌∙◌, arith}
+use Rattle.std.proofs.Common.{◌≡◌, ℕ, pos, ◌^◌, ◌<◌, ◌≤◌, ◌-◌, List, [], ◌∷◌, ◌++◌, length, take, drop, get_or, Some, decimal, sym, ap, ◌∙◌, arith, length-take}
 use Rattle.std.specs.Str.Parse.{digits_value, AllDigits}
+use Rattle.std.proofs.Math.Nat.{pow-le-pow_right}
+use Rattle.std.proofs.lemmas.Int.Digits.{digits_value-lt}
 use Rattle.std.proofs.lemmas.List.{take-append-drop, append-nil, length-take-le, get_or-take}
 use Rattle.line_fields.specs.Cuts.{next, field, Ends}
 use Rattle.line_fields.specs.Numbers.{unsigned_of, signed_of}
 use Rattle.line_fields.proofs.CutLaws.{rest_of, next_again}
 use Rattle.line_fields.proofs.NumberLaws.{written, unsigned_found, unsigned_again, unsigned_lacks, signed_again}
+
+-- a number of few digits
+pub few_digits : (bs : List ℕ) (i n : ℕ) → i < 19 → n ≡ digits_value 10 (take i bs) → AllDigits 10 (take i bs) → n < 10 ^ 18
+few_digits bs i n few is digits =
+    let short : length (take i bs) ≤ 18 = omega (arith, few, length-take i bs) in
+    omega (arith, is, digits_value-lt 10 (take i bs) digits, pow-le-pow_right {n = 10} (omega arith) short)
 
 -- digits at the front without a leading zero are what is written of their number
 pub front_written : (bs : List ℕ) (len n : ℕ) → len ≤ length bs → 0 < len → (get_or bs 0 0 ≡ 48 → len ≡ 1)

@@ -1,5 +1,5 @@
 -- Names and jobs are read back as they were written.
-use Rattle.std.proofs.Common.{◌≡◌, ℕ, zero, suc, ℤ, pos, negsuc, ◌^◌, ◌<◌, ◌≤◌, Bool, true, false, ◌&&◌, ltb, List, [], ◌∷◌, ◌++◌, length, get_or, Some, decimal, codes, refl, sym, ap, subst, ◌∙◌, arith, rules, w64, append_assoc}
+use Rattle.std.proofs.Common.{◌≡◌, ℕ, zero, suc, ℤ, pos, negsuc, ◌^◌, ◌<◌, ◌≤◌, Bool, true, false, ◌&&◌, ltb, List, [], ◌∷◌, ◌++◌, length, take, get_or, Some, decimal, codes, refl, sym, ap, subst, ◌∙◌, arith, rules, w64, append_assoc}
 use Rattle.std.specs.Prelude.{FitsSigned}
 use Rattle.std.specs.List.{list_all}
 use Rattle.std.specs.Fmt.{signed_decimal}
@@ -13,10 +13,10 @@ use Rattle.rt_base.specs.declared.ids.ItemId.{ItemId}
 use Rattle.rt_base.specs.declared.ids.JobId.{JobId}
 use Rattle.rt_base.specs.Names.{is_letter, is_name_byte, is_name, AreNames}
 use Rattle.name_table.specs.Places.{place_in}
-use Rattle.line_fields.specs.Cuts.{◌>>=◌, cut_at, Lacks}
+use Rattle.line_fields.specs.Cuts.{◌>>=◌, cut_at, next, Ends, Lacks}
 use Rattle.line_fields.specs.Numbers.{short_of, IsI64}
 use Rattle.line_fields.specs.Ids.{name_at, index_of, tx_of, item_of, job_text, job_of, IsJob}
-use Rattle.line_fields.proofs.CutLaws.{some_is, bind_some, both_true, cut_again, cut_takes, position_at, lacks_append, lacks_test, Takes}
+use Rattle.line_fields.proofs.CutLaws.{some_is, bind_some, both_true, cut_again, cut_takes, position_at, lacks_append, lacks_test, next_again, Takes}
 use Rattle.line_fields.proofs.NumberLaws.{short_takes, short_again, unsigned_lacks}
 
 -- ---- the bytes of a name
@@ -114,6 +114,10 @@ job_takes txns w job e =
     ∙ ap (λ (d : List ℕ). p.0.0 ++ 47 ∷ d) number.1 ∙ sym (cut_takes 47 w p.0.0 p.0.1 p.1) in
     subst (λ (j : JobId). IsJob txns j × (job_text txns j ≡ w)) (some_is (made t.0 s.0) job s.2) ((name.0, number.0), line)
 
+job_of_parts : (txns : List (List ℕ)) (name : List ℕ) (tx : TxId) (n : ℕ) → Lacks 47 name → n < 2 ^ 32 → tx_of txns name ≡ Some tx → job_of txns (name ++ 47 ∷ decimal n) ≡ Some (made tx n)
+unfolding job_of
+job_of_parts txns name tx n no_slash lt named = rw (cut_again 47 name (decimal n) no_slash, named, short_again n lt) refl
+
 pub job_again : (txns : List (List ℕ)) (job : JobId) → AreNames txns → IsJob txns job
     → job_of txns (job_text txns job) ≡ Some job
 unfolding job_of
@@ -126,6 +130,23 @@ job_lacks txns job good fits =
     lacks_append 32 (name_at txns job.tx.0 ++ codes "/") (decimal job.serial)
     (lacks_append 32 (name_at txns job.tx.0) (codes "/") (id_lacks txns job.tx.0 good fits.0) (lacks_test 32 (codes "/") refl))
     (unsigned_lacks job.serial (omega (arith, fits.1)))
+
+-- a front that has no such byte
+pub lacks_take : (byte : ℕ) (bs : List ℕ) (i : ℕ) → ((j : ℕ) → j < i → get_or bs j 0 ≡ byte → ⊥) → Lacks byte (take i bs)
+lacks_take byte [] zero h j lt = absurd (omega arith)
+lacks_take byte [] (suc i) h j lt = absurd (omega arith)
+lacks_take byte (b ∷ bs) zero h j lt = absurd (omega arith)
+lacks_take byte (b ∷ bs) (suc i) h zero lt = h zero (omega arith)
+lacks_take byte (b ∷ bs) (suc i) h (suc j) lt = lacks_take byte bs i (λ k less. h (suc k) (omega arith)) j (omega arith)
+
+pub next_job_found : (txns : List (List ℕ)) (bs front name after rest : List ℕ) (tx : TxId) (n : ℕ) → bs ≡ 32 ∷ front → front ≡ name ++ 47 ∷ after → Lacks 47 name → Lacks 32 name
+    → after ≡ decimal n ++ rest → Ends rest → n < 2 ^ 32 → tx_of txns name ≡ Some tx → Some (made tx n, rest) ≡ next (job_of txns) bs
+next_job_found txns bs front name after rest tx n is parts no_slash no_blank number ends lt named =
+    let w : List ℕ = name ++ 47 ∷ decimal n in
+    let read : job_of txns w ≡ Some (made tx n) = job_of_parts txns name tx n no_slash lt named in
+    let lacks : Lacks 32 w = lacks_append 32 name (47 ∷ decimal n) no_blank (lacks_append 32 (codes "/") (decimal n) (lacks_test 32 (codes "/") refl) (unsigned_lacks n (omega (arith, lt)))) in
+    let all : bs ≡ 32 ∷ (w ++ rest) = is ∙ ap (λ (l : List ℕ). 32 ∷ l) (parts ∙ (ap (λ (l : List ℕ). name ++ 47 ∷ l) number ∙ sym (append_assoc name (47 ∷ decimal n) rest))) in
+    sym (ap (next (job_of txns)) all ∙ next_again (job_of txns) w rest (made tx n) read lacks ends)
 
 -- ---- how long numbers are
 

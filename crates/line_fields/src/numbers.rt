@@ -37,10 +37,10 @@ fn is_led(word: &[u8]) -> bool
     }
 }
 
-// Ten times this, and any digit, is below 2^64.
-const MOST: u64 = 1_844_674_407_370_955_160;
+// A number of so many digits is below 2^64.
+const DIGITS: usize = 19;
 
-// The number that the digits at the front write, and how many they are; not all of them where the number could be too large.
+// The number that the digits at the front write, and how many they are, up to nineteen.
 #[inline(always)]
 fn front(bytes: &[u8]) -> (u64, usize)
     ensures value { result.0 ≡ digits_value 10 (take result.1 bytes.now) }
@@ -48,14 +48,15 @@ fn front(bytes: &[u8]) -> (u64, usize)
     ensures within { result.1 ≤ length bytes.now }
 {
     let mut n: u64 = 0;
-    for i in 0..bytes.len() {
+    let most = bytes.len().min(DIGITS);
+    for i in 0..most {
         let byte = bytes[i];
-        if byte < b'0' || byte > b'9' || n > MOST {
+        if byte < b'0' || byte > b'9' {
             return (n, i);
         }
         n = n * 10 + (byte - b'0') as u64;
     }
-    (n, bytes.len())
+    (n, most)
 }
 
 // Whether so many digits at the front are a word without a leading zero.
@@ -72,9 +73,9 @@ fn is_number(bytes: &[u8], len: usize) -> bool
     len == bytes.len() || bytes[len] == b' '
 }
 
-// The number at the front in one pass, and the rest. None where the word there is no number or could be too large.
+/// The number at the front in one pass, and the rest. None where the word there is no number or could be too large.
 #[inline(always)]
-fn at_front(bytes: &[u8]) -> Option<(u64, &[u8])>
+pub fn at_front(bytes: &[u8]) -> Option<(u64, &[u8])>
     ensures fits { IfSome result (λ p. p.0 < 2 ^ 64) }
     ensures written { IfSome result (λ p. bytes.now ≡ decimal p.0 ++ p.1.now) }
     ensures ends { IfSome result (λ p. Ends p.1.now) }
