@@ -7,7 +7,7 @@ ghost use Rattle.shared_plant.specs.Seats.{IsOf, newcomer, tx_of};
 use crate::bodies::Progress;
 use crate::faults::Fault;
 use crate::out::Counts;
-use crate::tank::{CONTROLLER, SAMPLER, VALVE, admitted};
+use crate::tank::{CONTROLLER, SAMPLER, VALVE, core_of};
 use admitted_core::AdmittedCore;
 use board::{Board, StepReply};
 use rt_base::{Op, Tick, TxId};
@@ -48,16 +48,13 @@ fn opened(alloc: Global) -> Result<Callers, Fault>
     ensures controller { IfOk result (λ r. r.controller ≡ newcomer r.plant.id [] 0 (Some (tx_of 1))) }
     ensures operator { IfOk result (λ r. r.operator ≡ newcomer r.plant.id [] 0 None) }
 {
-    let set = admitted(alloc)?;
-    let core = match AdmittedCore::new(alloc, set, ROOM) {
-        Ok(core) => core,
-        Err((_, refusal)) => return Err(refusal.into()),
-    };
+    let core = core_of(alloc, ROOM)?;
     match Plant::start::<NoEntry>(alloc, core) {
         Ok((plant, mut seats)) => {
             let operator = seats.pop().unwrap();
             let controller = seats.pop().unwrap();
             let sampler = seats.pop().unwrap();
+            drop(seats);
             Ok(Callers {
                 plant,
                 sampler,
@@ -65,7 +62,10 @@ fn opened(alloc: Global) -> Result<Callers, Fault>
                 operator,
             })
         }
-        Err((_, refusal)) => Err(refusal.into()),
+        Err((core, refusal)) => {
+            drop(core);
+            Err(refusal.into())
+        }
     }
 }
 
@@ -224,5 +224,7 @@ pub fn run<R: Threads + Wait + Sync>(rt: &R, alloc: Global) -> Result<Counts, Fa
     );
     plant.drain(rt, &mut operator, ROOM, &mut entries);
     let core = closed(alloc, plant, sampler, controller, operator)?;
-    Ok(summed(&core, entries.as_slice()))
+    let counts = summed(&core, entries.as_slice());
+    drop(core);
+    Ok(counts)
 }
