@@ -7,7 +7,7 @@ ghost use Rattle.lock_core.specs.Stands.{Stands};
 use crate::bodies::Progress;
 use crate::faults::Fault;
 use crate::out::Counts;
-use crate::tank::{CONTROLLER, SAMPLER, VALVE, admitted};
+use crate::tank::{CONTROLLER, SAMPLER, VALVE, core_of};
 use admitted_core::AdmittedCore;
 use board::{Board, IdleReply, StepReply};
 use rt_base::{JobId, Tick, TxId};
@@ -32,16 +32,18 @@ struct Station {
 
 // All memory is taken here.
 fn new(alloc: Global) -> Result<Station, Fault> {
-    let set = admitted(alloc)?;
     let spare = Vec::with_capacity(alloc, ROOM)?;
-    match AdmittedCore::new(alloc, set, ROOM) {
+    match core_of(alloc, ROOM) {
         Ok(core) => Ok(Station {
             core,
             jobs: [Progress::of(0), Progress::of(0)],
             spare,
             out: Counts::new(),
         }),
-        Err((_, refusal)) => Err(refusal.into()),
+        Err(fault) => {
+            drop(spare);
+            Err(fault)
+        }
     }
 }
 
@@ -128,19 +130,26 @@ impl Station {
         }
         Ok(())
     }
+
+    // Plans all jobs, and runs them until all have ended.
+    fn go_whole(&mut self) -> Result<Counts, Fault> {
+        self.plan(SAMPLER, 0, 4)?;
+        self.plan(CONTROLLER, 8, 2)?;
+        self.go()?;
+        self.hand_on();
+        let (valve, stamp) = self.core.peek(VALVE);
+        Ok(Counts {
+            valve,
+            stamp,
+            ..self.out
+        })
+    }
 }
 
 /// Plans four jobs of the sampler and two of the controller, and runs them until all have ended.
 pub fn run(alloc: Global) -> Result<Counts, Fault> {
     let mut station = new(alloc)?;
-    station.plan(SAMPLER, 0, 4)?;
-    station.plan(CONTROLLER, 8, 2)?;
-    station.go()?;
-    station.hand_on();
-    let (valve, stamp) = station.core.peek(VALVE);
-    Ok(Counts {
-        valve,
-        stamp,
-        ..station.out
-    })
+    let run = station.go_whole();
+    drop(station);
+    run
 }

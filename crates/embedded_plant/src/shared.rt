@@ -1,17 +1,17 @@
 //! The run on a shared plant: the sampler's seat and the controller's are each on a thread of its own. The operator's seat
 //! drains when both are back.
-ghost use Rattle.std.specs.Prelude.{◌≡◌, ◌≤◌, ◌<◌, [], None, Some, length, IfOk};
+ghost use Rattle.std.specs.Prelude.{◌≡◌, ◌≤◌, ◌<◌, [], None, Some, length, vec_len, IfOk};
 ghost use Rattle.rt_base.specs.declared.ids.TxId.{TxId as Transaction};
-ghost use Rattle.shared_plant.specs.Seats.{IsOf, newcomer, tx_of};
+ghost use Rattle.shared_plant.specs.Seats.{AreOf, IsOf, newcomer, tx_of};
 
 use crate::bodies::Progress;
 use crate::faults::Fault;
 use crate::out::Counts;
-use crate::tank::{CONTROLLER, SAMPLER, VALVE, admitted};
+use crate::tank::{CONTROLLER, SAMPLER, VALVE, core_of};
 use admitted_core::AdmittedCore;
 use board::{Board, StepReply};
 use rt_base::{Op, Tick, TxId};
-use shared_plant::{CloseRefused, Plant, Seat, Tried};
+use shared_plant::{Plant, Seat, Tried};
 use std::alloc::Global;
 use std::sync::Wait;
 use std::thread;
@@ -48,16 +48,13 @@ fn opened(alloc: Global) -> Result<Callers, Fault>
     ensures controller { IfOk result (λ r. r.controller ≡ newcomer r.plant.id [] 0 (Some (tx_of 1))) }
     ensures operator { IfOk result (λ r. r.operator ≡ newcomer r.plant.id [] 0 None) }
 {
-    let set = admitted(alloc)?;
-    let core = match AdmittedCore::new(alloc, set, ROOM) {
-        Ok(core) => core,
-        Err((_, refusal)) => return Err(refusal.into()),
-    };
+    let core = core_of(alloc, ROOM)?;
     match Plant::start::<NoEntry>(alloc, core) {
         Ok((plant, mut seats)) => {
             let operator = seats.pop().unwrap();
             let controller = seats.pop().unwrap();
             let sampler = seats.pop().unwrap();
+            drop(seats);
             Ok(Callers {
                 plant,
                 sampler,
@@ -65,7 +62,10 @@ fn opened(alloc: Global) -> Result<Callers, Fault>
                 operator,
             })
         }
-        Err((_, refusal)) => Err(refusal.into()),
+        Err((core, refusal)) => {
+            drop(core);
+            Err(refusal.into())
+        }
     }
 }
 
@@ -161,6 +161,16 @@ fn run_jobs<R: Wait>(rt: &R, plant: &Tank, mut seat: TankSeat, tx: TxId, jobs: u
     unreachable!()
 }
 
+// The core of a plant whose seats are all back.
+fn core_back(plant: Tank, seats: Vec<TankSeat>) -> AdmittedCore
+    requires { (plant.seats ≡ vec_len seats) × AreOf plant seats.items }
+{
+    match plant.close(seats) {
+        Ok(core) => core,
+        Err(_) => unreachable!(),
+    }
+}
+
 // The core, once all seats are back.
 fn closed(
     alloc: Global,
@@ -171,20 +181,19 @@ fn closed(
 ) -> Result<AdmittedCore, Fault>
     requires { (plant.seats ≡ 3) × IsOf plant sampler × IsOf plant controller × IsOf plant operator }
 {
-    let mut seats = Vec::with_capacity(alloc, 3)?;
-    seats.push_reserved(sampler);
-    seats.push_reserved(controller);
-    seats.push_reserved(operator);
-    match plant.close(seats) {
-        Ok(core) => Ok(core),
-        Err(refused) => {
-            let CloseRefused {
-                plant: _,
-                seats: _,
-                have: _,
-                need: _,
-            } = refused;
-            unreachable!()
+    match Vec::with_capacity(alloc, 3) {
+        Ok(mut seats) => {
+            seats.push_reserved(sampler);
+            seats.push_reserved(controller);
+            seats.push_reserved(operator);
+            Ok(core_back(plant, seats))
+        }
+        Err(error) => {
+            drop(plant);
+            drop(sampler);
+            drop(controller);
+            drop(operator);
+            Err(error.into())
         }
     }
 }
@@ -200,29 +209,71 @@ fn summed(core: &AdmittedCore, entries: &[Entry]) -> Counts {
     out
 }
 
-/// Four jobs of the sampler and two of the controller, each transaction on a thread of its own. It may wait.
-pub fn run<R: Threads + Wait + Sync>(rt: &R, alloc: Global) -> Result<Counts, Fault> {
-    let mut entries = Vec::with_capacity(alloc, ROOM)?;
+// Plans four jobs of the sampler and two of the controller.
+fn plan_both(plant: &Tank, sampler: &mut TankSeat, controller: &mut TankSeat) -> Result<(), Fault>
+    requires { IsOf plant.now sampler.old × IsOf plant.now controller.old × (length plant.now.set.txns ≡ 2) }
+    ensures sampler { (sampler.new.plant ≡ sampler.old.plant) × (sampler.new.tx ≡ sampler.old.tx) }
+    ensures controller { (controller.new.plant ≡ controller.old.plant) × (controller.new.tx ≡ controller.old.tx) }
+{
+    plan(plant, sampler, SAMPLER, 0, 4)?;
+    plan(plant, controller, CONTROLLER, 8, 2)
+}
+
+// Runs the jobs of both, each transaction on a thread of its own.
+fn run_both<R: Threads + Wait + Sync>(
+    rt: &R,
+    plant: &Tank,
+    sampler: TankSeat,
+    controller: TankSeat,
+) -> (TankSeat, TankSeat)
+    requires sampler { IsOf plant.now sampler × ((tx : Transaction) × (sampler.tx ≡ Some tx)) }
+    requires controller { IsOf plant.now controller × ((tx : Transaction) × (controller.tx ≡ Some tx)) }
+    ensures { IsOf plant.now result.0 × IsOf plant.now result.1 }
+{
+    join(
+        rt,
+        || -> TankSeat
+            requires { IsOf plant.now sampler × ((tx : Transaction) × (sampler.tx ≡ Some tx)) }
+            ensures { IsOf plant.entry.now result }
+        { run_jobs(rt, plant, sampler, SAMPLER, 4) },
+        || -> TankSeat
+            requires { IsOf plant.now controller × ((tx : Transaction) × (controller.tx ≡ Some tx)) }
+            ensures { IsOf plant.entry.now result }
+        { run_jobs(rt, plant, controller, CONTROLLER, 2) },
+    )
+}
+
+// Plans the jobs and runs them. The operator's seat drains the entries.
+fn run_into<R: Threads + Wait + Sync>(
+    rt: &R,
+    alloc: Global,
+    entries: &mut Vec<Entry>,
+) -> Result<Counts, Fault> {
     let Callers {
         plant,
         mut sampler,
         mut controller,
         mut operator,
     } = opened(alloc)?;
-    plan(&plant, &mut sampler, SAMPLER, 0, 4)?;
-    plan(&plant, &mut controller, CONTROLLER, 8, 2)?;
-    let (sampler, controller) = join(
-        rt,
-        || -> TankSeat
-            requires { IsOf plant sampler × ((tx : Transaction) × (sampler.tx ≡ Some tx)) }
-            ensures { IsOf plant result }
-        { run_jobs(rt, &plant, sampler, SAMPLER, 4) },
-        || -> TankSeat
-            requires { IsOf plant controller × ((tx : Transaction) × (controller.tx ≡ Some tx)) }
-            ensures { IsOf plant result }
-        { run_jobs(rt, &plant, controller, CONTROLLER, 2) },
-    );
-    plant.drain(rt, &mut operator, ROOM, &mut entries);
+    if let Err(fault) = plan_both(&plant, &mut sampler, &mut controller) {
+        drop(plant);
+        drop(sampler);
+        drop(controller);
+        drop(operator);
+        return Err(fault);
+    }
+    let (sampler, controller) = run_both(rt, &plant, sampler, controller);
+    plant.drain(rt, &mut operator, ROOM, entries);
     let core = closed(alloc, plant, sampler, controller, operator)?;
-    Ok(summed(&core, entries.as_slice()))
+    let counts = summed(&core, entries.as_slice());
+    drop(core);
+    Ok(counts)
+}
+
+/// Four jobs of the sampler and two of the controller, each transaction on a thread of its own. It may wait.
+pub fn run<R: Threads + Wait + Sync>(rt: &R, alloc: Global) -> Result<Counts, Fault> {
+    let mut entries = Vec::with_capacity(alloc, ROOM)?;
+    let counts = run_into(rt, alloc, &mut entries);
+    drop(entries);
+    counts
 }

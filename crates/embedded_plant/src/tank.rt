@@ -1,8 +1,10 @@
 //! The set: a sampler that writes the level of a tank, and a controller that reads it and sets a valve.
-ghost use Rattle.std.specs.Prelude.{◌≡◌, length, IfOk};
+ghost use Rattle.std.specs.Prelude.{◌≡◌, ◌≤◌, ◌^◌, [], length, IfOk};
 ghost use Rattle.embedded_plant.specs.Named.{AreNamed, IsNamed};
+ghost use Rattle.lock_core.specs.Stands.{Stands};
 
 use crate::faults::Fault;
+use admitted_core::AdmittedCore;
 use item_model::{ItemDecl, ItemKind};
 use rt_base::{ItemId, List, OutOfMemory, Prio, Tick, TxId};
 use set_admission::{AdmittedSet, admit};
@@ -97,5 +99,22 @@ pub fn admitted(alloc: Global) -> Result<AdmittedSet, Fault>
             Err((_, refusal)) => Err(Fault::NotAdmitted(refusal)),
         },
         Err(refusal) => Err(Fault::NotCompiled(refusal)),
+    }
+}
+
+/// A core over the set, with room for so many entries.
+pub fn core_of(alloc: Global, room: usize) -> Result<AdmittedCore, Fault>
+    requires { room ≤ 2 ^ 20 }
+    ensures size { IfOk result (λ c. (length c.board.set.items ≡ 2) × (length c.board.set.txns ≡ 2)) }
+    ensures journal { IfOk result (λ c. c.board.journal ≡ record { room = room; first = 0; kept = [] }) }
+    ensures stands { IfOk result (λ c. Stands c.board []) }
+{
+    let set = admitted(alloc)?;
+    match AdmittedCore::new(alloc, set, room) {
+        Ok(core) => Ok(core),
+        Err((set, refusal)) => {
+            drop(set);
+            Err(refusal.into())
+        }
     }
 }
