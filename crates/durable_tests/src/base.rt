@@ -3,6 +3,8 @@ ghost use Rattle.std.specs.Prelude.{◌≡◌, ◌++◌, [], IfOk, IfSome, IsTru
 ghost use Rattle.step_journal.specs.History.{IsLegal};
 ghost use Rattle.durable_journal.specs.Log.{StandsFor};
 ghost use Rattle.durable_tests.specs.Story.{IsStory};
+ghost use Rattle.report_lines.specs.Texts.{NamesSet};
+ghost use Rattle.rt_base.specs.Names.{AreNames};
 
 use durable_disk::{Disk, MemDisk};
 use durable_journal::{Log, LogError};
@@ -69,6 +71,55 @@ fn entries_in(
     Ok(entries)
 }
 
+// At most so many of the entries among the lines of a report, which are a history of the set.
+fn legal_entries(
+    alloc: Global,
+    names: &NameTables,
+    set: &CompiledSet,
+    text: &str,
+    most: usize,
+) -> Result<Vec<Entry>, Fail>
+    ensures { IfOk result (λ es. IsLegal set.now es.items) }
+{
+    let entries = entries_in(alloc, names, text, most)?;
+    match replay(alloc, set, &entries) {
+        Ok(replayed) => {
+            drop(replayed);
+            Ok(entries)
+        }
+        Err(_) => {
+            drop(entries);
+            Err("entries".into())
+        }
+    }
+}
+
+// The story of these names and this set, with at most so many of the entries of a text.
+fn story_with(
+    alloc: Global,
+    names: NameTables,
+    set: CompiledSet,
+    text: &str,
+    most: usize,
+) -> Result<Story, Fail>
+    requires names { AreNames names.items × AreNames names.txns }
+    requires same { NamesSet names set }
+    ensures { IfOk result (λ g. IsStory g.names g.set g.entries.items) }
+{
+    match legal_entries(alloc, &names, &set, text, most) {
+        Ok(entries) => Ok(Story {
+            names: names.into_names(),
+            set,
+            entries,
+        }),
+        Err(fail) => {
+            drop(names);
+            drop(set);
+            Err(fail)
+        }
+    }
+}
+
 /// What a text declares, and at most so many of its entries.
 pub fn story_of(alloc: Global, text: &str, most: usize) -> Result<Story, Fail>
     ensures { IfOk result (λ g. IsStory g.names g.set g.entries.items) }
@@ -79,18 +130,10 @@ pub fn story_of(alloc: Global, text: &str, most: usize) -> Result<Story, Fail>
     let Ok(head) = read_head(alloc, text.as_bytes()) else {
         return Err("head".into());
     };
-    let Ok((names, set)) = compile_head(alloc, head) else {
-        return Err("set".into());
-    };
-    let entries = entries_in(alloc, &names, text, most)?;
-    let Ok(_) = replay(alloc, &set, &entries) else {
-        return Err("entries".into());
-    };
-    Ok(Story {
-        names: names.into_names(),
-        set,
-        entries,
-    })
+    match compile_head(alloc, head) {
+        Ok((names, set)) => story_with(alloc, names, set, text, most),
+        Err(_) => Err("set".into()),
+    }
 }
 
 /// What a run of a journal came to: its disk, how many entries it found and has at its end, and why it stopped.
@@ -114,7 +157,10 @@ fn longer(
     let mut all = found.to_vec(alloc)?;
     all.extend_from_slice(rest)?;
     match replay(alloc, set, &all) {
-        Ok(_) => Ok(()),
+        Ok(replayed) => {
+            drop(replayed);
+            Ok(())
+        }
         Err(_) => Err(OutOfMemory),
     }
 }
@@ -180,11 +226,10 @@ pub fn run(alloc: Global, story: &Story, disk: MemDisk) -> Ran
 /// A disk with room for so many bytes and calls, some of which fail.
 pub fn disk(alloc: Global, room: usize, calls: usize, failing: &[u64]) -> Result<MemDisk, Fail> {
     let failing = failing.to_vec(alloc)?;
-    Ok(
-        MemDisk::new(alloc, room, calls, failing)
-            .ok()
-            .ok_or("memory")?,
-    )
+    match MemDisk::new(alloc, room, calls, failing) {
+        Ok(disk) => Ok(disk),
+        Err(_) => Err("memory".into()),
+    }
 }
 
 /// The bytes of a journal of these lines: for each an open gate, its length, its text and zeros, and a closed gate.

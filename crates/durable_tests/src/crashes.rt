@@ -1,6 +1,10 @@
 //! A journal that is stopped by a call of its disk that fails, and taken up again.
-use crate::base::{RUN, Ran, bytes_of, disk, run, story_of};
+ghost use Rattle.std.specs.Prelude.{◌≤◌};
+ghost use Rattle.durable_tests.specs.Story.{IsStory};
+
+use crate::base::{RUN, Ran, Story, bytes_of, disk, run, story_of};
 use durable_journal::LogError;
+use std::alloc::Global;
 use std::test::Fail;
 
 const LINES: [&str; 6] = [
@@ -21,94 +25,215 @@ fn is_whole(ran: &Ran, bytes: &[u8]) -> bool {
     ran.error.is_none() && ran.taken == 5 && ran.disk.bytes() == bytes
 }
 
-// Six calls make the journal, and four add an entry.
-#[test]
-fn stopped_once(rt: HostRuntime) -> Result<(), Fail> {
-    let alloc = rt.alloc();
-    let story = story_of(alloc, RUN, 5)?;
-    let bytes = bytes_of(alloc, &LINES)?;
-    for call in 6u64..26 {
-        for kept in (0usize..1600).step_by(37) {
-            let Ran {
-                mut disk,
-                taken,
-                error,
-                ..
-            } = run(alloc, &story, disk(alloc, 2000, 100, &[call])?);
-            assert!(rt; is_fault(&error) && taken == (call - 6) / 4, "call {call}");
-            disk.crash(kept);
-            let again = run(alloc, &story, disk);
-            let found = again.found as u64;
-            let more = found.saturating_sub(taken);
-            assert!(rt; found >= taken && more <= 1, "call {call}, kept {kept}");
-            assert!(rt; is_whole(&again, &bytes), "call {call}, kept {kept}");
-        }
-    }
-    Ok(())
+// Whether a run whose disk fails at this call, and then crashes, leaves a journal that the next run makes whole.
+fn is_made_whole(
+    alloc: Global,
+    story: &Story,
+    bytes: &[u8],
+    call: u64,
+    kept: usize,
+) -> Result<bool, Fail>
+    requires story { IsStory story.now.names story.now.set story.now.entries.items }
+    requires call { 6 ≤ call }
+{
+    let disk = disk(alloc, 2000, 100, &[call])?;
+    let Ran {
+        mut disk,
+        taken,
+        error,
+        ..
+    } = run(alloc, story, disk);
+    let stopped = is_fault(&error) && taken == (call - 6) / 4;
+    drop(error);
+    disk.crash(kept);
+    let again = run(alloc, story, disk);
+    let found = again.found as u64;
+    let more = found.saturating_sub(taken);
+    let whole = is_whole(&again, bytes);
+    drop(again);
+    Ok(stopped && whole && found >= taken && more <= 1)
 }
 
-// Stopped within the third append, and then at each call of the second run, its `open` included. That run makes 17 calls,
-// or 14 where the third entry is there: a sync, the header and a place more than it finds entries, and four calls an entry.
-#[test]
-fn stopped_twice(rt: HostRuntime) -> Result<(), Fail> {
-    let alloc = rt.alloc();
-    let story = story_of(alloc, RUN, 5)?;
-    let bytes = bytes_of(alloc, &LINES)?;
-    let mut stops = 0u64;
-    for first in 14u64..18 {
-        for second in first + 1..first + 20 {
-            for kept in [0usize, 769, 770, 800, 1024, 1025, 1030, 2000] {
-                let disk = disk(alloc, 2000, 200, &[first, second])?;
-                let Ran { mut disk, .. } = run(alloc, &story, disk);
-                disk.crash(2000usize.saturating_sub(kept));
-                let Ran {
-                    mut disk,
-                    taken,
-                    error,
-                    ..
-                } = run(alloc, &story, disk);
-                if error.is_none() {
-                    continue;
-                }
-                stops = stops.saturating_add(1);
-                disk.crash(kept);
-                let again = run(alloc, &story, disk);
-                let found = again.found as u64;
-                assert!(rt;
-                    found >= taken.max(2),
-                    "calls {first} and {second}, kept {kept}"
-                );
-                assert!(rt;
-                    is_whole(&again, &bytes),
-                    "calls {first} and {second}, kept {kept}"
-                );
+// The first call, and how many bytes are kept, with which the journal is not made whole, if there is one. Six calls make the
+// journal, and four add an entry.
+fn first_not_whole(alloc: Global, story: &Story, bytes: &[u8]) -> Result<Option<(u64, usize)>, Fail>
+    requires { IsStory story.now.names story.now.set story.now.entries.items }
+{
+    for call in 6u64..26 {
+        for kept in (0usize..1600).step_by(37) {
+            if !is_made_whole(alloc, story, bytes, call, kept)? {
+                return Ok(Some((call, kept)));
             }
         }
     }
-    assert_eq!(rt; stops, 3 * 8 * 17 + 7 * 14 + 17);
+    Ok(None)
+}
+
+#[test]
+fn stopped_once(rt: HostRuntime) -> Result<(), Fail> {
+    let alloc = rt.alloc();
+    let bytes = bytes_of(alloc, &LINES)?;
+    let story = story_of(alloc, RUN, 5)?;
+    let not_whole = first_not_whole(alloc, &story, &bytes);
+    drop(story);
+    assert_eq!(rt; not_whole?, None);
     Ok(())
 }
 
-// A call that fails at each place: of making the journal, of adding entries, and of opening it again.
+// How a journal stands after two runs that are to be stopped, and one on what is left.
+#[derive(Clone, Copy)]
+enum Stood {
+    // The second run was not stopped.
+    NotStopped,
+    Whole,
+    NotWhole,
+}
+
+// A run that is stopped at the first of these calls, one that is stopped at the second, if it comes to that, and one on what
+// is left then.
+fn stop_twice(
+    alloc: Global,
+    story: &Story,
+    bytes: &[u8],
+    calls: [u64; 2],
+    kept: usize,
+) -> Result<Stood, Fail>
+    requires { IsStory story.now.names story.now.set story.now.entries.items }
+{
+    let disk = disk(alloc, 2000, 200, &calls)?;
+    let Ran {
+        mut disk,
+        error,
+        ..
+    } = run(alloc, story, disk);
+    drop(error);
+    disk.crash(2000usize.saturating_sub(kept));
+    let Ran {
+        mut disk,
+        taken,
+        error,
+        ..
+    } = run(alloc, story, disk);
+    let stopped = error.is_some();
+    drop(error);
+    if !stopped {
+        drop(disk);
+        return Ok(Stood::NotStopped);
+    }
+    disk.crash(kept);
+    let again = run(alloc, story, disk);
+    let whole = is_whole(&again, bytes) && again.found as u64 >= taken.max(2);
+    drop(again);
+    Ok(if whole { Stood::Whole } else { Stood::NotWhole })
+}
+
+// How often the second run was stopped and the journal made whole, and how often it was not made whole. They are stopped
+// within the third append, and then at each call of the second run, its `open` included. That run makes 17 calls, or 14 where
+// the third entry is there: a sync, the header and a place more than it finds entries, and four calls an entry.
+fn stops(alloc: Global, story: &Story, bytes: &[u8]) -> Result<(u64, u64), Fail>
+    requires { IsStory story.now.names story.now.set story.now.entries.items }
+{
+    let (mut whole, mut not_whole) = (0u64, 0u64);
+    for first in 14u64..18 {
+        for second in first + 1..first + 20 {
+            for kept in [0usize, 769, 770, 800, 1024, 1025, 1030, 2000] {
+                match stop_twice(alloc, story, bytes, [first, second], kept)? {
+                    Stood::NotStopped => {}
+                    Stood::Whole => whole = whole.saturating_add(1),
+                    Stood::NotWhole => not_whole = not_whole.saturating_add(1),
+                }
+            }
+        }
+    }
+    Ok((whole, not_whole))
+}
+
+#[test]
+fn stopped_twice(rt: HostRuntime) -> Result<(), Fail> {
+    let alloc = rt.alloc();
+    let bytes = bytes_of(alloc, &LINES)?;
+    let story = story_of(alloc, RUN, 5)?;
+    let stops = stops(alloc, &story, &bytes);
+    drop(story);
+    let (whole, not_whole) = stops?;
+    assert_eq!(rt; not_whole, 0);
+    assert_eq!(rt; whole, 3 * 8 * 17 + 7 * 14 + 17);
+    Ok(())
+}
+
+// Whether a run on a new disk met a fault, and how many entries its journal has then.
+fn told_on(
+    alloc: Global,
+    story: &Story,
+    room: usize,
+    places: usize,
+    failing: &[u64],
+) -> Result<(bool, u64), Fail>
+    requires { IsStory story.now.names story.now.set story.now.entries.items }
+{
+    let ran = run(alloc, story, disk(alloc, room, places, failing)?);
+    let told = (is_fault(&ran.error), ran.taken);
+    drop(ran);
+    Ok(told)
+}
+
+// Whether a second run meets the fault of this call.
+fn is_fault_again(alloc: Global, story: &Story, call: u64) -> Result<bool, Fail>
+    requires { IsStory story.now.names story.now.set story.now.entries.items }
+{
+    let Ran { disk, error, .. } = run(alloc, story, disk(alloc, 2000, 100, &[call])?);
+    drop(error);
+    let ran = run(alloc, story, disk);
+    let told = is_fault(&ran.error);
+    drop(ran);
+    Ok(told)
+}
+
+// The first call that fails and is not told, of making the journal, of adding entries, and of opening it again, if there is
+// one.
+fn first_untold(alloc: Global, story: &Story) -> Result<Option<u64>, Fail>
+    requires { IsStory story.now.names story.now.set story.now.entries.items }
+{
+    for call in 0u64..26 {
+        let told = told_on(alloc, story, 2000, 100, &[call])?;
+        if told != (true, call.saturating_sub(6) / 4) {
+            return Ok(Some(call));
+        }
+    }
+    // A sync, the header and six places.
+    for call in 26u64..35 {
+        if is_fault_again(alloc, story, call)? != (call < 34) {
+            return Ok(Some(call));
+        }
+    }
+    Ok(None)
+}
+
+// The first room that is too small and is not told, if there is one: it is for one entry, or for seven writes and syncs.
+fn first_unfilled(alloc: Global, story: &Story) -> Result<Option<usize>, Fail>
+    requires { IsStory story.now.names story.now.set story.now.entries.items }
+{
+    for (room, places, taken) in [(600, 100, 1), (2000, 7, 0), (2000, 10, 1)] {
+        if told_on(alloc, story, room, places, &[])? != (true, taken) {
+            return Ok(Some(room));
+        }
+    }
+    Ok(None)
+}
+
+// The first call and the first room that are not told.
+fn all_untold(alloc: Global, story: &Story) -> Result<(Option<u64>, Option<usize>), Fail>
+    requires { IsStory story.now.names story.now.set story.now.entries.items }
+{
+    Ok((first_untold(alloc, story)?, first_unfilled(alloc, story)?))
+}
+
 #[test]
 fn fails(rt: HostRuntime) -> Result<(), Fail> {
     let alloc = rt.alloc();
     let story = story_of(alloc, RUN, 5)?;
-    for call in 0u64..26 {
-        let ran = run(alloc, &story, disk(alloc, 2000, 100, &[call])?);
-        assert!(rt; is_fault(&ran.error), "call {call}");
-        assert!(rt; ran.taken == call.saturating_sub(6) / 4, "call {call}");
-    }
-    // A sync, the header and six places.
-    for call in 26u64..35 {
-        let Ran { disk, .. } = run(alloc, &story, disk(alloc, 2000, 100, &[call])?);
-        let ran = run(alloc, &story, disk);
-        assert!(rt; is_fault(&ran.error) == (call < 34), "call {call}");
-    }
-    // Room for one entry, and places for seven writes and syncs.
-    for (room, places, taken) in [(600, 100, 1), (2000, 7, 0), (2000, 10, 1)] {
-        let ran = run(alloc, &story, disk(alloc, room, places, &[])?);
-        assert!(rt; is_fault(&ran.error) && ran.taken == taken, "room {room}");
-    }
+    let untold = all_untold(alloc, &story);
+    drop(story);
+    assert_eq!(rt; untold?, (None, None));
     Ok(())
 }

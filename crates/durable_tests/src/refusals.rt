@@ -73,21 +73,65 @@ fn answer_of(alloc: Global, story: &Story, room: usize, disk: MemDisk) -> Answer
     requires { IsStory story.now.names story.now.set story.now.entries.items }
 {
     match Log::open(alloc, disk, &story.names, &story.set, room) {
-        Ok(opened) => Opened(opened.1.len()),
-        Err(refused) => refusal_of(refused.1),
+        Ok((log, found)) => {
+            let count = found.len();
+            drop(log);
+            drop(found);
+            Opened(count)
+        }
+        Err((disk, error)) => {
+            drop(disk);
+            refusal_of(error)
+        }
     }
+}
+
+// The disk of a run that meets no fault.
+fn disk_of(alloc: Global, story: &Story) -> Result<MemDisk, Fail>
+    requires { IsStory story.now.names story.now.set story.now.entries.items }
+{
+    let Ran { disk, error, .. } = run(alloc, story, disk(alloc, 2000, 100, &[])?);
+    drop(error);
+    Ok(disk)
+}
+
+// What a journal answers after a byte of it was changed.
+fn answer_after(
+    alloc: Global,
+    story: &Story,
+    at: u64,
+    byte: u8,
+    room: usize,
+) -> Result<Answer, Fail>
+    requires { IsStory story.now.names story.now.set story.now.entries.items }
+{
+    let mut disk = disk_of(alloc, story)?;
+    if disk.write_at(at, &[byte]).is_err() {
+        drop(disk);
+        return Err("not written".into());
+    }
+    Ok(answer_of(alloc, story, room, disk))
+}
+
+// The first byte whose change is not answered as it is to be, if there is one.
+fn first_unlike(alloc: Global, story: &Story) -> Result<Option<(u64, u8)>, Fail>
+    requires { IsStory story.now.names story.now.set story.now.entries.items }
+{
+    for (at, byte, room, wanted) in CHANGES {
+        if answer_after(alloc, story, at, byte, room)? != wanted {
+            return Ok(Some((at, byte)));
+        }
+    }
+    Ok(None)
 }
 
 #[test]
 fn changed(rt: HostRuntime) -> Result<(), Fail> {
     let alloc = rt.alloc();
     let story = story_of(alloc, RUN, 5)?;
-    for (at, byte, room, wanted) in CHANGES {
-        let Ran { mut disk, .. } = run(alloc, &story, disk(alloc, 2000, 100, &[])?);
-        assert!(rt; disk.write_at(at, &[byte]).is_ok());
-        let had = answer_of(alloc, &story, room, disk);
-        assert!(rt; had == wanted, "byte {at} to {byte}");
-    }
+    let unlike = first_unlike(alloc, &story);
+    drop(story);
+    assert_eq!(rt; unlike?, None);
     Ok(())
 }
 
@@ -111,29 +155,90 @@ mode trial
     ),
 ];
 
-#[test]
-fn others(rt: HostRuntime) -> Result<(), Fail> {
-    let alloc = rt.alloc();
-    let own = story_of(alloc, RUN, 5)?;
-    for (text, wanted) in OTHERS {
-        let other = story_of(alloc, text, 0)?;
-        let Ran { disk, .. } = run(alloc, &own, disk(alloc, 2000, 100, &[])?);
-        assert_eq!(rt; answer_of(alloc, &other, 5, disk), wanted);
+// What the journal of a run answers for the story of another text.
+fn answer_for(alloc: Global, own: &Story, text: &str) -> Result<Answer, Fail>
+    requires { IsStory own.now.names own.now.set own.now.entries.items }
+{
+    let disk = disk_of(alloc, own)?;
+    match story_of(alloc, text, 0) {
+        Ok(other) => {
+            let answer = answer_of(alloc, &other, 5, disk);
+            drop(other);
+            Ok(answer)
+        }
+        Err(fail) => {
+            drop(disk);
+            Err(fail)
+        }
     }
-    // An empty disk, and one with the header alone, whose next gate is then written.
+}
+
+// What an empty disk answers.
+fn answer_of_empty(alloc: Global, own: &Story) -> Result<Answer, Fail>
+    requires { IsStory own.now.names own.now.set own.now.entries.items }
+{
     let empty = disk(alloc, 2000, 100, &[])?;
-    assert_eq!(rt; answer_of(alloc, &own, 5, empty), Bad(0));
+    Ok(answer_of(alloc, own, 5, empty))
+}
+
+// A disk with the header alone.
+fn header(alloc: Global) -> Result<MemDisk, Fail> {
     let mut header = disk(alloc, 2000, 100, &[])?;
     let mut record = [0; 256];
     record[0] = 1;
     record[1] = 14;
     record[2..16].copy_from_slice(b"rtdb journal 1");
-    assert!(rt; header.write_at(0, &record[..255]).is_ok());
-    assert!(rt; header.write_at(255, &[0]).is_ok());
-    let Ok((log, found)) = Log::open(alloc, header, &own.names, &own.set, 5) else {
-        return Err("not opened".into());
-    };
-    let disk = log.into_disk();
-    assert!(rt; found.is_empty() && disk.bytes().len() == 257);
+    let text = header.write_at(0, &record[..255]).is_ok();
+    let gate = header.write_at(255, &[0]).is_ok();
+    if !text || !gate {
+        drop(header);
+        return Err("not written".into());
+    }
+    Ok(header)
+}
+
+// How many entries are found on that disk, and how many bytes it has when its next gate is written.
+fn opened_header(alloc: Global, own: &Story) -> Result<(usize, usize), Fail>
+    requires { IsStory own.now.names own.now.set own.now.entries.items }
+{
+    let header = header(alloc)?;
+    match Log::open(alloc, header, &own.names, &own.set, 5) {
+        Ok((log, found)) => {
+            let count = found.len();
+            drop(found);
+            let disk = log.into_disk();
+            let size = disk.bytes().len();
+            drop(disk);
+            Ok((count, size))
+        }
+        Err((disk, error)) => {
+            drop(disk);
+            drop(error);
+            Err("not opened".into())
+        }
+    }
+}
+
+// What is answered for each of the other stories and on an empty disk, and what is found on one with the header alone.
+fn answers(alloc: Global, own: &Story) -> Result<([Answer; 3], (usize, usize)), Fail>
+    requires { IsStory own.now.names own.now.set own.now.entries.items }
+{
+    let [(names, _), (period, _)] = OTHERS;
+    let others = [
+        answer_for(alloc, own, names)?,
+        answer_for(alloc, own, period)?,
+        answer_of_empty(alloc, own)?,
+    ];
+    Ok((others, opened_header(alloc, own)?))
+}
+
+#[test]
+fn others(rt: HostRuntime) -> Result<(), Fail> {
+    let alloc = rt.alloc();
+    let own = story_of(alloc, RUN, 5)?;
+    let answers = answers(alloc, &own);
+    drop(own);
+    let [(_, names), (_, period)] = OTHERS;
+    assert_eq!(rt; answers?, ([names, period, Bad(0)], (0, 257)));
     Ok(())
 }
