@@ -1,7 +1,7 @@
 -- What is known of the run of a scenario, and what is answered after it.
-use Rattle.std.proofs.Common.{◌≡◌, ◌⊎◌, inl, inr, ℕ, ◌+◌, ◌<◌, ◌≤◌, Bool, true, false, not, List, [], ◌∷◌, ◌++◌, length, map, Option, None, Some, Result, Ok, Err, IfOk, refl, sym, ap, subst, ◌∙◌, arith}
+use Rattle.std.proofs.Common.{◌≡◌, inl, inr, ℕ, ◌+◌, ◌<◌, true, false, List, [], ◌∷◌, length, Option, None, Some, Result, Ok, Err, IfOk, refl, sym, ap, subst, ◌∙◌, arith}
 use Rattle.std.specs.Prelude.{IfSome}
-use Rattle.std.specs.List.{list_any, position, position_from}
+use Rattle.std.specs.List.{list_any, position_from}
 use Rattle.std.proofs.lemmas.Iterator.Adapters.{position_from-zero}
 use Rattle.rt_base.specs.Names.{AreNames}
 use Rattle.rt_base.specs.declared.name.Names.{Names}
@@ -11,7 +11,6 @@ use Rattle.scenario.specs.declared.releases.Releases.{Releases}
 use Rattle.scenario.specs.declared.releases.Releases.TheVariants.{At, Jobs, Eager}
 use Rattle.scenario.specs.Releases.{is_eager}
 use Rattle.scenario.specs.Shown.{Shown, set_of}
-use Rattle.scenario.specs.Scenarios.{IsScenario}
 use Rattle.sim_history.specs.Sim.{Workload, IsSim}
 use Rattle.sim_run.specs.Workloads.{AreAccepted, IsObedient}
 use Rattle.sim_run.proofs.Exist.{runs_are}
@@ -34,11 +33,11 @@ use Rattle.scenario_run.specs.Runs.{IsRunText, has_eager}
 use Rattle.scenario_run.proofs.Guarantees.{run_text}
 use Rattle.durable_records.specs.Records.{slot_at}
 use Rattle.durable_journal.specs.Texts.{IsHeader}
-use Rattle.durable_journal.specs.Opened.{IsOpened, IsBad, IsRefused}
+use Rattle.durable_journal.specs.Opened.{IsBad}
 use Rattle.durable_journal.specs.declared.log.LogError.{LogError}
 use Rattle.durable_journal.specs.declared.log.LogError.TheVariants.{DiskFault, BadRecord, Full, Stopped, OutOfMemory}
-use Rattle.journal_out.specs.Compared.{Begins, IsOtherRecord}
-use Rattle.journal_run.specs.Found.{IsFound, TakesUp, IsBadFor, Holds, RefusedAt}
+use Rattle.journal_out.specs.Compared.{Begins}
+use Rattle.journal_run.specs.Found.{IsFound, IsBadFor, Holds, RefusedAt}
 use Rattle.journal_run.specs.Ran.{HasOther}
 use Rattle.journal_run.specs.Replies.{first_eager, Unhurried, JournalReply, TookUp, HasBad, HoldsRun, Journaled, LeavesDisk, bad_line}
 use Rattle.journal_run.specs.Plans.{IsCalm, IsBegunOf}

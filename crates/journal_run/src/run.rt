@@ -11,88 +11,32 @@ ghost use Rattle.job_rows.specs.Upkeep.{Follows, planned_jobs};
 ghost use Rattle.report_lines.specs.Texts.{NamesSet};
 ghost use Rattle.run_report.specs.Report.{opening_text, report_of};
 ghost use Rattle.durable_journal.specs.Opened.{IfFull};
-ghost use Rattle.scenario_run.specs.Runs.{asked_by};
 ghost use Rattle.journal_run.specs.Ready.{CanRun, workload_in};
-ghost use Rattle.journal_run.specs.Plans.{IsPlan, HasBegun};
+ghost use Rattle.journal_run.specs.Plans.{HasBegun};
 ghost use Rattle.journal_run.specs.Replies.{JournalReply, Journaled, HoldsRun, LeavesDisk, bad_line};
 ghost use Rattle.journal_run.specs.Refused.{IsNamed};
 
 use crate::beside::number_beside;
+use crate::equip::{Begun, equipped};
 use crate::opening::opened;
 use crate::over::{Halt, run_log};
-use crate::plan::{Plan, planned};
+use crate::plan::planned;
 use crate::refusals::bad_record;
 use crate::report::ended_report;
 use crate::runner::Runner;
-use admitted_core::AdmittedCore;
 use board::Board;
 use command_replies::{Reply, Status, written};
 use durable_disk::Disk;
 use durable_journal::LogError;
 use entry_out::KeptEntries;
-use rt_base::{Names, OutOfMemory};
+use rt_base::Names;
 use run_fault::RunFault;
 use run_report::ReportWriter;
 use scenario::Scenario;
-use scenario_run::{BOARD_ROOM, Bodies};
 use std::alloc::Global;
 use step_journal::Entry;
-use step_script::{Body, Script};
+use step_script::Body;
 use txn_set::CompiledSet;
-
-// What the run of a scenario has beside its board, bodies and ticks: the head of its report, and a place for its entries.
-#[derive(Drop)]
-struct Begun {
-    names: Names,
-    set: CompiledSet,
-    report: (ReportWriter, Vec<u8>),
-    kept: Vec<Entry>,
-    room: usize,
-}
-
-// All that a run needs, taken before it begins.
-fn equipped(alloc: Global, plan: Plan) -> Result<(Begun, Runner<AdmittedCore, Script>), OutOfMemory>
-    requires { (s : Shown) × IsPlan s plan }
-    ensures begun { (s : Shown) → IsPlan s plan → IfOk result (λ r. HasBegun s (workload_in ⟦<AdmittedCore as Board>⟧.set asked_by r.1) r.0) }
-    ensures ready { IfOk result (λ r. CanRun ⟦<AdmittedCore as Board>⟧.stands ⟦<AdmittedCore as Board>⟧.set ⟦<AdmittedCore as Board>⟧.room asked_by r.1) }
-{
-    let Plan {
-        names,
-        set,
-        bodies,
-        room,
-    } = plan;
-    let jobs = bodies.jobs();
-    let copy = set.set().copy(alloc)?;
-    let mut head = Vec::new(alloc);
-    let writer = ReportWriter::begin(alloc, &names, set.set(), Some(&set), jobs, &mut head)?;
-    let Bodies {
-        scripts,
-        ticks,
-        own: _,
-    } = bodies;
-    let serials = vec![in alloc; 0; scripts.len()]?;
-    let spare = Vec::with_capacity(alloc, BOARD_ROOM)?;
-    let kept = Vec::with_capacity(alloc, room)?;
-    let Ok(board) = AdmittedCore::new(alloc, set, BOARD_ROOM) else {
-        return Err(OutOfMemory);
-    };
-    let runner = Runner {
-        board,
-        bodies: scripts,
-        ticks,
-        serials,
-        spare,
-    };
-    let begun = Begun {
-        names,
-        set: copy,
-        report: (writer, head),
-        kept,
-        room,
-    };
-    Ok((begun, runner))
-}
 
 // The reply that names a bad record.
 fn bad(alloc: Global, number: u64) -> Result<Reply, RunFault>
