@@ -1,5 +1,4 @@
 mod Outside
-mod Same
 mod Agains
 mod Replayed
 mod Spans

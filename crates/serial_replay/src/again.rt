@@ -8,7 +8,7 @@ ghost use Rattle.serial_replay.specs.Boards.{GoesOnBy};
 ghost use Rattle.serial_replay.specs.Replays.{IsFirstIllegal, HasReplayed};
 
 use board::{Board, IdleReply, StepReply, answers_are_steps};
-use rt_base::{JobId, Op, Tick, TxId};
+use rt_base::{End, JobId, Op, Outcome, Tick, TxId};
 use step_journal::Entry;
 
 // Whether the board's set has this transaction.
@@ -104,12 +104,73 @@ fn made<B: Board>(board: &mut B, entry: &Entry) -> Option<Entry>
     }
 }
 
+#[inline(always)]
+fn is_same_outcome(a: &Outcome, b: &Outcome) -> bool
+    ensures { IsTrue result ↔ (a.now ≡ b.now) }
+{
+    a == b
+}
+
+#[inline(always)]
+fn is_same_over(a: &Option<End>, b: &Option<End>) -> bool
+    ensures { IsTrue result ↔ (a.now ≡ b.now) }
+{
+    a == b
+}
+
+// Whether two entries are the same. It compares their parts where they stand, so that neither is put together for it.
+#[inline(always)]
+fn is_same(made: &Entry, entry: &Entry) -> bool
+    ensures { IsTrue result ↔ (made.now ≡ entry.now) }
+{
+    match (made, entry) {
+        (Entry::Planned { tx, tick }, Entry::Planned { tx: t, tick: k }) => tick == k && tx == t,
+        (
+            Entry::Step {
+                job,
+                op,
+                outcome,
+                over,
+                tick,
+            },
+            Entry::Step {
+                job: j,
+                op: o,
+                outcome: r,
+                over: v,
+                tick: k,
+            },
+        ) => {
+            tick == k && job == j && op == o && is_same_outcome(outcome, r) && is_same_over(over, v)
+        }
+        (
+            Entry::Blocked {
+                job,
+                op,
+                by,
+                ceiling,
+                tick,
+            },
+            Entry::Blocked {
+                job: j,
+                op: o,
+                by: b,
+                ceiling: c,
+                tick: k,
+            },
+        ) => tick == k && job == j && op == o && by == b && ceiling == c,
+        (Entry::Idle { from, to }, Entry::Idle { from: f, to: t }) => from == f && to == t,
+        _ => false,
+    }
+}
+
 // Whether it is this entry.
+#[inline(always)]
 fn is_this(made: Option<Entry>, entry: &Entry) -> bool
     ensures { IsTrue result ↔ (made ≡ Some entry.now) }
 {
     match made {
-        Some(made) => made == *entry,
+        Some(made) => is_same(&made, entry),
         None => false,
     }
 }
