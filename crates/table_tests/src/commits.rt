@@ -6,6 +6,7 @@ use rand::RngExt;
 use rand_pcg::Pcg32;
 use rt_base::{ItemId, List, OutOfMemory, Tick, TogetherDecl, Value};
 use std::alloc::Global;
+use std::slice;
 use strict_commit::{ApartRead, CommitRefused, StaleRead, Work};
 
 const TEMP: ItemId = ItemId(0);
@@ -66,10 +67,10 @@ fn end_of(
     let mut items = Items::new(alloc, &DECLS)?;
     match group(alloc, TEMP, FLOW, 5) {
         Ok(pair) => {
-            let together = [pair];
-            let ended = work.commit(&DECLS, &together, &mut items, 10, at);
+            let together = slice::from_ref(&pair);
+            let ended = work.commit(&DECLS, together, &mut items, 10, at);
             let mean = items.as_slice().get(2).copied();
-            drop(together);
+            drop(pair);
             drop(items);
             Ok((ended, mean))
         }
@@ -285,15 +286,11 @@ fn first_unlike(work: &mut Work, items: &mut Items, together: &[TogetherDecl]) -
 }
 
 // Temperature and flow lie within 6, and flow and mean within 8.
-fn groups(alloc: Global) -> Result<[TogetherDecl; 2], OutOfMemory> {
-    let first = group(alloc, TEMP, FLOW, 6)?;
-    match group(alloc, FLOW, MEAN, 8) {
-        Ok(second) => Ok([first, second]),
-        Err(error) => {
-            drop(first);
-            Err(error)
-        }
-    }
+fn groups(alloc: Global) -> Result<Vec<TogetherDecl>, OutOfMemory> {
+    let mut groups = Vec::new(alloc);
+    groups.push(group(alloc, TEMP, FLOW, 6)?)?;
+    groups.push(group(alloc, FLOW, MEAN, 8)?)?;
+    Ok(groups)
 }
 
 // The same of new items and of relative sets.

@@ -74,82 +74,78 @@ fn act(held: &mut Held, what: LockKind, tx: u32, item: u32)
     }
 }
 
+// A transaction, a lock that it asks for or Free where its job ends, the item, and whether the lock is granted.
+type Row = (u32, LockKind, u32, bool);
+
+use LockKind::{Free, Read, Write};
+
 // The locks of three runs, in their order; each is asked for, and added where it is granted. The first is of a sampler, a
 // controller and a logger, which write the temperature (item 0); read it and write the valve (item 1); and read both. In
 // the others the first and the second read an item (item 2) that the third may write, and then that the third has written.
 // Own locks do not count; an equal ceiling and a write lock refuse, and readers share.
-const RUNS: &str = "\
-0 write 0 granted
-0 ends 0 granted
-1 read 0 granted
-1 write 1 granted
-1 ends 0 granted
-2 read 0 granted
-2 read 1 granted
-0 write 0 refused
-2 ends 0 granted
-0 write 0 granted
-0 ends 0 granted
-0 write 0 granted
-0 ends 0 granted
-1 read 0 granted
-1 write 1 granted
-1 ends 0 granted
-0 write 0 granted
-0 ends 0 granted
-1 read 2 granted
-0 read 2 granted
-0 ends 0 granted
-1 ends 0 granted
-2 write 2 granted
-0 read 2 refused
-2 ends 0 granted
-0 read 2 granted
-";
+const RUNS: [Row; 26] = [
+    (0, Write, 0, true),
+    (0, Free, 0, true),
+    (1, Read, 0, true),
+    (1, Write, 1, true),
+    (1, Free, 0, true),
+    (2, Read, 0, true),
+    (2, Read, 1, true),
+    (0, Write, 0, false),
+    (2, Free, 0, true),
+    (0, Write, 0, true),
+    (0, Free, 0, true),
+    (0, Write, 0, true),
+    (0, Free, 0, true),
+    (1, Read, 0, true),
+    (1, Write, 1, true),
+    (1, Free, 0, true),
+    (0, Write, 0, true),
+    (0, Free, 0, true),
+    (1, Read, 2, true),
+    (0, Read, 2, true),
+    (0, Free, 0, true),
+    (1, Free, 0, true),
+    (2, Write, 2, true),
+    (0, Read, 2, false),
+    (2, Free, 0, true),
+    (0, Read, 2, true),
+];
 
-fn number(word: Option<&str>) -> Option<u32> {
-    word?.parse::<u32>().ok()
-}
-
-// The transaction, what it does, the item, and what is answered: a refusal is by the third transaction's lock, of ceiling 3.
-fn row(line: &str) -> Option<(u32, LockKind, u32, Result<(), Above>)> {
-    let mut words = line.split(' ');
-    let tx = number(words.next())?;
-    let what = match words.next()? {
-        "read" => LockKind::Read,
-        "write" => LockKind::Write,
-        _ => LockKind::Free,
+// Whether a lock is answered as it stands in the row. A lock that is granted is added, and a refusal is by the third
+// transaction's lock, of ceiling 3.
+fn holds(held: &mut Held, row: Row) -> bool
+    requires txns { length held.old.prios ≡ 3 }
+    requires items { length held.old.ceilings ≡ 4 }
+    ensures prios { held.new.prios ≡ held.old.prios }
+    ensures ceilings { held.new.ceilings ≡ held.old.ceilings }
+{
+    let (tx, what, item, granted) = row;
+    if tx >= 3 || item >= 4 {
+        return false;
+    }
+    let answer = if what == Free {
+        Ok(())
+    } else {
+        asked::<Brand>(held, TxId(tx), Blank::new(1))
     };
-    let item = number(words.next())?;
-    let answer = match words.next()? {
-        "granted" => Ok(()),
-        _ => Err(Above {
-            holder: TxId(2),
-            ceiling: 3,
-        }),
+    if answer.is_ok() {
+        act(held, what, tx, item);
+        return granted;
+    }
+    let above = Above {
+        holder: TxId(2),
+        ceiling: 3,
     };
-    Some((tx, what, item, answer))
+    !granted && answer == Err(above)
 }
 
 #[test]
 fn runs(rt: HostRuntime) -> Result<(), OutOfMemory> {
     let mut held = unlocked(rt.alloc())?;
-    let mut count = 0u32;
-    for line in RUNS.lines() {
-        let (tx, what, item, want) = row(line).expect(&rt, "a row");
-        assert!(rt; tx < 3 && item < 4);
-        let answer = if what == LockKind::Free {
-            Ok(())
-        } else {
-            asked::<Brand>(&held, TxId(tx), Blank::new(1))
-        };
-        assert!(rt; answer == want, "{line}");
-        if answer.is_ok() {
-            act(&mut held, what, tx, item);
-        }
-        count = count.saturating_add(1);
+    for row in RUNS {
+        assert!(rt; holds(&mut held, row));
     }
-    assert_eq!(rt; count, 26);
     drop(held);
     Ok(())
 }
@@ -254,17 +250,24 @@ fn sixty_four(alloc: Global) -> Result<Vec<Prio>, OutOfMemory>
     Ok(prios)
 }
 
-// As many transactions as there may be hold read locks with the ceiling 0.
-#[test]
-fn ranks(rt: HostRuntime) -> Result<(), OutOfMemory> {
-    let alloc = rt.alloc();
+// Nothing is locked, of one item that is only read and of as many transactions as there may be.
+fn most_unlocked(alloc: Global) -> Result<Held, OutOfMemory>
+    ensures items { IfOk result (λ h. length h.ceilings ≡ 1) }
+    ensures txns { IfOk result (λ h. length h.prios ≡ 64) }
+{
     let only_read = CeilRow {
         write: 0,
         absolute: 64,
     };
-    let items = Vec::from_array(alloc, [only_read])?;
     let prios = sixty_four(alloc)?;
-    let mut held = Held::new(alloc, items, prios)?;
+    let items = Vec::from_array(alloc, [only_read])?;
+    Held::new(alloc, items, prios)
+}
+
+// Read locks of all of them have the ceiling 0.
+#[test]
+fn ranks(rt: HostRuntime) -> Result<(), OutOfMemory> {
+    let mut held = most_unlocked(rt.alloc())?;
     for tx in 0..64 {
         held.lock_read(TxId(tx), ItemId(0));
     }

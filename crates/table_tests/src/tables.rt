@@ -96,6 +96,7 @@ fn answers_when_new(rt: HostRuntime) -> Result<(), OutOfMemory> {
     );
     assert!(rt; tables.idle_check(0, 4) == IdleReply::Nothing);
     let refused = tables.refusal(&set, JOB, Op::Compute, 0, 4);
+    drop(set);
     assert!(rt;
         refused
             == Some(StepReply::NoJob {
@@ -104,6 +105,8 @@ fn answers_when_new(rt: HostRuntime) -> Result<(), OutOfMemory> {
             })
     );
     assert!(rt; tables.plan(LOW, 0, 0, 4) == Ok(JOB));
-    assert_eq!(rt; tables.into_items().len(), 1);
+    let items = tables.into_items();
+    assert!(rt; items.len() == 1);
+    drop(items);
     Ok(())
 }

@@ -1,5 +1,5 @@
 //! Two readers and a writer of one state item.
-ghost use Rattle.std.specs.Prelude.{◌≡◌, IfOk};
+ghost use Rattle.std.specs.Prelude.{◌≡◌, ◌++◌, [], ◌∷◌, IfOk};
 ghost use Rattle.table_tests.specs.Trio.{trio as trio_of, trio_items, trio_txns, trio_ceilings, plain_txn};
 
 use item_model::{ItemDecl, ItemKind};
@@ -49,17 +49,28 @@ fn items(alloc: Global) -> Result<Vec<ItemDecl>, OutOfMemory>
     Ok(items)
 }
 
+// These transactions and one more.
+fn with_txn(
+    alloc: Global,
+    txns: Vec<TxnDecl>,
+    prio: Prio,
+    period: Tick,
+    reads: &[ItemId],
+    writes: &[ItemId],
+) -> Result<Vec<TxnDecl>, OutOfMemory>
+    ensures { IfOk result (λ v. v.items ≡ txns.items ++ plain_txn prio period reads.now writes.now ∷ []) }
+{
+    let mut txns = txns;
+    txns.push(txn(alloc, prio, period, reads, writes)?)?;
+    Ok(txns)
+}
+
 fn txns(alloc: Global) -> Result<Vec<TxnDecl>, OutOfMemory>
     ensures { IfOk result (λ v. v.items ≡ trio_txns) }
 {
-    let high = txn(alloc, 3, 20, &[ItemId(0)], &[])?;
-    let middle = txn(alloc, 2, 20, &[ItemId(0)], &[])?;
-    let low = txn(alloc, 1, 40, &[], &[ItemId(0)])?;
-    let mut txns = Vec::new(alloc);
-    txns.push(high)?;
-    txns.push(middle)?;
-    txns.push(low)?;
-    Ok(txns)
+    let high = with_txn(alloc, Vec::new(alloc), 3, 20, &[ItemId(0)], &[])?;
+    let middle = with_txn(alloc, high, 2, 20, &[ItemId(0)], &[])?;
+    with_txn(alloc, middle, 1, 40, &[], &[ItemId(0)])
 }
 
 fn ceilings(alloc: Global) -> Result<Vec<Ceilings>, OutOfMemory>

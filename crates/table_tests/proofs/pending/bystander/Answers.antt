@@ -1,6 +1,6 @@
 use Rattle.std.proofs.Common.{refl, arith}
 use Rattle.rt_base.specs.declared.operation.Op.TheVariants.{Read}
-use Rattle.table_tests.specs.Trio.{x, first_job}
+use Rattle.table_tests.specs.Trio.{x, first_job, written_rows}
 use Rattle.table_tests.proofs.TrioSteps.{waiting_rows, three_rows, left_rows, high_waits, middle_stands_by, low_ends, may_wait_now, within, within_job, free_job, has_item}
 use Rattle.table_tests.proofs.pending.bystander.Goals as goal
 
@@ -38,3 +38,6 @@ is_pending-requires g c =
     within_job c.end.new.self left_rows c.first_of-8.result (first_job 2) (low_ends c.release.new.self c.end.new.self (middle_stands_by c.wait.new.self c.release.new.self c.first_of-5.result
     (high_waits c.in_ok-pending.pending c.wait.new.self c.first_of-4.result c.in_ok-pending.ensures c.first_of-4.ensures c.wait.ensures) c.first_of-5.ensures c.release.ensures) c.end.ensures)
     c.first_of-8.ensures (omega arith)
+
+pub wait-requires-clause-tx : goal.wait-requires-clause-tx
+wait-requires-clause-tx g c = within c.in_ok-pending.pending written_rows 0 c.in_ok-pending.ensures (omega arith)

@@ -1,6 +1,9 @@
-use Rattle.std.proofs.Common.{refl, arith}
-use Rattle.table_tests.specs.Trio.{first_job}
-use Rattle.table_tests.proofs.TrioSteps.{middle_rows, middle_done, high_after_middle, within_job, free_job}
+use Rattle.std.proofs.Common.{refl, arith, length, ap, sym, ◌∙◌}
+use Rattle.pending_jobs.specs.Rows.{PendingSeen}
+use Rattle.rt_base.specs.declared.operation.Op.TheVariants.{Read}
+use Rattle.step_journal.specs.State.{new_row}
+use Rattle.table_tests.specs.Trio.{first_job, no_rows, x}
+use Rattle.table_tests.proofs.TrioSteps.{middle_rows, middle_done, high_after_middle, released, middle_released, within, within_job, free_job, has_item, as_many, little_used}
 use Rattle.table_tests.proofs.pending.middle_read.Goals as goal
 
 pub release-requires-2-clause-tx : goal.release-requires-2-clause-tx
@@ -17,3 +20,16 @@ pub returns : goal.returns
 returns c =
     high_after_middle c.step.new.self c.release-2.new.self c.first_of-2.result (middle_done c.in_ok-pending.pending c.release.new.self c.step.new.self c.first_of.result c.in_ok-items.items c.in_ok-pending.ensures c.first_of.ensures c.in_ok-items.ensures c.release.ensures c.step.ensures)
     c.first_of-2.ensures c.release-2.ensures
+
+pub step-requires-clause-items : goal.step-requires-clause-items
+step-requires-clause-items c =
+    as_many c.in_ok-pending.pending no_rows c.in_ok-items.items c.in_ok-pending.ensures c.in_ok-items.ensures ∙ ap (λ (p : PendingSeen). length p.facts.ceilings) (sym c.release.ensures)
+
+pub step-requires-clause-tx : goal.step-requires-clause-tx
+step-requires-clause-tx c = within c.release.new.self middle_released 1 (released c.in_ok-pending.pending c.release.new.self no_rows c.first_of.result (first_job 1) 0 c.in_ok-pending.ensures c.first_of.ensures c.release.ensures) (omega arith)
+
+pub step-requires-clause-item : goal.step-requires-clause-item
+step-requires-clause-item c = has_item c.release.new.self middle_released (Read x) (released c.in_ok-pending.pending c.release.new.self no_rows c.first_of.result (first_job 1) 0 c.in_ok-pending.ensures c.first_of.ensures c.release.ensures) (omega arith)
+
+pub step-requires-clause-used : goal.step-requires-clause-used
+step-requires-clause-used c = little_used c.release.new.self middle_released 1 (new_row (first_job 1) 0) (released c.in_ok-pending.pending c.release.new.self no_rows c.first_of.result (first_job 1) 0 c.in_ok-pending.ensures c.first_of.ensures c.release.ensures) refl (omega arith)
