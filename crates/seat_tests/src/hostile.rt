@@ -4,7 +4,7 @@ ghost use Rattle.std.specs.Prelude.{◌≡◌, Some};
 ghost use Rattle.shared_plant.specs.Seats.{IsOf};
 ghost use Rattle.rt_base.specs.declared.ids.TxId.{TxId as Transaction};
 
-use crate::calls::{idled, replied};
+use crate::calls::{idled, plan_each, replied};
 use crate::house::{House, closed};
 use crate::turns::PLANS;
 use board::{Board, StepReply};
@@ -200,53 +200,38 @@ pub struct Hostile {
     pub all_drained: bool,
 }
 
-// The history of a plant that was drained, which is closed.
-fn closed_with<B: Board + Drop>(
-    alloc: Global,
-    house: House<B>,
-    history: Vec<Entry>,
-    refused: [u32; 3],
-) -> Option<Hostile> {
-    let (_, _, board) = closed(alloc, house)?;
-    let all_drained = board.first() == history.len() as u64 && board.entries().is_empty();
-    drop(board);
-    Some(Hostile {
-        history,
-        refused,
-        all_drained,
-    })
-}
-
 // Drains the plant, and closes it.
 fn drained_whole<B: Board + Drop>(
     alloc: Global,
     mut house: House<B>,
     refused: [u32; 3],
 ) -> Option<Hostile> {
-    let Ok(mut history) = Vec::with_capacity(alloc, 4096) else {
-        drop(house);
-        return None;
-    };
-    if house.drain(4096, &mut history).is_none() {
-        drop(history);
-        drop(house);
-        return None;
-    }
-    closed_with(alloc, house, history, refused)
+    let mut history = Vec::with_capacity(alloc, 4096).ok()?;
+    house.drain(4096, &mut history)?;
+    let (_, _, board) = closed(alloc, house)?;
+    Some(Hostile {
+        all_drained: board.first() == history.len() as u64 && board.entries().is_empty(),
+        history,
+        refused,
+    })
 }
 
-// Lets each caller run its jobs to their ends at once: the plant then, and how many operations of each were refused.
-fn after_jobs<R: Threads + Wait + Sync, B: Board + Send>(
+/// Plans the releases, lets each caller run its jobs to their ends at once, and drains the plant then. It may wait.
+pub fn take_hostile_turns<R: Threads + Wait + Sync, B: Board + Send + Drop>(
     rt: &R,
+    alloc: Global,
     house: House<B>,
-) -> (House<B>, [u32; 3]) {
+) -> Option<Hostile> {
     let House {
         plant,
-        operator,
+        mut operator,
         sample,
         control,
         logger,
     } = house;
+    if !plan_each(&plant, &mut operator, &PLANS) {
+        return None;
+    }
     let ((sample, sampled), ((control, controlled), (logger, logged))) = join(
         rt,
         || -> (Seat<B>, u32)
@@ -266,19 +251,5 @@ fn after_jobs<R: Threads + Wait + Sync, B: Board + Send>(
         control,
         logger,
     };
-    (house, [sampled, controlled, logged])
-}
-
-/// Plans the releases, lets each caller run its jobs to their ends at once, and drains the plant then. It may wait.
-pub fn take_hostile_turns<R: Threads + Wait + Sync, B: Board + Send + Drop>(
-    rt: &R,
-    alloc: Global,
-    mut house: House<B>,
-) -> Option<Hostile> {
-    if !house.plan(&PLANS) {
-        drop(house);
-        return None;
-    }
-    let (house, refused) = after_jobs(rt, house);
-    drained_whole(alloc, house, refused)
+    drained_whole(alloc, house, [sampled, controlled, logged])
 }

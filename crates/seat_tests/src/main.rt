@@ -251,26 +251,6 @@ fn jobs(alloc: Global, entries: &[Entry], tx: &str, end: End) -> Option<String> 
     format!(in alloc; "{ends} of {plans}").ok()
 }
 
-// The plant that is asked from now on.
-fn settle<B: Board + Drop>(alloc: Global, scene: &mut Scene<B>, house: House<B>) -> Option<String> {
-    let Ok(drained) = Vec::with_capacity(alloc, 16) else {
-        drop(house);
-        return None;
-    };
-    scene.drained = drained;
-    drop(scene.house.replace(house));
-    Some(String::new(alloc))
-}
-
-fn pair_text<R: Threads, B: Opens + Send + Drop>(
-    rt: &R,
-    alloc: Global,
-    house: House<B>,
-) -> Option<String> {
-    let said = planned_by_two(rt, alloc, house)?;
-    format!(in alloc; "{said:?}").ok()
-}
-
 // A new plant, and what becomes of it.
 fn with_house<R: Threads + Wait + Sync, B: Opens + Send + Drop>(
     rt: &R,
@@ -283,9 +263,16 @@ fn with_house<R: Threads + Wait + Sync, B: Opens + Send + Drop>(
     };
     let house = new_house::<B>(alloc, &told.set)?;
     match word {
-        "pair" => pair_text(rt, alloc, house),
+        "pair" => {
+            let said = planned_by_two(rt, alloc, house)?;
+            format!(in alloc; "{said:?}").ok()
+        }
         "turns" => told_each(alloc, &told.set, take_turns(rt, alloc, house)?),
-        _ => settle(alloc, scene, house),
+        _ => {
+            scene.drained = Vec::with_capacity(alloc, 16).ok()?;
+            scene.house = Some(house);
+            Some(String::new(alloc))
+        }
     }
 }
 

@@ -33,8 +33,13 @@ fn plan_as<B: Board>(plant: &Plant<B>, mut seat: Seat<B>, tx: TxId) -> (Seat<B>,
     (seat, granted)
 }
 
-// Two threads plan a job each at the present tick: the plant then, and whether each plan was granted.
-fn after_plans<R: Threads, B: Board + Send>(rt: &R, house: House<B>) -> (House<B>, bool, bool) {
+/// Two threads plan a job each at the present tick: what each was told, and whether both plans stand at distinct places,
+/// whichever came first.
+pub fn planned_by_two<R: Threads, B: Board + Send + Drop>(
+    rt: &R,
+    alloc: Global,
+    house: House<B>,
+) -> Option<(bool, bool, bool)> {
     let House {
         plant,
         operator,
@@ -60,26 +65,10 @@ fn after_plans<R: Threads, B: Board + Send>(rt: &R, house: House<B>) -> (House<B
         control,
         logger,
     };
-    (house, a, b)
-}
-
-// Whether two plans stand at distinct places, whichever came first.
-fn are_both(kept: &[Entry]) -> bool {
-    let (first, second) = (planned(0), planned(1));
-    kept == [first, second].as_slice() || kept == [second, first].as_slice()
-}
-
-/// Two threads plan a job each at the present tick: what each was told, and whether both plans stand at distinct places,
-/// whichever came first.
-pub fn planned_by_two<R: Threads, B: Board + Send + Drop>(
-    rt: &R,
-    alloc: Global,
-    house: House<B>,
-) -> Option<(bool, bool, bool)> {
-    let (house, a, b) = after_plans(rt, house);
     let (_, _, board) = closed(alloc, house)?;
-    let both = are_both(board.entries());
-    drop(board);
+    let (first, second) = (planned(0), planned(1));
+    let kept = board.entries();
+    let both = kept == [first, second].as_slice() || kept == [second, first].as_slice();
     Some((a, b, both))
 }
 

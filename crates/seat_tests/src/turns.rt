@@ -1,10 +1,10 @@
 //! What each seat does on a thread of its own: a sampler, a controller and a logger run their scripts, and the operator
 //! drains. Each makes so many tries at most, so that it ends whatever the others do.
-ghost use Rattle.std.specs.Prelude.{◌≡◌, Some, None};
+ghost use Rattle.std.specs.Prelude.{◌≡◌, Some, None, IfSome};
 ghost use Rattle.shared_plant.specs.Seats.{IsOf};
 ghost use Rattle.rt_base.specs.declared.ids.TxId.{TxId as Transaction};
 
-use crate::calls::{drained, idled, replied};
+use crate::calls::{drained, idled, plan_each, replied};
 use crate::house::{House, closed};
 use board::{Board, StepReply};
 use rt_base::{End, ItemId, JobId, Op, Outcome, Tick, TxId, Value};
@@ -198,31 +198,13 @@ fn two_turns<R: Threads, B: Board + Send>(
     )
 }
 
-// What the four callers keep.
-#[derive(Drop)]
-struct Kept {
-    operator: Vec<Entry>,
-    sample: Vec<Entry>,
-    control: Vec<Entry>,
-    logger: Vec<Entry>,
-}
-
-// Two lists with room for what a caller keeps.
-fn two_lists(alloc: Global) -> Option<(Vec<Entry>, Vec<Entry>)> {
-    let one = Vec::with_capacity(alloc, 4096).ok()?;
-    let other = Vec::with_capacity(alloc, 4096).ok()?;
-    Some((one, other))
-}
-
-fn new_kept(alloc: Global) -> Option<Kept> {
-    let (operator, sample) = two_lists(alloc)?;
-    let (control, logger) = two_lists(alloc)?;
-    Some(Kept {
-        operator,
-        sample,
-        control,
-        logger,
-    })
+fn new_caller<B: Board>(alloc: Global, seat: Seat<B>) -> Option<Caller<B>>
+    ensures { IfSome result (λ c. c.seat ≡ seat) }
+{
+    match Vec::with_capacity(alloc, 4096) {
+        Ok(kept) => Some(Caller { seat, kept }),
+        Err(_) => None,
+    }
 }
 
 /// What was drained and what the three callers kept, and the board that was left.
@@ -233,35 +215,24 @@ pub struct Turned<B> {
     pub board: B,
 }
 
-// Lets all callers take their turns at once.
-fn after_all_turns<R: Threads + Sync, B: Board + Send>(
+/// Plans the releases, and lets all callers take their turns at once.
+pub fn take_turns<R: Threads + Sync, B: Board + Send + Drop>(
     rt: &R,
+    alloc: Global,
     house: House<B>,
-    kept: Kept,
-) -> (House<B>, Kept) {
+) -> Option<Turned<B>> {
     let House {
         plant,
-        operator,
+        mut operator,
         sample,
         control,
         logger,
     } = house;
-    let o = Caller {
-        seat: operator,
-        kept: kept.operator,
-    };
-    let s = Caller {
-        seat: sample,
-        kept: kept.sample,
-    };
-    let c = Caller {
-        seat: control,
-        kept: kept.control,
-    };
-    let l = Caller {
-        seat: logger,
-        kept: kept.logger,
-    };
+    if !plan_each(&plant, &mut operator, &PLANS) {
+        return None;
+    }
+    let (o, s) = (new_caller(alloc, operator)?, new_caller(alloc, sample)?);
+    let (c, l) = (new_caller(alloc, control)?, new_caller(alloc, logger)?);
     let ((o, s), (c, l)) = join(
         rt,
         || -> (Caller<B>, Caller<B>)
@@ -282,48 +253,10 @@ fn after_all_turns<R: Threads + Sync, B: Board + Send>(
         control: c.seat,
         logger: l.seat,
     };
-    let kept = Kept {
-        operator: o.kept,
-        sample: s.kept,
-        control: c.kept,
-        logger: l.kept,
-    };
-    (house, kept)
-}
-
-// What was kept, and the board of the plant, which is closed.
-fn with_board<B: Board + Drop>(alloc: Global, house: House<B>, kept: Kept) -> Option<Turned<B>> {
-    let Some((_, _, board)) = closed(alloc, house) else {
-        drop(kept);
-        return None;
-    };
-    let Kept {
-        operator,
-        sample,
-        control,
-        logger,
-    } = kept;
+    let (_, _, board) = closed(alloc, house)?;
     Some(Turned {
-        drained: operator,
-        kept: [sample, control, logger],
+        drained: o.kept,
+        kept: [s.kept, c.kept, l.kept],
         board,
     })
-}
-
-/// Plans the releases, and lets all callers take their turns at once.
-pub fn take_turns<R: Threads + Sync, B: Board + Send + Drop>(
-    rt: &R,
-    alloc: Global,
-    mut house: House<B>,
-) -> Option<Turned<B>> {
-    if !house.plan(&PLANS) {
-        drop(house);
-        return None;
-    }
-    let Some(kept) = new_kept(alloc) else {
-        drop(house);
-        return None;
-    };
-    let (house, kept) = after_all_turns(rt, house, kept);
-    with_board(alloc, house, kept)
 }

@@ -1,8 +1,6 @@
 //! Workers: what a run leaves, whatever their number.
-ghost use Rattle.std.specs.Prelude.{◌≡◌, ◌<◌, length, All, IfOk, OnOk, IsTrue, Some, None, true, map};
+ghost use Rattle.std.specs.Prelude.{◌≡◌, All, IfOk, OnOk, IfSome, IsTrue, map};
 ghost use Rattle.std.specs.List.{list_all};
-ghost use Rattle.rt_base.specs.declared.ids.TxId.{TxId as Transaction};
-ghost use Rattle.shared_plant.specs.Seats.{IsOf};
 ghost use Rattle.txn_threads.specs.Runs.{MayRun};
 ghost use Rattle.seat_tests.specs.Fresh.{IsFresh};
 ghost use Rattle.step_script.specs.Scripts.{is_good, operation};
@@ -69,13 +67,15 @@ fn member<B: Board>(
     body: Script,
     jobs: u32,
     eager: bool,
-) -> BaseMember<B>
-    requires fresh { IsFresh plant.now seat }
-    requires tx { (tx : Transaction) × (seat.tx ≡ Some tx) }
-    ensures { MayRun plant.now result }
+) -> Option<BaseMember<B>>
+    requires { IsFresh plant.now seat }
+    ensures { IfSome result (λ m. MayRun plant.now m) }
 {
     let _plant = plant;
-    Member::new(seat, body, jobs, eager)
+    match seat.tx() {
+        Some(_) => Some(Member::new(seat, body, jobs, eager)),
+        None => None,
+    }
 }
 
 fn give<B: Board>(
@@ -125,105 +125,28 @@ fn left<B: Board>(
     Ok(Vec::new(alloc))
 }
 
-// The members to go on with after one more.
-fn given<B: Board>(
-    plant: &Plant<B>,
-    alloc: Global,
-    workers: &mut Vec<BaseWorker<B>>,
-    mut members: Vec<BaseMember<B>>,
-    member: BaseMember<B>,
-    is_hired: bool,
-) -> Result<Vec<BaseMember<B>>, OutOfMemory>
-    requires all { All (λ w. All (MayRun plant.now) w.members.items) workers.old.items }
-    requires one { All (MayRun plant.now) members.items × MayRun plant.now member }
-    ensures all { OnOk result (All (λ w. All (MayRun plant.now) w.members.items) workers.new.items) }
-    ensures one { IfOk result (λ ms. All (MayRun plant.now) ms.items) }
-{
-    give(plant, &mut members, member)?;
-    left(plant, alloc, workers, members, is_hired)
-}
-
-// The members of the sampler, the controller and the logger.
-#[derive(Drop)]
-struct Crew<B: Board> {
-    sample: BaseMember<B>,
-    control: BaseMember<B>,
-    logger: BaseMember<B>,
-}
-
-// The members to go on with after the first two: where there is one worker both, and where there are three none.
-fn two_given<B: Board>(
-    plant: &Plant<B>,
-    alloc: Global,
-    number: u32,
-    workers: &mut Vec<BaseWorker<B>>,
-    a: BaseMember<B>,
-    b: BaseMember<B>,
-) -> Result<Vec<BaseMember<B>>, OutOfMemory>
-    requires all { All (λ w. All (MayRun plant.now) w.members.items) workers.old.items }
-    requires two { MayRun plant.now a × MayRun plant.now b }
-    ensures all { OnOk result (All (λ w. All (MayRun plant.now) w.members.items) workers.new.items) }
-    ensures one { IfOk result (λ ms. All (MayRun plant.now) ms.items) }
-{
-    match given(plant, alloc, workers, Vec::new(alloc), a, number != 1) {
-        Ok(members) => {
-            let is_third = number != 1 && number != 2;
-            given(plant, alloc, workers, members, b, is_third)
-        }
-        Err(error) => {
-            drop(b);
-            Err(error)
-        }
-    }
-}
-
-// Hires one, two or three workers of three members.
-fn hire_all<B: Board>(
-    plant: &Plant<B>,
-    alloc: Global,
-    number: u32,
-    workers: &mut Vec<BaseWorker<B>>,
-    crew: Crew<B>,
-) -> Result<Vec<BaseMember<B>>, OutOfMemory>
-    requires all { All (λ w. All (MayRun plant.now) w.members.items) workers.old.items }
-    requires three { MayRun plant.now crew.sample × MayRun plant.now crew.control × MayRun plant.now crew.logger }
-    ensures { OnOk result (All (λ w. All (MayRun plant.now) w.members.items) workers.new.items) }
-{
-    let Crew {
-        sample,
-        control,
-        logger,
-    } = crew;
-    match two_given(plant, alloc, number, workers, sample, control) {
-        Ok(members) => given(plant, alloc, workers, members, logger, true),
-        Err(error) => {
-            drop(logger);
-            Err(error)
-        }
-    }
-}
-
 // One, two or three workers of three members.
 fn workers<B: Board>(
     plant: &Plant<B>,
     alloc: Global,
     number: u32,
-    crew: Crew<B>,
+    a: BaseMember<B>,
+    b: BaseMember<B>,
+    c: BaseMember<B>,
 ) -> Result<Vec<BaseWorker<B>>, OutOfMemory>
-    requires { MayRun plant.now crew.sample × MayRun plant.now crew.control × MayRun plant.now crew.logger }
+    requires { MayRun plant.now a × MayRun plant.now b × MayRun plant.now c }
     ensures { IfOk result (λ ws. All (λ w. All (MayRun plant.now) w.members.items) ws.items) }
 {
     let mut workers = Vec::new(alloc);
-    match hire_all(plant, alloc, number, &mut workers, crew) {
-        Ok(left) => {
-            drop(left);
-            Ok(workers)
-        }
-        Err(error) => {
-            drop(workers);
-            Err(error)
-        }
-    }
+    let mut members = Vec::new(alloc);
+    give(plant, &mut members, a)?;
+    let mut members = left(plant, alloc, &mut workers, members, number != 1)?;
+    give(plant, &mut members, b)?;
+    let is_third = number != 1 && number != 2;
+    let mut members = left(plant, alloc, &mut workers, members, is_third)?;
+    give(plant, &mut members, c)?;
+    hire(plant, &mut workers, Worker::new(members))?;
+    Ok(workers)
 }
 
 /// The bodies of a run, whether the controller plans its jobs itself, and how many entries the out takes.
@@ -325,106 +248,13 @@ fn logger_of(alloc: Global, name: &str) -> Result<Script, OutOfMemory> {
 /// The case of this name: `base`, one body that is none of its transaction's or never commits, `hostile`, where no body
 /// commits, or an eager controller. The out takes so many entries.
 pub fn case_of(alloc: Global, name: &str, most: usize) -> Result<Case, OutOfMemory> {
-    let sample = sample_of(alloc, name)?;
-    let control = match control_of(alloc, name) {
-        Ok(control) => control,
-        Err(error) => {
-            drop(sample);
-            return Err(error);
-        }
-    };
-    match logger_of(alloc, name) {
-        Ok(logger) => Ok(Case {
-            sample,
-            control,
-            logger,
-            eager: name == "eager",
-            most,
-        }),
-        Err(error) => {
-            drop(sample);
-            drop(control);
-            Err(error)
-        }
-    }
-}
-
-// Plans the releases, all but the controller's where that one plans its jobs itself.
-fn plan_releases<B: Board>(plant: &Plant<B>, operator: &mut Seat<B>, eager: bool) -> bool
-    requires { IsOf plant.now operator.old × (2 < length plant.now.set.txns) }
-    ensures { (operator.new.plant ≡ operator.old.plant) × (operator.new.tx ≡ operator.old.tx) }
-{
-    if eager {
-        let plans = [(0, 0), (0, 10), (0, 20), (0, 30), (2, 0)];
-        plan_each(plant, operator, &plans)
-    } else {
-        plan_each(plant, operator, &PLANS)
-    }
-}
-
-// The sampler, the controller and the logger, at their seats.
-fn crew_of<B: Board>(
-    plant: &Plant<B>,
-    sample: Seat<B>,
-    control: Seat<B>,
-    logger: Seat<B>,
-    case: Case,
-) -> Crew<B>
-    requires fresh { IsFresh plant.now sample × IsFresh plant.now control × IsFresh plant.now logger }
-    requires sample { (tx : Transaction) × (sample.tx ≡ Some tx) }
-    requires control { (tx : Transaction) × (control.tx ≡ Some tx) }
-    requires logger { (tx : Transaction) × (logger.tx ≡ Some tx) }
-    ensures { MayRun plant.now result.sample × MayRun plant.now result.control × MayRun plant.now result.logger }
-{
-    let Case {
-        sample: sampling,
-        control: controlling,
-        logger: logging,
-        eager,
-        most: _,
-    } = case;
-    Crew {
-        sample: member(plant, sample, sampling, 4, false),
-        control: member(plant, control, controlling, 2, eager),
-        logger: member(plant, logger, logging, 1, false),
-    }
-}
-
-// What a run of these workers answers, and the entries that its out took.
-fn run_with<R: Threads + Wait + Sync, B: Board + Send>(
-    rt: &R,
-    alloc: Global,
-    plant: &Plant<B>,
-    workers: &mut [BaseWorker<B>],
-    operator: Seat<B>,
-    most: usize,
-) -> Result<(Result<(), RunStop>, Vec<Entry>), OutOfMemory>
-    requires members { All (λ w. All (MayRun plant.now) w.members.items) workers.old }
-    requires operator { IsOf plant.now operator × (operator.tx ≡ None) }
-{
-    let spare = Vec::with_capacity(alloc, 4096)?;
-    let entries = Vec::with_capacity(alloc, 4096)?;
-    let mut drain = Drain { operator, spare };
-    let mut out = FewEntries {
-        entries,
+    Ok(Case {
+        sample: sample_of(alloc, name)?,
+        control: control_of(alloc, name)?,
+        logger: logger_of(alloc, name)?,
+        eager: name == "eager",
         most,
-        stops: 0,
-    };
-    let answer = run_all(rt, plant, workers, &mut drain, &NoGate, &mut out);
-    drop(drain);
-    Ok((answer, out.entries))
-}
-
-// Whether the seats of the sampler, the controller and the logger have transactions.
-fn all_step<B: Board>(house: &House<B>) -> bool
-    ensures sample { result ≡ true → (tx : Transaction) × (house.now.sample.tx ≡ Some tx) }
-    ensures control { result ≡ true → (tx : Transaction) × (house.now.control.tx ≡ Some tx) }
-    ensures logger { result ≡ true → (tx : Transaction) × (house.now.logger.tx ≡ Some tx) }
-{
-    match (house.sample.tx(), house.control.tx(), house.logger.tx()) {
-        (Some(_), Some(_), Some(_)) => true,
-        _ => false,
-    }
+    })
 }
 
 /// What a run of so many workers, up to three, answers, and the entries that its out took.
@@ -437,11 +267,6 @@ pub fn ran<R: Threads + Wait + Sync, B: Board + Send + Drop>(
 ) -> Result<(Result<(), RunStop>, Vec<Entry>), OutOfMemory>
     requires { IsFresh house.plant house.sample × IsFresh house.plant house.control × IsFresh house.plant house.logger }
 {
-    if !all_step(&house) {
-        drop(house);
-        drop(case);
-        return Err(OutOfMemory);
-    }
     let House {
         plant,
         mut operator,
@@ -449,20 +274,38 @@ pub fn ran<R: Threads + Wait + Sync, B: Board + Send + Drop>(
         control,
         logger,
     } = house;
-    plan_releases(&plant, &mut operator, case.eager);
-    let most = case.most;
-    let crew = crew_of(&plant, sample, control, logger, case);
-    match workers(&plant, alloc, number, crew) {
-        Ok(mut workers) => {
-            let answer = run_with(rt, alloc, &plant, workers.as_mut_slice(), operator, most);
-            drop(workers);
-            answer
-        }
-        Err(error) => {
-            drop(operator);
-            Err(error)
-        }
-    }
+    let _granted = if case.eager {
+        plan_each(
+            &plant,
+            &mut operator,
+            &[(0, 0), (0, 10), (0, 20), (0, 30), (2, 0)],
+        )
+    } else {
+        plan_each(&plant, &mut operator, &PLANS)
+    };
+    let a = member(&plant, sample, case.sample, 4, false);
+    let b = member(&plant, control, case.control, 2, case.eager);
+    let c = member(&plant, logger, case.logger, 1, false);
+    let (Some(a), Some(b), Some(c)) = (a, b, c) else {
+        return Err(OutOfMemory);
+    };
+    let mut workers = workers(&plant, alloc, number, a, b, c)?;
+    let spare = Vec::with_capacity(alloc, 4096)?;
+    let mut drain = Drain { operator, spare };
+    let mut out = FewEntries {
+        entries: Vec::with_capacity(alloc, 4096)?,
+        most: case.most,
+        stops: 0,
+    };
+    let answer = run_all(
+        rt,
+        &plant,
+        workers.as_mut_slice(),
+        &mut drain,
+        &NoGate,
+        &mut out,
+    );
+    Ok((answer, out.entries))
 }
 
 /// How many jobs of the transaction ended by a step of their own in this way, and how many were planned.
