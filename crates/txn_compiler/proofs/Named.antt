@@ -1,12 +1,25 @@
 -- Changing the rows at named places, one after another.
-use Rattle.std.proofs.Common.{◌≡◌, ℕ, ◌+◌, ◌<◌, ◌≤◌, false, cond, eqb, List, ◌∷◌, length, get_or, set, drop, refl, sym, ap, subst, ◌∙◌, ⊎_elim, arith, add-one, drop-cons, length-drop}
+use Rattle.std.proofs.Common.{◌≡◌, ℕ, ◌+◌, ◌<◌, ◌≤◌, false, cond, eqb, List, ◌∷◌, length, get_or, set, take, drop, replicate, ◌++◌, refl, sym, ap, subst, ◌∙◌, ⊎_elim, arith, add-one, drop-cons, length-drop}
 use Rattle.std.proofs.Math.ListN.{drop_of_length-le}
 use Rattle.std.proofs.lemmas.Bool.{cases_eq, eq-eqb, ne_eqb}
-use Rattle.std.proofs.lemmas.List.{get_or_default, get_or-set_same, get_or-set_other, get_or-drop}
+use Rattle.std.specs.List.{All}
+use Rattle.std.proofs.lemmas.List.{get_or_default, get_or-set_same, get_or-set_other, get_or-drop, get_or-replicate, length-replicate, take-append-le}
+use Rattle.std.proofs.Math.Seq.{take-length}
 use Rattle.std.proofs.lemmas.List.Folds.{list_any_none}
 use Rattle.rt_base.specs.declared.ids.ItemId.{ItemId}
 use Rattle.txn_set.specs.Set.{names_item}
 use Rattle.txn_compiler.specs.Tables.{IsList, ChangesNamed}
+
+-- as many rows as are made at first, all alike
+pub all-alike : {X : Type 0} (rows : List X) (n : ℕ) (x : X) → rows ≡ replicate n x → All (λ row. row ≡ x) rows
+all-alike rows n x e = subst (All (λ row. row ≡ x)) (sym e) (λ i d below. get_or-replicate n i x d (omega (arith, below, length-replicate n x)))
+
+pub as-many : {X : Type 0} (rows : List X) (n : ℕ) (x : X) → rows ≡ replicate n x → length rows ≡ n
+as-many rows n x e = ap (λ (l : List _). length l) e ∙ length-replicate n x
+
+-- rows that were changed in place, in the list that they stand in
+pub in-place : {X : Type 0} (n : ℕ) (rows others : List X) → n ≡ length rows → take n (rows ++ others) ≡ rows
+in-place n rows others e = take-append-le n rows others (omega (arith, e)) ∙ subst (λ (k : ℕ). take k rows ≡ rows) (sym e) (take-length rows)
 
 -- the rows so far, with those that are still to be changed, are the rows wanted
 pub record IsDueAt {X : Type 0} (change : X → X) (items : List ItemId) (at : ℕ) (old now : List X) : Type 0 where

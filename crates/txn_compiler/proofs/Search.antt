@@ -1,5 +1,5 @@
 -- What a search along the dependencies of an item has found.
-use Rattle.std.proofs.Common.{◌≡◌, ℕ, ◌<◌, ◌≤◌, Bool, true, false, not, ◌&&◌, ◌||◌, ⊎_elim, List, [], ◌∷◌, length, get_or, set, eqb, refl, sym, ap, subst, ◌∙◌}
+use Rattle.std.proofs.Common.{◌≡◌, ℕ, ◌<◌, ◌≤◌, Bool, true, false, not, ◌&&◌, ◌||◌, ⊎_elim, List, [], ◌∷◌, length, get_or, set, eqb, replicate, zero, suc, refl, sym, ap, subst, ◌∙◌}
 use Rattle.std.specs.List.{All, list_all}
 use Rattle.std.proofs.lemmas.Bool.{cases_lt, cases_eq, both_ways, not-true, eqb-true, and_parts, or_cases, or_left, or_right, false_from_ne_true}
 use Rattle.std.proofs.lemmas.List.{get_or_past, get_or-set_same, get_or-set_other}
@@ -102,6 +102,18 @@ set-keeps marks item i inside h =
     (λ (same : i ≡ item). rw same (get_or-set_same marks item true false inside))
     (λ (other : i ≡ item → ⊥). get_or-set_other marks item i true false other ∙ h)
     (cases_eq i item)
+
+none-marked : (n i : ℕ) → get_or (replicate n false) i false ≡ true → ⊥
+none-marked zero i h = cc
+none-marked (suc n) zero h = cc
+none-marked (suc n) (suc i) h = none-marked n i h
+
+-- where nothing is settled all that is settled is so rightly
+pub settled-none : (items : List ItemDecl) (txns : List TxnDecl) (n : ℕ) → AreSettled items txns (replicate n false)
+settled-none items txns n = record {
+  closed = λ i j h edge. absurd (none-marked n i h);
+  free = λ i h. absurd (none-marked n i h);
+}
 
 -- an item whose parents are all settled is settled
 pub settled-more : (items : List ItemDecl) (txns : List TxnDecl) (item : ℕ) (read : List ItemDecl) (parents : List ItemId) (settled : List Bool) → IsSingle items txns → item < length settled → read ≡ items → parents ≡ writer_reads items txns item → get_or settled item false ≡ false → true ≡ list_all (λ i. not (is_dated read i.0) || get_or settled i.0 false) parents → AreSettled items txns settled → AreSettled items txns (set settled item true)
