@@ -1,3 +1,4 @@
 pub mod Outs
 pub mod FirstByte
 pub mod Begun
+pub mod Refusing

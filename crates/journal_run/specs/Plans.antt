@@ -17,7 +17,7 @@ use Rattle.step_script.specs.declared.script.Script.{Script}
 use Rattle.sim_run.specs.Workloads.{workload}
 use Rattle.journal_run.specs.Replies.{first_eager}
 use Rattle.journal_run.specs.declared.plan.Plan.{Plan}
-use Rattle.journal_run.specs.declared.run.Begun.{Begun}
+use Rattle.journal_run.specs.declared.equip.Begun.{Begun}
 
 -- a scenario that may be run over a journal
 pub record IsCalm (s : Shown) : Type 0 where
@@ -54,3 +54,15 @@ IsPlan s p = IsPlanOf s p.names p.set p.bodies.scripts.items p.bodies.ticks.item
 
 abbrev pub HasBegun : Shown → Workload → Begun → Type 0
 HasBegun s w b = IsBegunOf s w b.names b.set b.report.0 b.report.1.items b.kept.items (vec_capacity b.kept) b.room
+
+-- what the run of a set has beside its board: the head of its report, with the rows of no job, a place for the rows of so many
+-- jobs, and one for so many entries
+pub record Opens (names : Names) (set : Set) (jobs room : ℕ) (b : Begun) : Type 0 where
+  pub names_are : b.names ≡ names
+  pub set_is : b.set ≡ set
+  pub room_is : b.room ≡ room
+  pub follows : Follows set b.report.0 []
+  pub head_is : b.report.1.items ≡ opening_text names set true
+  pub places : b.report.0.room ≡ jobs
+  pub empty : b.kept.items ≡ []
+  pub enough : room ≤ vec_capacity b.kept

@@ -13,7 +13,9 @@ use Rattle.refusal_lines.specs.Causes.{txn}
 use Rattle.command_replies.specs.declared.status.Status.{Status}
 use Rattle.command_replies.specs.declared.status.Status.TheVariants as statuses
 use Rattle.command_replies.specs.Replies.{Reply, Refused, Compiling, Admitting}
+use Rattle.txn_set.specs.Set.{Set}
 use Rattle.scenario_run.specs.Runs.{IsRunText}
+use Rattle.scenario_run.specs.Replies.{Never}
 use Rattle.journal_run.specs.Found.{TakesUp, IsBadFor, Holds}
 
 -- the first eager transaction, if there is one
@@ -27,6 +29,11 @@ eager_cause names tx = codes "EagerJournal" ++ txn names (record { 0 = tx })
 abbrev pub Unhurried : Reply → Names → Option ℕ → Reply
 Unhurried goes names None status text = goes status text
 Unhurried goes names (Some tx) status text = Refused (eager_cause names tx) status text
+
+-- the declarations of a set are refused, or the first eager transaction is
+abbrev pub IsRefusal : Names → Set → Option ℕ → Reply
+IsRefusal names set eager =
+    Compiling (Admitting (Unhurried Never names eager) names (refusal set)) names (compile_refusal set)
 
 -- the line of a bad record
 abbrev pub bad_line : ℕ → List ℕ

@@ -2,6 +2,7 @@
 #![tactic(auto)]
 
 mod beside;
+mod equip;
 mod opening;
 mod over;
 mod plan;

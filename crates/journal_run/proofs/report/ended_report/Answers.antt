@@ -1,4 +1,4 @@
-use Rattle.std.proofs.Common.{◌≡◌, ◌++◌, List, ℕ, take, true, ap, sym, subst, ◌∙◌, arith, append_assoc}
+use Rattle.std.proofs.Common.{◌++◌, List, ℕ, take, true, ap, sym, subst, ◌∙◌, arith, append_assoc}
 use Rattle.std.proofs.lemmas.List.{take_more, take_all}
 use Rattle.item_model.specs.declared.stored.Stored.{Stored}
 use Rattle.step_journal.specs.declared.entry.Entry.{Entry}
