@@ -38,10 +38,12 @@ use Rattle.durable_journal.specs.declared.log.LogError.{LogError}
 use Rattle.durable_journal.specs.declared.log.LogError.TheVariants.{DiskFault, BadRecord, Full, Stopped, OutOfMemory}
 use Rattle.journal_out.specs.Compared.{Begins}
 use Rattle.journal_run.specs.Found.{IsFound, IsBadFor, Holds, RefusedAt}
-use Rattle.journal_run.specs.Ran.{HasOther}
+use Rattle.journal_run.specs.Ran.{HasOther, HaltedBy}
 use Rattle.journal_run.specs.Replies.{first_eager, Unhurried, JournalReply, TookUp, HasBad, HoldsRun, Journaled, LeavesDisk, bad_line}
 use Rattle.journal_run.specs.Plans.{IsCalm, IsBegunOf}
-use Rattle.journal_run.specs.Refused.{IsNamed, NamesRecord}
+use Rattle.journal_run.specs.Refused.{IsNamed, NamesRecord, IsHaltReply}
+use Rattle.journal_run.specs.declared.over.Halt.{Halt}
+use Rattle.journal_run.specs.declared.over.Halt.TheVariants.{Other, Fault}
 
 -- no transaction is eager where none is the first
 calm_from : (i : ℕ) (rs : List Releases) → position_from is_eager i rs ≡ None → list_any is_eager rs ≡ false
@@ -183,6 +185,12 @@ module _ (s : Shown) (w : Workload) (names : Names) (set : Set) (rows : RowsSeen
   journaled_other told there number status text other found r =
       subst (λ (k : Status). Journaled s told k text) (sym r.0) (number, r.1, other_bad told there number other found)
 
+  -- and where the run was not kept
+  pub journaled_halted : (told : Option (List ℕ)) (there : List Entry) (before now : ℕ) (halt : Halt) (status : Status) (text : List ℕ) → HaltedBy w there before now halt
+      → IfSome told (λ file. IsFound names set room file there) → IsHaltReply halt status text → Journaled s told status text
+  journaled_halted told there before now (Other number) status text other found r = journaled_other told there number status text other found r
+  journaled_halted told there before now Fault status text rose found r = absurd r
+
   -- and where the journal was not opened
   pub journaled_named : (told : Option (List ℕ)) (error : LogError) (status : Status) (text : List ℕ) → AreAccepted w.set w.releases → IsObedient w
       → IfSome told (λ file. RefusedAt names set room file error) → IsNamed w error status text → Journaled s told status text
@@ -214,3 +222,8 @@ journaled_begun s told statuses.TooLong text h leaves = h
 journaled_begun s told statuses.NotLegal text h leaves = h
 journaled_begun s told statuses.DiskFault text h leaves = h
 journaled_begun s told statuses.BadJournal text h leaves = leaves
+
+-- a run that was not kept is not answered Ok
+pub halted_not_ok : (halt : Halt) (status : Status) (text : List ℕ) → IsHaltReply halt status text → status ≡ statuses.Ok → ⊥
+halted_not_ok (Other number) status text h ok = cc
+halted_not_ok Fault status text h ok = h

@@ -1,7 +1,6 @@
 -- The refusal of a scenario before its run over a journal.
-use Rattle.std.proofs.Common.{◌≡◌, ℕ, List, Option, None, Some, sym, subst}
+use Rattle.std.proofs.Common.{◌≡◌, ℕ, List, Option, None, Some}
 use Rattle.rt_base.specs.declared.name.Names.{Names}
-use Rattle.txn_set.specs.Set.{Set}
 use Rattle.txn_compiler.specs.Refusal.{compile_refusal}
 use Rattle.txn_compiler.specs.declared.error.CompileError.{CompileError}
 use Rattle.set_admission.specs.Admission.{refusal}
@@ -9,17 +8,9 @@ use Rattle.set_admission.specs.declared.error.AdmitError.{AdmitError}
 use Rattle.scenario.specs.Shown.{Shown, set_of}
 use Rattle.command_replies.specs.declared.status.Status.{Status}
 use Rattle.command_replies.specs.declared.status.Status.TheVariants as statuses
-use Rattle.command_replies.specs.Replies.{Reply, Refused, Compiling, Admitting}
+use Rattle.command_replies.specs.Replies.{Reply, Compiling, Admitting}
 use Rattle.scenario_run.specs.Replies.{Never}
-use Rattle.journal_run.specs.Replies.{first_eager, eager_cause, Unhurried, IsRefusal, Journaled, JournalReply}
-
--- the refusal of the first eager transaction of an admitted set
-pub hurried : (names : Names) (set : Set) (eager : Option ℕ) (tx : ℕ) (status : Status) (text : List ℕ) → compile_refusal set ≡ None → refusal set ≡ None → eager ≡ Some tx
-    → Refused (eager_cause names tx) status text → IsRefusal names set eager status text
-hurried names set eager tx status text none admits is h =
-    subst (λ (o : Option CompileError). Compiling (Admitting (Unhurried Never names eager) names (refusal set)) names o status text) (sym none)
-    (subst (λ (o : Option AdmitError). Admitting (Unhurried Never names eager) names o status text) (sym admits)
-    (subst (λ (o : Option ℕ). Unhurried Never names o status text) (sym is) h))
+use Rattle.journal_run.specs.Replies.{first_eager, Unhurried, IsRefusal, Journaled, JournalReply}
 
 refused_status : (names : Names) (c : Option CompileError) (a : Option AdmitError) (e : Option ℕ) (status : Status) (text : List ℕ)
     → Compiling (Admitting (Unhurried Never names e) names a) names c status text → status ≡ statuses.Refused

@@ -6,6 +6,8 @@ use Rattle.durable_journal.specs.declared.log.LogError.TheVariants.{DiskFault, B
 use Rattle.command_replies.specs.declared.status.Status.TheVariants as statuses
 use Rattle.command_replies.specs.Replies.{Reply}
 use Rattle.journal_run.specs.Ran.{HasOther}
+use Rattle.journal_run.specs.declared.over.Halt.{Halt}
+use Rattle.journal_run.specs.declared.over.Halt.TheVariants.{Other, Fault}
 use Rattle.journal_run.specs.Replies.{bad_line}
 
 -- the number of the record that is named: the one that was refused, or the first that is not the run's
@@ -18,3 +20,8 @@ NamesRecord w OutOfMemory number = ⊥
 
 abbrev pub IsNamed : Workload → LogError → Reply
 IsNamed w error status text = (number : ℕ) × (status ≡ statuses.BadJournal) × (text ≡ bad_line number) × NamesRecord w error number
+
+-- where a run was not kept: the record that is not the run's; where the disk failed there is no reply
+abbrev pub IsHaltReply : Halt → Reply
+IsHaltReply (Other number) status text = (status ≡ statuses.BadJournal) × (text ≡ bad_line number)
+IsHaltReply Fault status text = ⊥

@@ -3,7 +3,7 @@ ghost use Rattle.std.specs.Prelude.{◌≡◌, ◌≤◌, ◌<◌, ◌↔◌, []
 ghost use Rattle.std.specs.Prelude.{List as Many};
 ghost use Rattle.io_edge.specs.Causes.{Rose};
 ghost use Rattle.step_journal.specs.declared.entry.Entry.{Entry as Noted};
-ghost use Rattle.step_journal.specs.History.{IsLegal};
+ghost use Rattle.step_journal.specs.History.{IsLegal, state_of};
 ghost use Rattle.scenario.specs.Shown.{Shown, shown};
 ghost use Rattle.scenario.specs.Scenarios.{IsScenario};
 ghost use Rattle.sim_history.specs.Sim.{IsSim};
@@ -14,7 +14,7 @@ ghost use Rattle.durable_journal.specs.Opened.{IfFull};
 ghost use Rattle.journal_run.specs.Ready.{CanRun, workload_in};
 ghost use Rattle.journal_run.specs.Plans.{HasBegun};
 ghost use Rattle.journal_run.specs.Replies.{JournalReply, Journaled, HoldsRun, LeavesDisk, bad_line};
-ghost use Rattle.journal_run.specs.Refused.{IsNamed};
+ghost use Rattle.journal_run.specs.Refused.{IsNamed, IsHaltReply};
 
 use crate::beside::number_beside;
 use crate::equip::{Begun, equipped};
@@ -29,6 +29,7 @@ use command_replies::{Reply, Status, written};
 use durable_disk::Disk;
 use durable_journal::LogError;
 use entry_out::KeptEntries;
+use item_model::Items;
 use rt_base::Names;
 use run_fault::RunFault;
 use run_report::ReportWriter;
@@ -46,26 +47,35 @@ fn bad(alloc: Global, number: u64) -> Result<Reply, RunFault>
     Ok(bad_record(alloc, number)?)
 }
 
+// What is answered where a run over a log was not kept.
+fn halted(alloc: Global, halt: Halt) -> Result<Reply, RunFault>
+    ensures reply { IfOk result (λ r. IsHaltReply halt r.status r.text.items) }
+    ensures fault { IsErrOf result RunFault.Writing → halt ≡ Halt.Fault }
+{
+    match halt {
+        Halt::Other { number } => bad(alloc, number),
+        Halt::Fault => Err(RunFault::Writing),
+    }
+}
+
 // The report of a run that the disk holds.
-fn reported<B: Board>(
-    board: B,
+fn reported(
     names: &Names,
     set: &CompiledSet,
     report: (ReportWriter, Vec<u8>),
     history: &[Entry],
+    items: &Items,
 ) -> Result<Reply, RunFault>
     requires names { NamesSet names.now set.now }
     requires rows { Follows set.now report.0 [] }
     requires head { report.1.items ≡ opening_text names.now set.now true }
     requires legal { IsLegal set.now history.now }
     requires places { planned_jobs history.now ≤ report.0.room }
-    requires stood { B.stands board history.now }
-    requires same { B.set board ≡ set.now }
+    requires last { items.now ≡ (state_of set.now history.now).items }
     ensures reply { IfOk result (λ r. (r.status ≡ Status.Ok) × (r.text.items ≡ report_of names.now set.now true history.now)) }
     ensures memory { IsErrOf result RunFault.Writing → ⊥ }
 {
-    let (items, _) = board.into_parts();
-    Ok(written(ended_report(names, set, report, history, &items)?))
+    Ok(written(ended_report(names, set, report, history, items)?))
 }
 
 // What is answered where a journal is not opened: the reply names the record that was refused, or the first of those that
@@ -116,16 +126,34 @@ fn run_over<B: Board + Drop, Y: Body + Drop, D: Disk>(
     let mut runner = runner;
     let found = match opened(alloc, disk, &names, &set, room) {
         Ok(found) => found,
-        Err((disk, error)) => return (unopened(alloc, &mut runner, room, error), disk),
+        Err((disk, error)) => {
+            let reply = unopened(alloc, &mut runner, room, error);
+            drop(runner);
+            drop(names);
+            drop(set);
+            drop(report);
+            drop(kept);
+            return (reply, disk);
+        }
     };
     let (ran, disk) = run_log(&mut runner, &names, &set, found, kept, room);
     match ran {
         Ok(history) => {
-            let Runner { board, .. } = runner;
-            (reported(board, &names, &set, report, &history), disk)
+            let items = runner.into_items();
+            let reply = reported(&names, &set, report, &history, &items);
+            drop(names);
+            drop(set);
+            drop(history);
+            drop(items);
+            (reply, disk)
         }
-        Err(Halt::Other { number }) => (bad(alloc, number), disk),
-        Err(Halt::Fault) => (Err(RunFault::Writing), disk),
+        Err(halt) => {
+            drop(runner);
+            drop(names);
+            drop(set);
+            drop(report);
+            (halted(alloc, halt), disk)
+        }
     }
 }
 

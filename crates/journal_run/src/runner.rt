@@ -3,6 +3,7 @@ ghost use Rattle.std.specs.Prelude.{◌≡◌, [], IfOk, OnErr};
 ghost use Rattle.std.specs.Prelude.{List as Many};
 ghost use Rattle.io_edge.specs.Causes.{HasCause};
 ghost use Rattle.step_journal.specs.declared.entry.Entry.{Entry as Noted};
+ghost use Rattle.step_journal.specs.History.{state_of};
 ghost use Rattle.sim_history.specs.Sim.{IsSim};
 ghost use Rattle.entry_out.specs.Outs.{LosesNone};
 ghost use Rattle.sim_run.specs.Handed.{CanTake};
@@ -11,6 +12,7 @@ ghost use Rattle.journal_run.specs.Ready.{CanRun, workload_in};
 
 use board::Board;
 use entry_out::{EntryOut, Stopped};
+use item_model::Items;
 use rt_base::{List, Tick};
 use sim_run::run;
 use step_journal::Entry;
@@ -47,5 +49,27 @@ impl<B: Board, Y: Body> Runner<B, Y> {
             &mut self.spare,
             out,
         )
+    }
+}
+
+impl<B: Board + Drop, Y: Drop> Runner<B, Y> {
+    /// The items of the board as they are installed.
+    pub(crate) fn into_items(self) -> Items
+        ensures { (story : Many Noted) → B.stands self.board story → result ≡ (state_of (B.set self.board) story).items }
+    {
+        let Runner {
+            board,
+            bodies,
+            ticks,
+            serials,
+            spare,
+        } = self;
+        drop(bodies);
+        drop(ticks);
+        drop(serials);
+        drop(spare);
+        let (items, kept) = board.into_parts();
+        drop(kept);
+        items
     }
 }
