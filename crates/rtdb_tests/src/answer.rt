@@ -25,23 +25,52 @@ impl Gate for Count {
     fn answered(&self, _tx: TxId) {}
 }
 
+// What the case is read from.
+fn source_of(alloc: Global, case: &Case) -> Option<MemSource> {
+    let faults = case.read_faults.to_vec(alloc).ok()?;
+    let input = case.input.to_vec(alloc).ok()?;
+    Some(MemSource::new(input, faults))
+}
+
+// What is written to.
+fn sink_of(alloc: Global, case: &Case) -> Option<MemSink> {
+    let faults = case.write_faults.to_vec(alloc).ok()?;
+    MemSink::new(alloc, case.room, case.piece.max(1), faults).ok()
+}
+
+// Calls the program on the case.
+fn call<R: Threads + Wait + Sync>(
+    rt: &R,
+    alloc: Global,
+    case: &Case,
+    source: &mut MemSource,
+    sink: &mut MemSink,
+    gate: &Count,
+) -> Status {
+    if case.picture {
+        draw_report(alloc, &case.words, source, sink)
+    } else if case.plain {
+        rtdb_plain(alloc, &case.words, source, sink)
+    } else {
+        rtdb(rt, alloc, &case.words, source, sink, gate)
+    }
+}
+
 /// Calls the program on the case, which keeps what was said: the status.
 pub fn answer<R: Threads + Wait + Sync>(rt: &R, alloc: Global, case: &mut Case) -> Option<Status> {
-    let input = case.input.to_vec(alloc).ok()?;
-    let mut source = MemSource::new(input, case.read_faults.to_vec(alloc).ok()?);
-    let faults = case.write_faults.to_vec(alloc).ok()?;
-    let mut sink = MemSink::new(alloc, case.room, case.piece.max(1), faults).ok()?;
+    let mut source = source_of(alloc, case)?;
+    let Some(mut sink) = sink_of(alloc, case) else {
+        drop(source);
+        return None;
+    };
     let gate = Count {
         asked: AtomicU64::new(0),
     };
-    let status = if case.picture {
-        draw_report(alloc, &case.words, &mut source, &mut sink)
-    } else if case.plain {
-        rtdb_plain(alloc, &case.words, &mut source, &mut sink)
-    } else {
-        rtdb(rt, alloc, &case.words, &mut source, &mut sink, &gate)
-    };
-    case.said = sink.bytes().to_vec(alloc).ok()?;
+    let status = call(rt, alloc, case, &mut source, &mut sink, &gate);
+    drop(source);
+    let said = sink.bytes().to_vec(alloc);
+    drop(sink);
+    case.said = said.ok()?;
     case.asked = gate.asked.load(SeqCst);
     Some(status)
 }

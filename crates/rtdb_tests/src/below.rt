@@ -31,7 +31,9 @@ pub fn rewritten(alloc: Global, text: &[u8]) -> Option<Vec<u8>> {
         return None;
     }
     let scenario = read_scenario(alloc, text).ok()?;
-    let mut written = write_scenario(alloc, &scenario).ok()?;
+    let written = write_scenario(alloc, &scenario);
+    drop(scenario);
+    let mut written = written.ok()?;
     written.extend_from_slice(b"\n").ok()?;
     Some(written)
 }

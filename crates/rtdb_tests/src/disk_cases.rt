@@ -2,6 +2,7 @@
 use crate::over_disk::{Base, CALLS, Ran};
 use durable_disk::MemDisk;
 use rtdb_command::Status;
+use std::alloc::Global;
 
 /// A case of a run over a journal.
 #[derive(Clone, Copy)]
@@ -76,33 +77,66 @@ impl Case {
     }
 }
 
+// Whether a run over a disk writes the whole report and leaves the whole journal.
+fn is_whole(base: &Base, disk: MemDisk) -> Option<bool> {
+    let ran = base.run(disk)?;
+    let whole = ran.is_whole(base);
+    drop(ran);
+    Some(whole)
+}
+
 fn new(base: &Base) -> Option<bool> {
-    let ran = base.run(base.disk(&[])?)?;
-    Some(ran.is_whole(base))
+    is_whole(base, base.disk(&[])?)
+}
+
+// A run over a disk, and whether it changes nothing of what a read gives.
+fn run_beside(base: &Base, disk: MemDisk) -> Option<(Ran, bool)> {
+    let Ok(bytes) = disk.bytes().to_vec(base.alloc) else {
+        drop(disk);
+        return None;
+    };
+    match base.run(disk) {
+        Some(ran) => {
+            let same = ran.disk.bytes() == bytes.as_slice();
+            drop(bytes);
+            Some((ran, same))
+        }
+        None => {
+            drop(bytes);
+            None
+        }
+    }
 }
 
 // A second run writes nothing: it would fail, for all calls behind those of the first but the reads and a sync are none.
 fn again(base: &Base) -> Option<bool> {
-    let Ran { disk, .. } = base.run(base.disk(&[])?)?;
-    let bytes = disk.bytes().to_vec(base.alloc).ok()?;
-    let ran = base.run(disk)?;
-    Some(ran.is_whole(base) && ran.disk.bytes() == bytes.as_slice())
+    let (ran, same) = run_beside(base, base.after_run()?)?;
+    let whole = ran.is_whole(base);
+    drop(ran);
+    Some(whole && same)
+}
+
+// Whether this call of a run fails, and a run over what a crash leaves then, with so much of what was not synced, is whole.
+fn recovers(base: &Base, call: u64, kept: usize) -> Option<bool> {
+    let Ran {
+        status,
+        text,
+        mut disk,
+    } = base.run(base.disk(&[call])?)?;
+    drop(text);
+    if status != Status::DiskFault {
+        drop(disk);
+        return Some(false);
+    }
+    disk.crash(kept);
+    is_whole(base, disk)
 }
 
 // Each call behind those that make the journal fails in turn, and the crash leaves more or less of what was not synced.
 fn crash(base: &Base) -> Option<bool> {
     for call in 7..CALLS {
         for kept in (0..9_000usize).step_by(509) {
-            let Ran {
-                status,
-                mut disk,
-                ..
-            } = base.run(base.disk(&[call])?)?;
-            if status != Status::DiskFault {
-                return Some(false);
-            }
-            disk.crash(kept);
-            if !base.run(disk)?.is_whole(base) {
+            if !recovers(base, call, kept)? {
                 return Some(false);
             }
         }
@@ -110,20 +144,37 @@ fn crash(base: &Base) -> Option<bool> {
     Some(true)
 }
 
+// Where a run was stopped by the disk, the next one, over what a crash leaves.
+fn run_on(base: &Base, ran: Ran, kept: usize) -> Option<Ran> {
+    if ran.status != Status::DiskFault {
+        return Some(ran);
+    }
+    let Ran {
+        status: _,
+        text,
+        mut disk,
+    } = ran;
+    drop(text);
+    disk.crash(kept);
+    base.run(disk)
+}
+
+// Whether the last of at most three runs is whole, of which these calls stop the first two.
+fn recovers_twice(base: &Base, first: u64, second: u64, kept: usize) -> Option<bool> {
+    let ran = base.run(base.disk(&[first, second])?)?;
+    let ran = run_on(base, ran, kept)?;
+    let ran = run_on(base, ran, kept)?;
+    let whole = ran.is_whole(base);
+    drop(ran);
+    Some(whole)
+}
+
 // Stopped within the third append, and then at each call of the second run, if that has so many.
 fn crash_twice(base: &Base) -> Option<bool> {
     for first in 15u64..19 {
         for second in first + 1..first + CALLS + 10 {
             for kept in [0, 769, 1_024, 1_025, 10_000] {
-                let mut ran = base.run(base.disk(&[first, second])?)?;
-                for _ in 0..2 {
-                    if ran.status == Status::DiskFault {
-                        let mut disk = ran.disk;
-                        disk.crash(kept);
-                        ran = base.run(disk)?;
-                    }
-                }
-                if !ran.is_whole(base) {
+                if !recovers_twice(base, first, second, kept)? {
                     return Some(false);
                 }
             }
@@ -132,16 +183,18 @@ fn crash_twice(base: &Base) -> Option<bool> {
     Some(true)
 }
 
+// Whether a run was answered by this record.
+fn is_named(base: &Base, ran: &Ran, number: usize) -> Option<bool> {
+    let line = format!(in base.alloc; "bad journal record {number}\n").ok()?;
+    Some(ran.status == Status::BadJournal && ran.text.as_slice() == line.as_bytes())
+}
+
 // Whether a run over the disk names this record, and changes nothing of what a read gives.
 fn names(base: &Base, disk: MemDisk, number: usize) -> Option<bool> {
-    let bytes = disk.bytes().to_vec(base.alloc).ok()?;
-    let ran = base.run(disk)?;
-    let line = format!(in base.alloc; "bad journal record {number}\n").ok()?;
-    Some(
-        ran.status == Status::BadJournal
-            && ran.text.as_slice() == line.as_bytes()
-            && ran.disk.bytes() == bytes.as_slice(),
-    )
+    let (ran, same) = run_beside(base, disk)?;
+    let named = is_named(base, &ran, number);
+    drop(ran);
+    Some(named? && same)
 }
 
 fn changed(base: &Base) -> Option<bool> {
@@ -150,31 +203,49 @@ fn changed(base: &Base) -> Option<bool> {
 
 fn fault(base: &Base) -> Option<bool> {
     let ran = base.run(base.disk(&[0])?)?;
-    Some(ran.is_fault())
+    let told = ran.is_fault();
+    drop(ran);
+    Some(told)
 }
 
-fn longer(base: &Base) -> Option<bool> {
-    let Ran { disk, .. } = base.run(base.disk(&[])?)?;
+// A disk with one entry more.
+fn with_one_more(base: &Base, disk: &MemDisk) -> Option<MemDisk> {
     let whole = disk.bytes();
     let front = &whole[..whole.len().saturating_sub(1)];
     let line = String::from_str(base.alloc, "plan sample 40").ok()?;
-    let disk = base.with_lines(front, &[line])?;
-    names(base, disk, 33)
+    base.with_lines(front, &[line])
 }
 
-// The records of a header and of plans of `sample`, one period after another.
-fn plans(base: &Base, from: u64, count: u64) -> Option<MemDisk> {
-    let mut lines = Vec::new(base.alloc);
+fn longer(base: &Base) -> Option<bool> {
+    let disk = base.after_run()?;
+    let more = with_one_more(base, &disk);
+    drop(disk);
+    names(base, more?, 33)
+}
+
+// Adds the lines of a header and of plans of `sample`, one period after another.
+fn add_plans(alloc: Global, lines: &mut Vec<String>, from: u64, count: u64) -> Option<()> {
     lines
-        .push(String::from_str(base.alloc, "rtdb journal 1").ok()?)
+        .push(String::from_str(alloc, "rtdb journal 1").ok()?)
         .ok()?;
     for k in 0..count {
         let tick = from.saturating_add(k.saturating_mul(10));
         lines
-            .push(format!(in base.alloc; "plan sample {tick}").ok()?)
+            .push(format!(in alloc; "plan sample {tick}").ok()?)
             .ok()?;
     }
-    base.with_lines(&[], &lines)
+    Some(())
+}
+
+// The records of a header and of plans of `sample`.
+fn plans(base: &Base, from: u64, count: u64) -> Option<MemDisk> {
+    let mut lines = Vec::new(base.alloc);
+    let disk = match add_plans(base.alloc, &mut lines, from, count) {
+        Some(()) => base.with_lines(&[], &lines),
+        None => None,
+    };
+    drop(lines);
+    disk
 }
 
 fn other(base: &Base) -> Option<bool> {
@@ -194,20 +265,46 @@ fn full(base: &Base) -> Option<bool> {
     Some(just && over)
 }
 
-fn eager(base: &Base) -> Option<bool> {
+// BASE, with its last transaction eager.
+fn eager_text(base: &Base) -> Option<String> {
     let text = str::from_utf8(&base.scenario).ok()?;
     let (front, rest) = text.split_once(
         "\"releases\":[0],\"script\":[{\"read\":\"temp\"},{\"read\":\"valve\"}",
     )?;
-    let changed = format!(in base.alloc;
+    format!(in base.alloc;
         "{front}\"eager\":1,\"script\":[{{\"read\":\"temp\"}},{{\"read\":\"valve\"}}{rest}"
-    ).ok()?;
-    let ran = base.answer(&["journal", "p"], changed.as_bytes(), base.disk(&[])?)?;
-    Some(
-        ran.status == Status::Refused
-            && ran.text.as_slice() == b"refused EagerJournal logger\n".as_slice()
-            && ran.disk.bytes().is_empty(),
-    )
+    ).ok()
+}
+
+// Whether a run was refused for an eager transaction, and left the disk empty.
+fn is_refused(ran: &Ran) -> bool {
+    ran.status == Status::Refused
+        && ran.text.as_slice() == b"refused EagerJournal logger\n".as_slice()
+        && ran.disk.bytes().is_empty()
+}
+
+fn eager(base: &Base) -> Option<bool> {
+    let disk = base.disk(&[])?;
+    let Some(changed) = eager_text(base) else {
+        drop(disk);
+        return None;
+    };
+    let answered = base.answer(&["journal", "p"], changed.as_bytes(), disk);
+    drop(changed);
+    let ran = answered?;
+    let refused = is_refused(&ran);
+    drop(ran);
+    Some(refused)
+}
+
+// Whether these words are answered by the usage, and leave the disk empty.
+fn is_usage(base: &Base, words: &[&str]) -> Option<bool> {
+    let ran = base.answer(words, &base.scenario, base.disk(&[])?)?;
+    let told = ran.status == Status::Usage
+        && ran.text.starts_with(b"usage: rtdb ceilings")
+        && ran.disk.bytes().is_empty();
+    drop(ran);
+    Some(told)
 }
 
 fn usage(base: &Base) -> Option<bool> {
@@ -220,11 +317,7 @@ fn usage(base: &Base) -> Option<bool> {
         &["run"],
     ];
     for words in wrong {
-        let ran = base.answer(words, &base.scenario, base.disk(&[])?)?;
-        if ran.status != Status::Usage
-            || !ran.text.starts_with(b"usage: rtdb ceilings")
-            || !ran.disk.bytes().is_empty()
-        {
+        if !is_usage(base, words)? {
             return Some(false);
         }
     }

@@ -34,34 +34,53 @@ const FILES: [&str; 8] = [
     "long.cases",
 ];
 
-// Does what each line of a file says. None where a line is none of a case, a file is missing, or memory runs out.
+// Does what each line of a text says. None where a line is none of a case, a file is missing, or memory runs out.
+fn follow_lines<R: Threads + Wait + Sync + Files + Print + Alloc<A = Global>>(
+    rt: &R,
+    case: &mut Case,
+    text: &str,
+) -> Option<()> {
+    for line in text.lines() {
+        if !line.is_empty() && !line.starts_with('#') {
+            follow(rt, case, line)?;
+        }
+    }
+    Some(())
+}
+
+// Does what each line of a file says.
 fn run_file<R: Threads + Wait + Sync + Files + Print + Alloc<A = Global>>(
     rt: &R,
     file: &str,
 ) -> Option<()> {
     let text = fs::read_to_string(rt, file).ok()?;
     let mut case = Case::new(rt.alloc());
-    for line in text.as_str().lines() {
-        if !line.is_empty() && !line.starts_with('#') {
-            follow(rt, &mut case, line)?;
-        }
+    let followed = follow_lines(rt, &mut case, text.as_str());
+    drop(case);
+    drop(text);
+    followed
+}
+
+// Prints whether each case over a journal holds.
+fn print_cases<R: Print>(rt: &R, base: &Base) -> Option<()> {
+    for case in CASES {
+        let word = if case.holds(base) { "ok" } else { "failed:" };
+        let name = case.name();
+        println!(rt; "{word} {name}").ok()?;
     }
     Some(())
 }
 
-// Prints whether each case over a journal holds. None where a file is missing.
+// Runs the cases over a journal. None where a file is missing.
 fn run_journals<R: Files + Print + Alloc<A = Global>>(rt: &R) -> Option<()> {
     let base = Base {
         alloc: rt.alloc(),
         scenario: fs::read(rt, "base.scenario").ok()?,
         report: fs::read(rt, "base.report").ok()?,
     };
-    for case in CASES {
-        let word = if case.holds(&base) { "ok" } else { "failed:" };
-        let name = case.name();
-        println!(rt; "{word} {name}").ok()?;
-    }
-    Some(())
+    let printed = print_cases(rt, &base);
+    drop(base);
+    printed
 }
 
 fn main(rt: HostRuntime) -> io::Result<()> {

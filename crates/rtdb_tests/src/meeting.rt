@@ -1,4 +1,5 @@
 //! A run of two workers in which two scripts are asked at once.
+use crate::over_disk::listed;
 use io_edge::{MemSink, MemSource};
 use rt_base::TxId;
 use rtdb_command::{Status, Word, rtdb};
@@ -57,29 +58,48 @@ impl Gate for Meeting {
     fn answered(&self, _tx: TxId) {}
 }
 
-/// Whether neither of the first two questions is over before both were put, so that two threads ask, each step is asked
-/// for, and the report is that of one worker.
-pub fn meets<R: Threads + Wait + Sync + Files + Alloc<A = Global>>(
+// Whether this is the report of one worker.
+fn is_report<R: Files + Alloc<A = Global>>(rt: &R, text: &[u8]) -> Option<bool> {
+    let report = fs::read(rt, "base.report").ok()?;
+    Some(text == report.as_slice())
+}
+
+// Runs BASE by these words: whether neither of the first two questions is over before both were put, each step is asked for,
+// and the report is that of one worker.
+fn asks<R: Threads + Wait + Sync + Files + Alloc<A = Global>>(
     rt: &R,
     alloc: Global,
+    words: &[Word],
 ) -> Option<bool> {
-    let mut words = Vec::new(alloc);
-    for word in ["run", "--workers", "2"] {
-        words.push(Word::new(alloc, word).ok()?).ok()?;
-    }
     let mut source = MemSource::new(fs::read(rt, "base.scenario").ok()?, Vec::new(alloc));
-    let mut sink = MemSink::new(alloc, 100_000, 1000, Vec::new(alloc)).ok()?;
+    let Ok(mut sink) = MemSink::new(alloc, 100_000, 1000, Vec::new(alloc)) else {
+        drop(source);
+        return None;
+    };
     let gate = Meeting {
         sample: AtomicU64::new(0),
         control: AtomicU64::new(0),
         logger: AtomicU64::new(0),
         missed: AtomicU64::new(0),
     };
-    let status = rtdb(rt, alloc, &words, &mut source, &mut sink, &gate);
-    let report = fs::read(rt, "base.report").ok()?;
+    let status = rtdb(rt, alloc, words, &mut source, &mut sink, &gate);
+    drop(source);
+    let same = is_report(rt, sink.bytes());
+    drop(sink);
     let asked = gate.sample.load(SeqCst) >= 8
         && gate.control.load(SeqCst) >= 8
         && gate.logger.load(SeqCst) >= 6;
-    let same = sink.bytes() == report.as_slice();
-    Some(status == Status::Ok && same && asked && gate.missed.load(SeqCst) == 0)
+    Some(status == Status::Ok && same? && asked && gate.missed.load(SeqCst) == 0)
+}
+
+/// Whether neither of the first two questions is over before both were put, so that two threads ask, each step is asked
+/// for, and the report is that of one worker.
+pub fn meets<R: Threads + Wait + Sync + Files + Alloc<A = Global>>(
+    rt: &R,
+    alloc: Global,
+) -> Option<bool> {
+    let words = listed(alloc, &["run", "--workers", "2"])?;
+    let held = asks(rt, alloc, &words);
+    drop(words);
+    held
 }

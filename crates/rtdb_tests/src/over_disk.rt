@@ -18,6 +18,73 @@ pub struct Base {
     pub report: Vec<u8>,
 }
 
+// What a command is run on beside its disk.
+#[derive(Drop)]
+struct Asked {
+    words: Vec<Word>,
+    source: MemSource,
+    sink: MemSink,
+}
+
+impl Asked {
+    fn new(alloc: Global, words: &[&str], scenario: &[u8]) -> Option<Asked> {
+        let input = scenario.to_vec(alloc).ok()?;
+        let Ok(sink) = MemSink::new(alloc, 10_000, 1_000, Vec::new(alloc)) else {
+            drop(input);
+            return None;
+        };
+        match listed(alloc, words) {
+            Some(words) => Some(Asked {
+                words,
+                source: MemSource::new(input, Vec::new(alloc)),
+                sink,
+            }),
+            None => {
+                drop(input);
+                drop(sink);
+                None
+            }
+        }
+    }
+
+    // What is answered over a disk.
+    fn run(&mut self, alloc: Global, disk: MemDisk) -> Option<Ran> {
+        let (status, disk) = rtdb_journal(
+            alloc,
+            &self.words,
+            &mut self.source,
+            &mut self.sink,
+            disk,
+        );
+        match self.sink.bytes().to_vec(alloc) {
+            Ok(text) => Some(Ran { status, text, disk }),
+            Err(_) => {
+                drop(disk);
+                None
+            }
+        }
+    }
+}
+
+/// The words of a command.
+pub fn listed(alloc: Global, words: &[&str]) -> Option<Vec<Word>> {
+    let mut list = Vec::new(alloc);
+    match add_words(alloc, words, &mut list) {
+        Some(()) => Some(list),
+        None => {
+            drop(list);
+            None
+        }
+    }
+}
+
+fn add_words(alloc: Global, words: &[&str], list: &mut Vec<Word>) -> Option<()> {
+    for word in words {
+        list.push(Word::new(alloc, word).ok()?).ok()?;
+    }
+    Some(())
+}
+
 /// What a run came to.
 #[derive(Drop)]
 pub struct Ran {
@@ -47,19 +114,13 @@ impl Base {
 
     /// What these words answer to a scenario over a disk.
     pub fn answer(&self, words: &[&str], scenario: &[u8], disk: MemDisk) -> Option<Ran> {
-        let mut list = Vec::new(self.alloc);
-        for word in words {
-            list.push(Word::new(self.alloc, word).ok()?).ok()?;
-        }
-        let input = scenario.to_vec(self.alloc).ok()?;
-        let mut source = MemSource::new(input, Vec::new(self.alloc));
-        let mut sink = MemSink::new(self.alloc, 10_000, 1_000, Vec::new(self.alloc)).ok()?;
-        let (status, disk) = rtdb_journal(self.alloc, &list, &mut source, &mut sink, disk);
-        Some(Ran {
-            status,
-            text: sink.bytes().to_vec(self.alloc).ok()?,
-            disk,
-        })
+        let Some(mut asked) = Asked::new(self.alloc, words, scenario) else {
+            drop(disk);
+            return None;
+        };
+        let ran = asked.run(self.alloc, disk);
+        drop(asked);
+        ran
     }
 
     /// A run of BASE over a disk.
@@ -67,10 +128,23 @@ impl Base {
         self.answer(&["journal", "base.journal"], &self.scenario, disk)
     }
 
+    /// The disk after a whole run.
+    pub fn after_run(&self) -> Option<MemDisk> {
+        let Ran {
+            status: _,
+            text,
+            disk,
+        } = self.run(self.disk(&[])?)?;
+        drop(text);
+        Some(disk)
+    }
+
     /// The disk after a whole run, with one byte of it changed.
     pub fn changed(&self, at: usize, byte: u8) -> Option<MemDisk> {
-        let Ran { disk, .. } = self.run(self.disk(&[])?)?;
-        let mut bytes = disk.bytes().to_vec(self.alloc).ok()?;
+        let disk = self.after_run()?;
+        let copied = disk.bytes().to_vec(self.alloc);
+        drop(disk);
+        let mut bytes = copied.ok()?;
         if at < bytes.len() {
             bytes[at] = byte;
         }
@@ -92,7 +166,10 @@ impl Base {
         let mut disk = self.disk(&[])?;
         let mut at = 0;
         for piece in bytes.chunks(512) {
-            write(&mut disk, at, piece)?;
+            if write(&mut disk, at, piece).is_none() {
+                drop(disk);
+                return None;
+            }
             at = at.saturating_add(512);
         }
         Some(disk)
