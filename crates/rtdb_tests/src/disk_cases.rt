@@ -3,6 +3,7 @@ use crate::over_disk::{Base, CALLS, Ran};
 use durable_disk::MemDisk;
 use rtdb_command::Status;
 use std::alloc::Global;
+use std::slice::from_ref;
 
 /// A case of a run over a journal.
 #[derive(Clone, Copy)]
@@ -213,7 +214,7 @@ fn with_one_more(base: &Base, disk: &MemDisk) -> Option<MemDisk> {
     let whole = disk.bytes();
     let front = &whole[..whole.len().saturating_sub(1)];
     let line = String::from_str(base.alloc, "plan sample 40").ok()?;
-    base.with_lines(front, &[line])
+    base.with_lines(front, from_ref(&line))
 }
 
 fn longer(base: &Base) -> Option<bool> {
