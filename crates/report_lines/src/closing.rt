@@ -11,8 +11,10 @@ use job_rows::JobRow;
 use journal_text::{put_end, write_entry};
 use line_fields::{put, put_job, put_name, put_signed, put_unsigned};
 use rt_base::{End, JobId, Names, OutOfMemory, Tick};
+use std::mem;
 use step_journal::Entry;
 
+#[inline(always)]
 fn put_by(into: &mut Vec<u8>, names: &Names, by: Option<JobId>)
     requires known { KnownBy names.now by }
     requires room { vec_len into.old + 44 ≤ vec_capacity into.old }
@@ -26,6 +28,7 @@ fn put_by(into: &mut Vec<u8>, names: &Names, by: Option<JobId>)
     }
 }
 
+#[inline(always)]
 fn put_close(into: &mut Vec<u8>, names: &Names, release: Tick, end: Option<(End, Tick)>)
     requires known { KnownClose names.now end }
     requires after { (e : EndOf) (tick : ℕ) → end ≡ Some (e, tick) → release ≤ tick }
@@ -44,8 +47,8 @@ fn put_close(into: &mut Vec<u8>, names: &Names, release: Tick, end: Option<(End,
     }
 }
 
-/// Adds the line of a job: at most 256 bytes. It takes no memory.
-pub fn put_job_line(into: &mut Vec<u8>, names: &Names, row: &JobRow)
+#[inline(always)]
+fn put_row(into: &mut Vec<u8>, names: &Names, row: &JobRow)
     requires known { KnownRow names.now row.now }
     requires room { vec_len into.old + 256 ≤ vec_capacity into.old }
     ensures items { into.new.items ≡ into.old.items ++ job_line names.now 0 row.now }
@@ -59,6 +62,21 @@ pub fn put_job_line(into: &mut Vec<u8>, names: &Names, row: &JobRow)
     put_by(into, names, row.delayed_by);
     put_unsigned(into, row.delay);
     put(into, b"\n");
+}
+
+/// Adds the line of a job: at most 256 bytes. It takes no memory.
+pub fn put_job_line(into: &mut Vec<u8>, names: &Names, row: &JobRow)
+    requires known { KnownRow names.now row.now }
+    requires room { vec_len into.old + 256 ≤ vec_capacity into.old }
+    ensures items { into.new.items ≡ into.old.items ++ job_line names.now 0 row.now }
+    ensures len { vec_len into.new ≤ vec_len into.old + 256 }
+    ensures room { vec_capacity into.old ≤ vec_capacity into.new }
+{
+    // A list of its own stays in registers while the pieces are added.
+    let alloc = *into.allocator();
+    let mut line = mem::replace(into, Vec::new(alloc));
+    put_row(&mut line, names, row);
+    *into = line;
 }
 
 fn add_job(into: &mut Vec<u8>, names: &Names, row: &JobRow) -> Result<(), OutOfMemory>
