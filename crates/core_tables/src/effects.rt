@@ -192,6 +192,7 @@ impl CoreTables {
 
     /// The events of a tick: the jobs whose deadline it is end Late, in falling priority, then the releases planned for it
     /// take place.
+    #[inline(always)]
     fn arrive(&mut self, tick: Tick)
         requires arrives { (set : Set) × ArrivesSome set tick self.old }
         ensures { (set : Set) (s : State) → AreTables set self.old s → CanArrive set tick s → AreTables set self.new (arrived set tick s) }

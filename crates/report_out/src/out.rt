@@ -88,7 +88,7 @@ impl<'a, K: Sink, T: Reported> EntryOut for ReportOut<'a, K, T> {
 
     ghost stops = { λ out. K.faults out.sink.now + full_stops out.standing };
 
-    /// A line costs what its bytes do, and the rows of the jobs a step for each transaction. The sink is called once for
+    /// A line costs what its bytes do, and the rows of the jobs what `JobRows::push` does. The sink is called once for
     /// each filling of the place for lines, and once at the end.
     fn put(&mut self, entries: &[Entry]) -> Result<(), Stopped> {
         if entries.is_empty() {

@@ -123,6 +123,7 @@ fn ask<B: Board, Y: Body>(board: &mut B, body: &mut Y, serial: &mut u32, job: Jo
 
 // The event that the state fixes: the step of the running job, or idling. False where nothing is pending and nothing
 // planned.
+#[inline(always)]
 fn turn<B: Board, Y: Body>(board: &mut B, bodies: &mut [Y], serials: &mut [u32]) -> bool
     requires ready { let w = workload (B.set board.old) (map Y.gives bodies.old) [] in
         (story : Many Noted) × CanTurn (B.stands board.old) Y.stands w bodies.old serials.old story }
