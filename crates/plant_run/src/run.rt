@@ -1,5 +1,5 @@
 //! What is run.
-ghost use Rattle.std.specs.Prelude.{◌≡◌, ℕ, true};
+ghost use Rattle.std.specs.Prelude.{◌≡◌, ℕ, ◌<◌, true, false};
 ghost use Rattle.plant_run.specs.Ready.{own_in};
 
 use rt_base::{List, Tick};
@@ -24,7 +24,8 @@ pub struct Run<'a, B, Y> {
 impl<B, Y> Run<'_, B, Y> {
     /// Whether no transaction plans a job itself. It looks at each of them.
     pub fn is_fixed(&self) -> bool
-        ensures { result ≡ true → (tx : ℕ) → own_in self.now tx ≡ 0 }
+        ensures fixed { result ≡ true → (tx : ℕ) → own_in self.now tx ≡ 0 }
+        ensures eager { result ≡ false → (tx : ℕ) × (0 < own_in self.now tx) }
     {
         for jobs in self.own {
             if *jobs > 0 {
