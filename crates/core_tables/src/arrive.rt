@@ -31,6 +31,7 @@ pub fn count_end(tallies: &mut [Tally], tx: TxId, end: End)
 
 /// Each pending job whose deadline is this tick ends Late, in falling priority. One look where the least deadline is a later
 /// one.
+#[inline(always)]
 pub fn cancel(pending: &mut Pending, tallies: &mut [Tally], tick: Tick)
     requires { CanCancelSome pending.old tallies.old }
     ensures pending { (set : Set) → AreFactsOf set pending.old.facts → CanCancel set pending.old.rows tallies.old → pending.new ≡ record pending.old { rows = rows_cancelled set tick pending.old.rows } }
@@ -56,6 +57,7 @@ fn has_time(pending: &Pending, tick: Tick) -> bool
 }
 
 /// Each release planned for this tick takes place. One look where none is.
+#[inline(always)]
 pub fn release(pending: &mut Pending, calendar: &mut Calendar, tick: Tick)
     requires low { tick < 2 ^ 63 }
     requires can { CanReleaseSome tick pending.old.rows calendar.old }

@@ -53,6 +53,7 @@ impl Numbers {
     }
 
     // One comparison where the guess is right, else one look-up in the hash map.
+    #[inline(always)]
     fn place(&self, name: &[u8]) -> Option<u32>
         ensures at { result ≡ place_in self.now name.now }
         ensures below { IfSome result (λ i. i < length self.now) }
@@ -62,6 +63,14 @@ impl Numbers {
         if guess < keys.len() && keys[guess].as_slice() == name {
             return Some(guess as u32);
         }
+        self.looked_up(name)
+    }
+
+    #[inline(never)]
+    fn looked_up(&self, name: &[u8]) -> Option<u32>
+        ensures at { result ≡ place_in self.now name.now }
+        ensures below { IfSome result (λ i. i < length self.now) }
+    {
         match self.names.get_index_of(name) {
             Some(at) => Some(at as u32),
             None => None,

@@ -1,7 +1,7 @@
 use Rattle.std.proofs.Common.{◌≡◌, ℕ, List, length, get_or, refl, ap, sym, ◌∙◌, arith}
 use Rattle.std.proofs.lemmas.Slice.Eq.{bytes_eq-Decides}
 use Rattle.name_table.specs.Places.{place_in}
-use Rattle.name_table.proofs.Places.{place_by_keys, place_of_key}
+use Rattle.name_table.proofs.Places.{place_of_key}
 use Rattle.name_table.proofs.Numbers.place.Goals as goal
 
 pub returns-then-eq-clause-at : goal.returns-then-eq-clause-at
@@ -14,13 +14,3 @@ returns-then-eq-clause-at c =
     sym (ap (λ (names : List (List ℕ)). place_in names c.args.name.now) (sym c.self.view_is)
     ∙ place_of_key (λ k. k.items) _ (λ a b. refl) c.self.inside.names.keys guess c.index-keys-guess.result c.args.name.now c.as_slice-keys.ensures.unique
     (omega (arith, c.if-guess-keys.true, ap length c.as_slice-keys.ensures.keys)) (ap (λ k. k.items) (sym found) ∙ same))
-
-pub returns-in-Some-clause-at : goal.returns-in-Some-clause-at
-returns-in-Some-clause-at c =
-    c.in-Some.ensures.index ∙ place_by_keys (λ k. k.items) c.args.name.now c.self.inside.names.keys
-    ∙ ap (λ (names : List (List ℕ)). place_in names c.args.name.now) c.self.view_is
-
-pub returns-in-None-clause-at : goal.returns-in-None-clause-at
-returns-in-None-clause-at c =
-    c.in-None.ensures.index ∙ place_by_keys (λ k. k.items) c.args.name.now c.self.inside.names.keys
-    ∙ ap (λ (names : List (List ℕ)). place_in names c.args.name.now) c.self.view_is
