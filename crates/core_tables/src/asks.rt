@@ -57,6 +57,7 @@ fn missed(item: Option<ItemId>) -> Option<StepReply>
 
 /// Why an operation of a pending job is refused before the room is looked at. It looks up the declared item, and for a commit
 /// goes over the declared writes.
+#[inline(always)]
 fn denied(set: &CompiledSet, pending: &Pending, head: Head, op: Op) -> Option<StepReply>
     requires in_set { head.job.tx.0 < length set.now.txns }
     requires row { head.job.tx.0 < length pending.now.rows }
@@ -119,6 +120,7 @@ impl CoreTables {
     /// there is room. It changes nothing. It touches a bounded number of table rows: the tally and the pending job of the
     /// transaction, the running job, the lock; and the job's own declared items, by a binary search, or for a commit each
     /// declared write.
+    #[inline(always)]
     pub fn refusal(
         &self,
         set: &CompiledSet,
@@ -141,6 +143,7 @@ impl CoreTables {
         idle_answer(kept, room, self.next_tick(), self.running())
     }
 
+    #[inline(always)]
     fn refused(
         &self,
         set: &CompiledSet,
@@ -164,6 +167,7 @@ impl CoreTables {
     }
 
     /// The same, of a pending job.
+    #[inline(always)]
     fn asked(
         &self,
         set: &CompiledSet,

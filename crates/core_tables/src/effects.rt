@@ -25,6 +25,7 @@ use strict_commit::CommitRefused;
 use txn_set::CompiledSet;
 
 /// What a granted operation is told: a read the job's own write, or else the item's value and stamp.
+#[inline(always)]
 fn outcome(pending: &Pending, items: &Items, tx: TxId, op: Op) -> Outcome
     requires row { tx.0 < length pending.now.rows }
     requires item { HasItem (length items.now) op }
@@ -76,6 +77,7 @@ fn overrun(used: u64, steps: u64) -> Option<End>
 
 /// How the step that a pending job has just taken ends it at a tick, if it does: by its commit, which installs its writes or
 /// not, by quitting, or by having used its steps.
+#[inline(always)]
 fn settle(
     set: &CompiledSet,
     pending: &Pending,
@@ -107,6 +109,7 @@ fn settle(
 }
 
 /// A job that ended leaves the pending ones and is counted.
+#[inline(always)]
 fn close(pending: &mut Pending, tallies: &mut [Tally], tx: TxId, end: Option<End>)
     requires row { tx.0 < length pending.old.rows }
     requires tally { tx.0 < length tallies.old }
@@ -121,6 +124,7 @@ fn close(pending: &mut Pending, tallies: &mut [Tally], tx: TxId, end: Option<End
 }
 
 /// Whether the transaction's pending job has its deadline at this tick.
+#[inline(always)]
 fn is_late(pending: &Pending, tx: TxId, deadline: Tick, tick: Tick) -> bool
     requires { tx.0 < length pending.now.rows }
     ensures { (row : RowSeen) → row_of pending.now.rows tx.0 ≡ Some row → result ≡ (row.release + deadline == tick) }
@@ -131,6 +135,7 @@ fn is_late(pending: &Pending, tx: TxId, deadline: Tick, tick: Tick) -> bool
     }
 }
 
+#[inline(always)]
 fn over(own: Option<End>, late: bool) -> Option<End>
     ensures { result ≡ over_of own late }
 {
@@ -154,6 +159,7 @@ impl CoreTables {
     /// job's end where it has ended then, also where that end is Late. A step that ends nobody, and at whose end nothing is
     /// released, touches the rows of its job and item alone, with one look at the least deadline and one at the next release.
     /// A job that ends costs what `Pending::end` does; each release logarithmic time in the number of planned releases.
+    #[inline(always)]
     pub fn go(&mut self, set: &CompiledSet, job: JobId, op: Op) -> (Outcome, Option<End>)
         requires granted { StandGranted set.now self.old job op }
         ensures outcome { (s : State) → AreTables set.now self.old s → IsLegalState set.now s → (g : IsGranted set.now s job op) → result.0 ≡ outcome_of s.items g.row.work op }
@@ -178,6 +184,7 @@ impl CoreTables {
     }
 
     /// The effect of a granted step: the job goes on, or ends with its writes installed or not. It answers that end.
+    #[inline(always)]
     fn effect(&mut self, set: &CompiledSet, job: JobId, op: Op) -> Option<End>
         requires granted { StandGranted set.now self.old job op }
         ensures end { (s : State) → AreTables set.now self.old s → IsLegalState set.now s → (g : IsGranted set.now s job op) → result ≡ end_by set.now (row_after s g.row op) (s.now + 1) op }

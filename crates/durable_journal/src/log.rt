@@ -23,7 +23,7 @@ use counting_laws::counting;
 use durable_disk::Disk;
 use durable_records::{RecordFault, Records, WIDTH, found_as_read};
 use io_edge::Failed;
-use journal_text::{lines_both_ways, write_entry};
+use journal_text::{Numerals, lines_both_ways, write_entry};
 use rt_base::{List, Names};
 use run_report::legal_has_lines;
 use serial_replay::{ReplayError, last_items};
@@ -56,6 +56,7 @@ pub enum LogError {
 pub struct Log<D: Disk> {
     records: Records<D>,
     line: Vec<u8>,
+    numerals: Numerals,
 }
 
 impl<D: Disk> Model for Log<D> {
@@ -84,7 +85,11 @@ impl<D: Disk> Log<D> {
             return Err((disk, LogError::OutOfMemory));
         };
         match Records::create(disk, &body_of(&HEADER)) {
-            Ok(records) => Ok(Log { records, line }),
+            Ok(records) => Ok(Log {
+                records,
+                line,
+                numerals: Numerals::new(),
+            }),
             Err(disk) => Err((disk, LogError::DiskFault)),
         }
     }
@@ -140,7 +145,12 @@ impl<D: Disk> Log<D> {
             return Err((disk, LogError::DiskFault));
         };
         let records = Records::over(disk, count);
-        Ok((Log { records, line }, entries))
+        let log = Log {
+            records,
+            line,
+            numerals: Numerals::new(),
+        };
+        Ok((log, entries))
     }
 
     /// Adds an entry, by four calls of the disk. After Ok each crash leaves a disk that is read with it. After `DiskFault`
@@ -173,7 +183,7 @@ impl<D: Disk> Log<D> {
         legal_has_lines();
         counting();
         set.is_compiled();
-        let body = body_in(&mut self.line, names, &entry);
+        let body = body_in(&mut self.line, &mut self.numerals, names, &entry);
         match self.records.append(&body) {
             Ok(()) => Ok(()),
             Err(RecordFault::DiskFault) => Err(LogError::DiskFault),
@@ -240,7 +250,7 @@ impl<D: Disk> Log<D> {
 }
 
 // The body of an entry's record, by way of its line.
-fn body_in(line: &mut Vec<u8>, names: &Names, entry: &Entry) -> [u8; 255]
+fn body_in(line: &mut Vec<u8>, numerals: &mut Numerals, names: &Names, entry: &Entry) -> [u8; 255]
     requires writable { IsWritable names.now entry.now }
     requires room { 256 ≤ vec_capacity line.old }
     ensures body { result ≡ body_of_text (entry_line names.now entry.now) }
@@ -248,7 +258,7 @@ fn body_in(line: &mut Vec<u8>, names: &Names, entry: &Entry) -> [u8; 255]
     ensures room { 256 ≤ vec_capacity line.new }
 {
     line.clear();
-    write_entry(names, entry, line);
+    write_entry(names, entry, numerals, line);
     let len = line.len() - 1;
     body_of(&line[..len])
 }

@@ -13,7 +13,7 @@ use Rattle.rt_base.specs.declared.operation.End.{End}
 use Rattle.rt_base.specs.declared.operation.End.TheVariants as end
 use Rattle.step_journal.specs.declared.entry.Entry.{Entry}
 use Rattle.step_journal.specs.declared.entry.Entry.TheVariants.{Planned, Step, Blocked, Idle}
-use Rattle.line_fields.specs.Cuts.{word_of, word_is, field, Ends}
+use Rattle.line_fields.specs.Cuts.{◌>>=◌, word_of, word_is, field, Lacks, Ends}
 use Rattle.line_fields.specs.Numbers.{unsigned_of, short_of}
 use Rattle.line_fields.specs.Ids.{name_at, tx_of, job_text, job_of, IsJob}
 use Rattle.line_fields.proofs.CutLaws.{some_is, none_some, bind_some, take_step, take_last, word_takes, word_again, next_again, next_last, lacks_test, given_takes, given_again}
@@ -21,7 +21,7 @@ use Rattle.line_fields.proofs.NumberLaws.{unsigned_takes, unsigned_again, unsign
 use Rattle.line_fields.proofs.IdLaws.{tx_takes, tx_again, id_lacks, job_takes, job_again, job_lacks}
 use Rattle.journal_text.specs.Lines.{◌⊕◌, op_text, outcome_text, over_text, entry_line, IsOp, IsEnd, IsOver, HasLine, IsEntryOf, KnownOp, KnownEnd, KnownOver, IsWritable}
 use Rattle.journal_text.specs.Laws.{LinesBothWays}
-use Rattle.journal_text.specs.Reading.{op_of, outcome_of, over_of, plan_of, step_of, block_of, idle_of, form_of, entry_of}
+use Rattle.journal_text.specs.Reading.{op_of, outcome_of, over_of, answers_of, plan_of, step_of, block_of, idle_of, form_of, entry_of}
 use Rattle.journal_text.proofs.PartLaws.{by_word, op_takes, op_again, outcome_takes, outcome_again, over_takes, over_again}
 
 abbrev EntryLine : Names → List ℕ → List ℕ → Entry → Type 0
@@ -90,9 +90,11 @@ unfolding step_of
 step_takes names bs e h =
     let job = take_step (IsJob names.txns) (job_text names.txns) (job_of names.txns) (job_takes names.txns) bs _ e h in
     let tick = take_step IsTick decimal unsigned_of unsigned_takes job.rest _ e job.more in
-    let op = bind_some (op_of names tick.rest) _ e tick.more in
-    let outcome = bind_some (outcome_of op.0.0 op.0.1) _ e op.2 in
-    let over = bind_some (over_of names outcome.0.1) _ e outcome.2 in
+    let more : (Op × Outcome) × List ℕ → Option Entry = λ a. over_of names a.1 >>= λ over. Some (Step job.got a.0.0 a.0.1 over tick.got) in
+    let answer = bind_some (answers_of (op_of names tick.rest)) more e tick.more in
+    let op = bind_some (op_of names tick.rest) (λ op. outcome_of op.0 op.1 >>= λ outcome. Some ((op.0, outcome.0), outcome.1)) answer.0 answer.1 in
+    let outcome = bind_some (outcome_of op.0.0 op.0.1) (λ outcome. Some ((op.0.0, outcome.0), outcome.1)) answer.0 op.2 in
+    let over = bind_some (over_of names outcome.0.1) (λ over. Some (Step job.got op.0.0 outcome.0.0 over tick.got)) e (ap more (some_is _ answer.0 outcome.2) ∙ answer.2) in
     let o = op_takes names tick.rest op.0 op.1 in
     let r = outcome_takes op.0.0 op.0.1 outcome.0 outcome.1 in
     let v = over_takes names outcome.0.1 over.0 over.1 in
@@ -104,11 +106,22 @@ step_takes names bs e h =
     ∙ ap (λ (r : List ℕ). field (job_text names.txns job.got) ⊕ field (decimal tick.got) ⊕ op_text names op.0.0 ⊕ outcome_text outcome.0.0 ⊕ r) v.1 in
     subst (EntryLine names (codes "step") bs) (some_is _ e over.2) ((job.fits, tick.fits, o.0, r.0, r.1, v.0), ap (λ (r : List ℕ). codes "step" ++ r) line)
 
--- a line that begins with the word of a step
+-- a line that begins with a word that is compared where it stands
+form_in : (names : Names) (w line rest : List ℕ) → line ≡ w ++ rest → Lacks 32 w → Ends rest → entry_of names line ≡ form_of names w rest
+form_in names w line rest is lacks ends =
+    ap (λ (p : List ℕ × List ℕ). form_of names p.0 p.1) (ap word_of is ∙ word_again w rest lacks ends)
+
 pub step_in : (names : Names) (line rest : List ℕ) → line ≡ codes "step" ++ rest → Ends rest → entry_of names line ≡ step_of names rest
 unfolding form_of
-step_in names line rest is ends =
-    ap (λ (p : List ℕ × List ℕ). form_of names p.0 p.1) (ap word_of is ∙ word_again (codes "step") rest (lacks_test 32 (codes "step") refl) ends)
+step_in names line rest is ends = form_in names (codes "step") line rest is (lacks_test 32 (codes "step") refl) ends
+
+pub plan_in : (names : Names) (line rest : List ℕ) → line ≡ codes "plan" ++ rest → Ends rest → entry_of names line ≡ plan_of names rest
+unfolding form_of
+plan_in names line rest is ends = form_in names (codes "plan") line rest is (lacks_test 32 (codes "plan") refl) ends
+
+pub block_in : (names : Names) (line rest : List ℕ) → line ≡ codes "block" ++ rest → Ends rest → entry_of names line ≡ block_of names rest
+unfolding form_of
+block_in names line rest is ends = form_in names (codes "block") line rest is (lacks_test 32 (codes "block") refl) ends
 
 step_again : (names : Names) (job : JobId) (op : Op) (outcome : Outcome) (over : Option End) (tick : ℕ)
     → AreNames names.items → AreNames names.txns → HasLine names (Step job op outcome over tick)

@@ -1,8 +1,9 @@
 -- The parts of a line are read back as they were written.
-use Rattle.std.proofs.Common.{◌≡◌, ℕ, ◌<◌, ◌^◌, Bool, true, false, cond, List, [], ◌∷◌, ◌++◌, Option, Some, None, option_map, decimal, codes, refl, sym, ap, subst, ◌∙◌, arith, append_assoc, append-nil}
+use Rattle.std.proofs.Common.{◌≡◌, ℕ, ◌<◌, ◌^◌, Bool, true, false, cond, List, [], ◌∷◌, ◌++◌, ◌-◌, length, take, drop, Option, Some, None, option_map, decimal, codes, refl, sym, ap, subst, ◌∙◌, arith, append_assoc, append-nil}
 use Rattle.std.specs.Fmt.{signed_decimal}
 use Rattle.std.specs.Int.{IsInRange}
 use Rattle.std.specs.Str.{bytes_eq}
+use Rattle.std.proofs.lemmas.List.{take-append-drop}
 use Rattle.std.proofs.lemmas.Slice.Eq.{bytes_eq-Decides}
 use Rattle.rt_base.specs.Names.{AreNames}
 use Rattle.rt_base.specs.declared.name.Names.{Names}
@@ -13,10 +14,10 @@ use Rattle.rt_base.specs.declared.operation.Outcome.{Outcome}
 use Rattle.rt_base.specs.declared.operation.Outcome.TheVariants.{Got, Put, Computed, Closed}
 use Rattle.rt_base.specs.declared.operation.End.{End}
 use Rattle.rt_base.specs.declared.operation.End.TheVariants as end
-use Rattle.line_fields.specs.Cuts.{field_of, word_is, done_of, field, Lacks, Ends}
+use Rattle.line_fields.specs.Cuts.{◌>>=◌, next, field_of, word_is, done_of, field, Lacks, Ends}
 use Rattle.line_fields.specs.Numbers.{unsigned_of, signed_of, IsI64}
 use Rattle.line_fields.specs.Ids.{name_at, item_of}
-use Rattle.line_fields.proofs.CutLaws.{some_is, none_some, bind_some, Takes, take_step, done_takes, field_takes, field_again, next_again, lacks_test, given_takes, given_again}
+use Rattle.line_fields.proofs.CutLaws.{rest_of, some_is, none_some, bind_some, Takes, take_step, done_takes, field_takes, field_again, next_again, lacks_test, given_takes, given_again}
 use Rattle.line_fields.proofs.NumberLaws.{unsigned_takes, unsigned_again, unsigned_lacks, decimal_lacks, signed_takes, signed_again, signed_lacks}
 use Rattle.line_fields.proofs.IdLaws.{item_takes, item_again, id_lacks}
 use Rattle.journal_text.specs.Lines.{op_text, stamp_text, outcome_text, end_text, over_text, IsItem, IsOp, Answers, IsStamp, IsOutcome, IsEnd, IsOver}
@@ -97,6 +98,27 @@ op_again names Commit rest good fits ends =
 op_again names Quit rest good fits ends =
     rw (field_again (codes "quit") rest (lacks_test 32 (codes "quit") refl) ends) refl
 
+-- the operation after a word that is compared where it stands
+op_in : (names : Names) (w bs rest : List ℕ) → bs ≡ field w ++ rest → Lacks 32 w → Ends rest → op_of names bs ≡ op_form names w rest
+unfolding op_of
+op_in names w bs rest is lacks ends = rw (is, field_again w rest lacks ends) refl
+
+pub op_compute : (names : Names) (bs rest : List ℕ) → bs ≡ codes " compute" ++ rest → Ends rest → op_of names bs ≡ Some (Compute, rest)
+unfolding op_form
+op_compute names bs rest is ends = op_in names (codes "compute") bs rest is (lacks_test 32 (codes "compute") refl) ends
+
+pub op_commit : (names : Names) (bs rest : List ℕ) → bs ≡ codes " commit" ++ rest → Ends rest → op_of names bs ≡ Some (Commit, rest)
+unfolding op_form
+op_commit names bs rest is ends = op_in names (codes "commit") bs rest is (lacks_test 32 (codes "commit") refl) ends
+
+pub op_write : (names : Names) (bs rest : List ℕ) → bs ≡ codes " write" ++ rest → Ends rest → op_of names bs ≡ write_of names rest
+unfolding op_form
+op_write names bs rest is ends = op_in names (codes "write") bs rest is (lacks_test 32 (codes "write") refl) ends
+
+pub op_read : (names : Names) (bs rest : List ℕ) → bs ≡ codes " read" ++ rest → Ends rest → op_of names bs ≡ read_of names rest
+unfolding op_form
+op_read names bs rest is ends = op_in names (codes "read") bs rest is (lacks_test 32 (codes "read") refl) ends
+
 -- ---- outcomes
 
 number : (w : List ℕ) (stamp : Option ℕ) (o : Option ℕ) → unsigned_of w ≡ o → option_map (λ n. Some n) o ≡ Some stamp
@@ -125,6 +147,31 @@ stamp_again : (stamp : Option ℕ) → IsStamp stamp → stamp_of (stamp_text st
 unfolding stamp_of
 stamp_again None fits = refl
 stamp_again (Some n) fits = rw (not_own n fits (bytes_eq (decimal n) (codes "own")) refl, unsigned_again n fits) refl
+
+stamp_next : (bs w rest : List ℕ) (stamp : Option ℕ) → field_of bs ≡ Some (w, rest) → stamp_of w ≡ Some stamp
+    → next stamp_of bs ≡ Some (stamp, rest)
+unfolding next
+stamp_next bs w rest stamp field is = rw (field, is) refl
+
+-- a stamp that is a number
+pub stamp_number : (bs : List ℕ) (n : ℕ) (rest : List ℕ) → next unsigned_of bs ≡ Some (n, rest) → next stamp_of bs ≡ Some (Some n, rest)
+unfolding next
+stamp_number bs n rest e =
+    let f = bind_some (field_of bs) (λ f. unsigned_of f.0 >>= λ a. Some (a, f.1)) (n, rest) e in
+    let a = bind_some (unsigned_of f.0.0) (λ a. Some (a, f.0.1)) (n, rest) f.2 in
+    let fits = unsigned_takes f.0.0 a.0 a.1 in
+    let stamp : stamp_of f.0.0 ≡ Some (Some a.0) = ap stamp_of (sym fits.1) ∙ stamp_again (Some a.0) fits.0 in
+    let same : (a.0, f.0.1) ≡ (n, rest) = some_is _ _ a.2 in
+    stamp_next bs f.0.0 f.0.1 (Some a.0) f.1 stamp ∙ ap (λ (p : ℕ × List ℕ). Some (Some p.0, p.1)) same
+
+-- bytes of which the first are these
+pub cut_front : (bs w : List ℕ) → bytes_eq (take (length w) bs) w ≡ true → bs ≡ w ++ take (length bs - length w) (drop (length w) bs)
+cut_front bs w e =
+    sym (take-append-drop (length w) bs) ∙ (ap (λ (t : List ℕ). t ++ drop (length w) bs) ((bytes_eq-Decides (take (length w) bs) w).0 e)
+    ∙ ap (λ (r : List ℕ). w ++ r) (sym (rest_of (length w) bs)))
+
+pub ends_after : (bs : List ℕ) (n : ℕ) → Ends (drop n bs) → Ends (take (length bs - n) (drop n bs))
+ends_after bs n ends = subst Ends (sym (rest_of n bs)) ends
 
 stamp_lacks : (stamp : Option ℕ) → IsStamp stamp → Lacks 32 (stamp_text stamp)
 stamp_lacks None fits = lacks_test 32 (codes "own") refl
@@ -278,3 +325,14 @@ over_again names None good fits = refl
 over_again names (Some e) good fits =
     let end : end_of names (end_text names e) ≡ Some (e, []) = ap (end_of names) (sym (append-nil (end_text names e))) ∙ end_again names e [] good fits tt in
     rw (next_again (word_is (codes "end")) (codes "end") (end_text names e) tt (given_again (codes "end")) (lacks_test 32 (codes "end") refl) (ends_end names e), end) refl
+
+-- the end that most ended jobs have
+pub over_committed : (names : Names) (bs : List ℕ) → bytes_eq bs (codes " end committed") ≡ true → over_of names bs ≡ Some (Some end.Committed)
+unfolding over_of end_of end_form next
+over_committed names bs e =
+    ap (over_of names) ((bytes_eq-Decides bs (codes " end committed")).0 e)
+    ∙ rw (
+      field_again (codes "end") (codes " committed") (lacks_test 32 (codes "end") refl) refl,
+      given_again (codes "end"),
+      field_again (codes "committed") [] (lacks_test 32 (codes "committed") refl) tt,
+    ) refl

@@ -103,14 +103,20 @@ plan_of names bs = do
   over ← done_of tick.1
   Some (Planned tx.0 tick.0)
 
+-- an operation and its outcome
+abbrev pub answers_of : Option (Op × List ℕ) → Option ((Op × Outcome) × List ℕ)
+answers_of o = do
+  op ← o
+  outcome ← outcome_of op.0 op.1
+  Some ((op.0, outcome.0), outcome.1)
+
 unfoldable pub step_of : Names → List ℕ → Option Entry
 step_of names bs = do
   job ← next (job_of names.txns) bs
   tick ← next unsigned_of job.1
-  op ← op_of names tick.1
-  outcome ← outcome_of op.0 op.1
-  over ← over_of names outcome.1
-  Some (Step job.0 op.0 outcome.0 over tick.0)
+  answer ← answers_of (op_of names tick.1)
+  over ← over_of names answer.1
+  Some (Step job.0 answer.0.0 answer.0.1 over tick.0)
 
 unfoldable pub block_of : Names → List ℕ → Option Entry
 block_of names bs = do

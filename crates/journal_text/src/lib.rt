@@ -3,9 +3,11 @@
 
 ghost use Rattle.journal_text.specs.Laws.{LinesBothWays, OneEntryALine};
 
+mod numerals;
 mod reading;
 mod writing;
 
+pub use numerals::Numerals;
 pub use reading::{next_end, read_entry};
 pub use writing::{put_end, write_entry};
 

@@ -1,9 +1,9 @@
 //! From lines to entries.
-ghost use Rattle.std.specs.Prelude.{◌≡◌, ◌++◌, codes, option_map, IfSome};
+ghost use Rattle.std.specs.Prelude.{◌≡◌, ◌≤◌, ◌++◌, option_map, IfSome, IsTrue, length, drop};
 ghost use Rattle.line_fields.specs.Cuts.{next, Ends};
 ghost use Rattle.rt_base.specs.Names.{AreNames};
 ghost use Rattle.journal_text.specs.Lines.{entry_line, HasLine, IsEntryOf, IsWritable};
-ghost use Rattle.journal_text.specs.Reading.{read_of, write_of, op_form, op_of, stamp_of, got_of, outcome_of, stale_of, apart_of, end_form, end_of, over_of, plan_of, step_of, block_of, idle_of, form_of, entry_of};
+ghost use Rattle.journal_text.specs.Reading.{read_of, write_of, op_form, op_of, stamp_of, got_of, outcome_of, stale_of, apart_of, end_form, end_of, over_of, plan_of, answers_of, step_of, block_of, idle_of, form_of, entry_of};
 
 use line_fields::{
     done, field, is_word, next_item, next_job, next_short, next_signed, next_tx, next_unsigned,
@@ -12,6 +12,28 @@ use line_fields::{
 use name_table::NameTables;
 use rt_base::{End, Op, Outcome};
 use step_journal::Entry;
+
+// Whether a word ends after so many bytes.
+#[inline(always)]
+fn ends_at(bytes: &[u8], len: usize) -> bool
+    requires { len ≤ length bytes.now }
+    ensures { IsTrue result → Ends (drop len bytes.now) }
+{
+    len == bytes.len() || bytes[len] == b' '
+}
+
+// What follows these bytes at the front, where a word ends with them.
+#[inline(always)]
+fn after<'a>(want: &[u8], bytes: &'a [u8]) -> Option<&'a [u8]>
+    ensures { IfSome result (λ rest. (bytes.now ≡ want.now ++ rest.now) × Ends rest.now) }
+{
+    let len = want.len();
+    if len <= bytes.len() && is_word(want, &bytes[..len]) && ends_at(bytes, len) {
+        Some(&bytes[len..])
+    } else {
+        None
+    }
+}
 
 #[inline(always)]
 #[tactic(auto, unfolding(crate::specs::Reading::read_of))]
@@ -61,7 +83,6 @@ fn op<'a>(names: &NameTables, rest: &'a [u8]) -> Option<(Op, &'a [u8])>
     op_after(names, word, rest)
 }
 
-#[inline(always)]
 #[tactic(auto, unfolding(crate::specs::Reading::stamp_of))]
 fn stamp(word: &[u8]) -> Option<Option<u64>>
     ensures { result ≡ stamp_of word.now }
@@ -73,14 +94,25 @@ fn stamp(word: &[u8]) -> Option<Option<u64>>
     }
 }
 
-#[inline(always)]
+#[inline(never)]
 #[tactic(auto, unfolding(line_fields::specs::Cuts::next))]
-fn next_stamp(rest: &[u8]) -> Option<(Option<u64>, &[u8])>
+fn any_stamp(rest: &[u8]) -> Option<(Option<u64>, &[u8])>
     ensures { option_map (λ p. (p.0, p.1.now)) result ≡ next stamp_of rest.now }
 {
     let (word, rest) = field(rest)?;
     let stamp = stamp(word)?;
     Some((stamp, rest))
+}
+
+// Most stamps are numbers.
+#[inline(always)]
+fn next_stamp(rest: &[u8]) -> Option<(Option<u64>, &[u8])>
+    ensures { option_map (λ p. (p.0, p.1.now)) result ≡ next stamp_of rest.now }
+{
+    if let Some((stamp, rest)) = next_unsigned(rest) {
+        return Some((Some(stamp), rest));
+    }
+    any_stamp(rest)
 }
 
 #[inline(always)]
@@ -155,8 +187,9 @@ pub fn next_end<'a>(names: &NameTables, rest: &'a [u8]) -> Option<(End, &'a [u8]
     end_after(names, word, rest)
 }
 
+#[inline(never)]
 #[tactic(auto, unfolding(crate::specs::Reading::over_of))]
-fn over(names: &NameTables, rest: &[u8]) -> Option<Option<End>>
+fn some_over(names: &NameTables, rest: &[u8]) -> Option<Option<End>>
     ensures { result ≡ over_of names.now rest.now }
 {
     match rest {
@@ -167,6 +200,19 @@ fn over(names: &NameTables, rest: &[u8]) -> Option<Option<End>>
             done(rest)?;
             Some(Some(end))
         }
+    }
+}
+
+// Most steps end no job, and most of the others end one that is committed.
+#[inline(always)]
+#[tactic(auto, unfolding(crate::specs::Reading::over_of))]
+fn over(names: &NameTables, rest: &[u8]) -> Option<Option<End>>
+    ensures { result ≡ over_of names.now rest.now }
+{
+    match rest {
+        [] => Some(None),
+        _ if is_word(b" end committed", rest) => Some(Some(End::Committed)),
+        _ => some_over(names, rest),
     }
 }
 
@@ -181,6 +227,57 @@ fn plan(names: &NameTables, rest: &[u8]) -> Option<Entry>
     Some(Entry::Planned { tx, tick })
 }
 
+// What follows ` read`.
+#[inline(always)]
+#[tactic(auto, unfolding(crate::specs::Reading::read_of, crate::specs::Reading::outcome_of))]
+fn answered_read<'a>(names: &NameTables, rest: &'a [u8]) -> Option<((Op, Outcome), &'a [u8])>
+    ensures { option_map (λ p. (p.0, p.1.now)) result ≡ answers_of (read_of names.now rest.now) }
+{
+    let (item, rest) = next_item(names, rest)?;
+    let (outcome, rest) = got(rest)?;
+    Some(((Op::Read(item), outcome), rest))
+}
+
+// What follows ` write`.
+#[inline(always)]
+#[tactic(auto, unfolding(crate::specs::Reading::write_of, crate::specs::Reading::outcome_of))]
+fn answered_write<'a>(names: &NameTables, rest: &'a [u8]) -> Option<((Op, Outcome), &'a [u8])>
+    ensures { option_map (λ p. (p.0, p.1.now)) result ≡ answers_of (write_of names.now rest.now) }
+{
+    let (item, rest) = next_item(names, rest)?;
+    let (value, rest) = next_signed(rest)?;
+    Some(((Op::Write(item, value), Outcome::Put), rest))
+}
+
+#[inline(never)]
+fn any_answered<'a>(names: &NameTables, rest: &'a [u8]) -> Option<((Op, Outcome), &'a [u8])>
+    ensures { option_map (λ p. (p.0, p.1.now)) result ≡ answers_of (op_of names.now rest.now) }
+{
+    let (op, rest) = op(names, rest)?;
+    let (outcome, rest) = outcome(op, rest)?;
+    Some(((op, outcome), rest))
+}
+
+// An operation and its outcome. The words of most operations are compared where they stand.
+#[inline(always)]
+fn answered<'a>(names: &NameTables, rest: &'a [u8]) -> Option<((Op, Outcome), &'a [u8])>
+    ensures { option_map (λ p. (p.0, p.1.now)) result ≡ answers_of (op_of names.now rest.now) }
+{
+    if let Some(rest) = after(b" compute", rest) {
+        return Some(((Op::Compute, Outcome::Computed), rest));
+    }
+    if let Some(rest) = after(b" write", rest) {
+        return answered_write(names, rest);
+    }
+    if let Some(rest) = after(b" read", rest) {
+        return answered_read(names, rest);
+    }
+    if let Some(rest) = after(b" commit", rest) {
+        return Some(((Op::Commit, Outcome::Closed), rest));
+    }
+    any_answered(names, rest)
+}
+
 #[inline(always)]
 #[tactic(auto, unfolding(crate::specs::Reading::step_of))]
 fn step(names: &NameTables, rest: &[u8]) -> Option<Entry>
@@ -188,8 +285,7 @@ fn step(names: &NameTables, rest: &[u8]) -> Option<Entry>
 {
     let (job, rest) = next_job(names, rest)?;
     let (tick, rest) = next_unsigned(rest)?;
-    let (op, rest) = op(names, rest)?;
-    let (outcome, rest) = outcome(op, rest)?;
+    let ((op, outcome), rest) = answered(names, rest)?;
     let over = over(names, rest)?;
     Some(Entry::Step {
         job,
@@ -232,7 +328,7 @@ fn idle(rest: &[u8]) -> Option<Entry>
     Some(Entry::Idle { from, to })
 }
 
-#[inline(always)]
+#[inline(never)]
 #[tactic(auto, unfolding(crate::specs::Reading::form_of))]
 fn form(names: &NameTables, word: &[u8], rest: &[u8]) -> Option<Entry>
     ensures { result ≡ form_of names.now word.now rest.now }
@@ -250,18 +346,18 @@ fn form(names: &NameTables, word: &[u8], rest: &[u8]) -> Option<Entry>
     }
 }
 
-// What follows the word of a step, where a line begins with it.
-#[inline(always)]
-fn after_step(line: &[u8]) -> Option<&[u8]>
-    ensures { IfSome result (λ rest. (line.now ≡ codes "step" ++ rest.now) × Ends rest.now) }
+#[inline(never)]
+fn any_entry(names: &NameTables, line: &[u8]) -> Option<Entry>
+    ensures { result ≡ entry_of names.now line.now }
 {
-    match line {
-        [b's', b't', b'e', b'p', rest @ ..] => match rest {
-            [b' ', ..] => Some(rest),
-            _ => None,
-        },
-        _ => None,
+    if let Some(rest) = after(b"plan", line) {
+        return plan(names, rest);
     }
+    if let Some(rest) = after(b"block", line) {
+        return block(names, rest);
+    }
+    let (word, rest) = word(line);
+    form(names, word, rest)
 }
 
 // Most lines are those of steps, whose word is not looked for.
@@ -269,11 +365,10 @@ fn after_step(line: &[u8]) -> Option<&[u8]>
 fn entry_in(names: &NameTables, line: &[u8]) -> Option<Entry>
     ensures { result ≡ entry_of names.now line.now }
 {
-    if let Some(rest) = after_step(line) {
-        return step(names, rest);
+    match after(b"step", line) {
+        Some(rest) => step(names, rest),
+        None => any_entry(names, line),
     }
-    let (word, rest) = word(line);
-    form(names, word, rest)
 }
 
 /// The entry whose line this is, without its line end. Over names that are names and differ: Some exactly where the line

@@ -3,7 +3,8 @@ ghost use Rattle.std.specs.Prelude.{◌≡◌, ◌+◌, ◌<◌, ◌≤◌, ◌+
 ghost use Rattle.line_fields.specs.Cuts.{field};
 ghost use Rattle.journal_text.specs.Lines.{op_text, stamp_text, outcome_text, end_text, over_text, entry_line, IsOp, IsOutcome, IsEnd, IsOver, HasLine, KnownOp, KnownEnd, KnownOver, IsWritable};
 
-use line_fields::{put, put_job, put_name, put_short, put_signed, put_unsigned};
+use crate::numerals::Numerals;
+use line_fields::{put, put_name, put_short, put_signed, put_unsigned};
 use rt_base::{End, Names, Op, Outcome};
 use std::mem;
 use step_journal::Entry;
@@ -114,7 +115,7 @@ fn put_over(into: &mut Vec<u8>, names: &Names, over: Option<End>)
 }
 
 #[inline(always)]
-fn put_entry(into: &mut Vec<u8>, names: &Names, entry: Entry)
+fn put_entry(into: &mut Vec<u8>, names: &Names, entry: Entry, numerals: &mut Numerals)
     requires known { IsWritable names.now entry }
     requires room { vec_len into.old + 255 ≤ vec_capacity into.old }
     ensures items { into.new.items ≡ into.old.items ++ entry_line names.now entry }
@@ -136,8 +137,8 @@ fn put_entry(into: &mut Vec<u8>, names: &Names, entry: Entry)
             tick,
         } => {
             put(into, b"step");
-            put_job(into, names.txns.as_slice(), job);
-            put_unsigned(into, tick);
+            numerals.put_job(into, names.txns.as_slice(), job);
+            numerals.put_tick(into, tick);
             put_op(into, names, op);
             put_outcome(into, outcome);
             put_over(into, names, over);
@@ -150,11 +151,11 @@ fn put_entry(into: &mut Vec<u8>, names: &Names, entry: Entry)
             tick,
         } => {
             put(into, b"block");
-            put_job(into, names.txns.as_slice(), job);
-            put_unsigned(into, tick);
+            numerals.put_job(into, names.txns.as_slice(), job);
+            numerals.put_tick(into, tick);
             put_op(into, names, op);
             put(into, b" by");
-            put_job(into, names.txns.as_slice(), by);
+            numerals.put_job(into, names.txns.as_slice(), by);
             put_short(into, ceiling);
         }
         Entry::Idle { from, to } => {
@@ -166,8 +167,8 @@ fn put_entry(into: &mut Vec<u8>, names: &Names, entry: Entry)
 }
 
 /// Adds the line of an entry, with its line end: at most 256 bytes. It takes no memory. The line is that of this entry
-/// alone (`lines_both_ways`).
-pub fn write_entry(names: &Names, entry: &Entry, into: &mut Vec<u8>)
+/// alone (`lines_both_ways`). Digits that are those of an earlier line are taken from `numerals`.
+pub fn write_entry(names: &Names, entry: &Entry, numerals: &mut Numerals, into: &mut Vec<u8>)
     requires known { IsWritable names.now entry.now }
     requires room { vec_len into.old + 256 ≤ vec_capacity into.old }
     ensures items { into.new.items ≡ into.old.items ++ entry_line names.now entry.now ++ codes "\n" }
@@ -178,7 +179,7 @@ pub fn write_entry(names: &Names, entry: &Entry, into: &mut Vec<u8>)
     // A list of its own stays in registers while the pieces are added.
     let alloc = *into.allocator();
     let mut line = mem::replace(into, Vec::new(alloc));
-    put_entry(&mut line, names, *entry);
+    put_entry(&mut line, names, *entry, numerals);
     line.push_reserved(b'\n');
     *into = line;
 }

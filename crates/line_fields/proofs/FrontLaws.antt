@@ -1,13 +1,17 @@
 -- Numbers at the front of a text.
-use Rattle.std.proofs.Common.{◌≡◌, ℕ, pos, ◌^◌, ◌<◌, ◌≤◌, ◌-◌, List, [], ◌∷◌, ◌++◌, length, take, drop, get_or, Some, decimal, sym, ap, ◌∙◌, arith, length-take}
+use Rattle.std.proofs.Common.{◌≡◌, ℕ, pos, ◌^◌, ◌<◌, ◌≤◌, ◌+◌, ◌-◌, ◌%◌, List, [], ◌∷◌, ◌++◌, length, take, drop, get_or, Some, decimal, sym, ap, ◌∙◌, arith, length-take}
 use Rattle.std.specs.Str.Parse.{digits_value, AllDigits}
 use Rattle.std.proofs.Math.Nat.{pow-le-pow_right}
 use Rattle.std.proofs.lemmas.Int.Digits.{digits_value-lt}
 use Rattle.std.proofs.lemmas.List.{take-append-drop, append-nil, length-take-le, get_or-take}
 use Rattle.line_fields.specs.Cuts.{next, field, Ends}
-use Rattle.line_fields.specs.Numbers.{unsigned_of, signed_of}
+use Rattle.line_fields.specs.Numbers.{unsigned_of, short_of, signed_of}
 use Rattle.line_fields.proofs.CutLaws.{rest_of, next_again}
-use Rattle.line_fields.proofs.NumberLaws.{written, unsigned_found, unsigned_again, unsigned_lacks, signed_again}
+use Rattle.line_fields.proofs.NumberLaws.{written, unsigned_found, unsigned_again, unsigned_lacks, short_again, signed_again}
+
+-- a byte that is a digit, by its distance from `0`
+pub digit_byte : (byte : ℕ) → byte < 256 → (byte + 208) % 256 ≤ 9 → (48 ≤ byte) × (byte ≤ 57) × ((byte + 208) % 256 + 48 ≡ byte)
+digit_byte byte lt is = (omega (arith, lt, is), omega (arith, lt, is), omega (arith, lt, is))
 
 -- a number of few digits
 pub few_digits : (bs : List ℕ) (i n : ℕ) → i < 19 → n ≡ digits_value 10 (take i bs) → AllDigits 10 (take i bs) → n < 10 ^ 18
@@ -38,6 +42,11 @@ pub next_found : (bs : List ℕ) (n : ℕ) (rest : List ℕ) → n < 2 ^ 64 → 
     → Some (n, rest) ≡ next unsigned_of bs
 next_found bs n rest lt e ends =
     sym (ap (next unsigned_of) e ∙ next_again unsigned_of (decimal n) rest n (unsigned_again n lt) (unsigned_lacks n lt) ends)
+
+pub short_found : (bs : List ℕ) (n : ℕ) (rest : List ℕ) → n < 2 ^ 32 → bs ≡ field (decimal n) ++ rest → Ends rest
+    → Some (n, rest) ≡ next short_of bs
+short_found bs n rest lt e ends =
+    sym (ap (next short_of) e ∙ next_again short_of (decimal n) rest n (short_again n lt) (unsigned_lacks n (omega arith)) ends)
 
 pub signed_found : (bs : List ℕ) (n : ℕ) (rest : List ℕ) → n < 2 ^ 63 → bs ≡ field (decimal n) ++ rest → Ends rest
     → Some (pos n, rest) ≡ next signed_of bs

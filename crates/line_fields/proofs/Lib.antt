@@ -4,3 +4,4 @@ pub mod IdLaws
 pub mod Words
 pub mod FrontLaws
 mod FarLaws
+pub mod NumeralLaws

@@ -2,3 +2,5 @@ pub mod Cuts
 pub mod Numbers
 pub mod Ids
 pub mod Laws
+pub mod Numerals
+pub mod NumeralInside

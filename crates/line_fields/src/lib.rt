@@ -6,11 +6,13 @@ ghost use Rattle.line_fields.specs.Laws.{NumbersBothWays, NamedBothWays};
 mod cuts;
 mod ids;
 mod numbers;
+mod numeral;
 mod writing;
 
 pub use cuts::{cut, done, field, is_word, next_word, word};
 pub use ids::{item, job, next_item, next_job, next_tx, tx};
 pub use numbers::{next_short, next_signed, next_unsigned, short, signed, unsigned};
+pub use numeral::Numeral;
 pub use writing::{put, put_field, put_job, put_name, put_short, put_signed, put_unsigned};
 
 /// Each number within its range is written as one word that is read as this number, and no other word is read as one:

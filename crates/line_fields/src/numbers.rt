@@ -50,11 +50,11 @@ fn front(bytes: &[u8]) -> (u64, usize)
     let mut n: u64 = 0;
     let most = bytes.len().min(DIGITS);
     for i in 0..most {
-        let byte = bytes[i];
-        if byte < b'0' || byte > b'9' {
+        let digit = bytes[i].wrapping_sub(b'0');
+        if digit > 9 {
             return (n, i);
         }
-        n = n * 10 + (byte - b'0') as u64;
+        n = n * 10 + digit as u64;
     }
     (n, most)
 }
@@ -174,12 +174,18 @@ pub fn next_unsigned(bytes: &[u8]) -> Option<(u64, &[u8])>
 pub fn next_short(bytes: &[u8]) -> Option<(u32, &[u8])>
     ensures { option_map (λ p. (p.0, p.1.now)) result ≡ next short_of bytes.now }
 {
+    if let Some((n, rest)) = after_blank(bytes) {
+        if n < 1 << 32 {
+            return Some((n as u32, rest));
+        }
+    }
     let (word, rest) = field(bytes)?;
     let n = short(word)?;
     Some((n, rest))
 }
 
 /// The signed number in the next field.
+#[inline(always)]
 #[tactic(auto, unfolding(crate::specs::Cuts::next))]
 pub fn next_signed(bytes: &[u8]) -> Option<(i64, &[u8])>
     ensures { option_map (λ p. (p.0, p.1.now)) result ≡ next signed_of bytes.now }

@@ -20,6 +20,32 @@ pub fn put(into: &mut Vec<u8>, bytes: &[u8])
     }
 }
 
+// Adds a few bytes for which there is room: eight at once, and of what is left four, two and one.
+#[inline(always)]
+fn put_few(into: &mut Vec<u8>, bytes: &[u8])
+    requires { vec_len into.old + length bytes.now ≤ vec_capacity into.old }
+    ensures items { into.new.items ≡ into.old.items ++ bytes.now }
+    ensures len { vec_len into.new ≡ vec_len into.old + length bytes.now }
+    ensures room { vec_capacity into.old ≤ vec_capacity into.new }
+{
+    let mut left = bytes;
+    while let [a, b, c, d, e, f, g, h, rest @ ..] = left {
+        put(into, &[*a, *b, *c, *d, *e, *f, *g, *h]);
+        left = rest;
+    }
+    if let [a, b, c, d, rest @ ..] = left {
+        put(into, &[*a, *b, *c, *d]);
+        left = rest;
+    }
+    if let [a, b, rest @ ..] = left {
+        put(into, &[*a, *b]);
+        left = rest;
+    }
+    if let [a] = left {
+        into.push_reserved(*a);
+    }
+}
+
 /// Adds a blank and a word.
 #[inline(always)]
 pub fn put_field(into: &mut Vec<u8>, word: &[u8])
@@ -29,7 +55,7 @@ pub fn put_field(into: &mut Vec<u8>, word: &[u8])
     ensures room { vec_capacity into.old ≤ vec_capacity into.new }
 {
     into.push_reserved(b' ');
-    put(into, word);
+    put_few(into, word);
 }
 
 /// Adds a blank and a number.
@@ -92,5 +118,5 @@ pub fn put_job(into: &mut Vec<u8>, txns: &[Name], job: JobId)
 {
     put_name(into, txns, job.tx.0);
     into.push_reserved(b'/');
-    put(into, Buffer::new().format(job.serial).as_bytes());
+    put_few(into, Buffer::new().format(job.serial).as_bytes());
 }

@@ -7,9 +7,9 @@ ghost use Rattle.std.specs.Prelude.{◌≡◌, ◌<◌, ◌^◌, length, IfSome}
 mod heads;
 
 use heads::head;
-use journal_text::{read_entry, write_entry};
+use journal_text::{Numerals, read_entry, write_entry};
 use line_fields::{
-    done, item, job, next_unsigned, next_word, put, put_job, put_name, put_short, put_signed,
+    Numeral, done, item, job, next_unsigned, next_word, put, put_job, put_name, put_short, put_signed,
     put_unsigned, short, signed, tx, unsigned, word,
 };
 use name_table::{NameTable, NameTables};
@@ -68,7 +68,7 @@ fn entry(alloc: Global, names: &NameTables, line: &[u8]) -> Option<String> {
         return String::from_str(alloc, "none").ok();
     };
     let mut text = Vec::with_capacity(alloc, 256).ok()?;
-    write_entry(names.names(), &entry, &mut text);
+    write_entry(names.names(), &entry, &mut Numerals::new(), &mut text);
     let same = text.strip_suffix(b"\n") == Some(line);
     format!(in alloc; "{entry:?} {same}").ok()
 }
@@ -108,6 +108,19 @@ fn written(alloc: Global, names: &NameTables) -> Option<String>
     String::from_utf8(text).ok()
 }
 
+// The numbers of a text, written one after another by a numeral that goes from each to the next.
+fn numerals(alloc: Global, text: &str) -> Option<String> {
+    let mut numeral = Numeral::of(0);
+    let mut written = Vec::new(alloc);
+    for word in text.split(' ') {
+        numeral.go_to(unsigned(word.as_bytes())?);
+        written.reserve(33).ok()?;
+        numeral.put(&mut written);
+        written.push(b' ').ok()?;
+    }
+    String::from_utf8(written).ok()
+}
+
 // What is read of a text.
 fn read(alloc: Global, names: &NameTables, kind: &str, text: &str) -> Option<String>
     requires items { length names.now.items ≡ 2 }
@@ -123,6 +136,7 @@ fn read(alloc: Global, names: &NameTables, kind: &str, text: &str) -> Option<Str
         "fields" => fields(alloc, bytes),
         "head" => head(alloc, bytes),
         "written" => written(alloc, names),
+        "numerals" => numerals(alloc, text.as_str()),
         _ => None,
     }
 }

@@ -41,6 +41,7 @@ pub fn plan(
 }
 
 // A granted operation: its effect, and the arrival at the next tick.
+#[inline(always)]
 fn go(
     set: &CompiledSet,
     journal: &mut Journal,
@@ -69,6 +70,7 @@ fn go(
 }
 
 // A refused operation: the job waits.
+#[inline(always)]
 fn block(
     set: &CompiledSet,
     journal: &mut Journal,
@@ -99,8 +101,9 @@ fn block(
     StepReply::Blocked { by, ceiling }
 }
 
-/// A job asks for an operation.
-pub fn step(
+// A job asks for an operation.
+#[inline(always)]
+fn asked(
     set: &CompiledSet,
     journal: &mut Journal,
     tables: &mut CoreTables,
@@ -126,6 +129,46 @@ pub fn step(
         Some(StepReply::Unwritten { item }) => StepReply::Unwritten { item },
         Some(StepReply::Full { room }) => StepReply::Full { room },
         Some(StepReply::Done { .. }) => unreachable!(),
+    }
+}
+
+// A job asks for Compute, as in most steps: by itself, so that what other operations need is left out.
+#[inline(never)]
+fn compute(
+    set: &CompiledSet,
+    journal: &mut Journal,
+    tables: &mut CoreTables,
+    job: JobId,
+) -> StepReply
+    requires in_set { job.tx.0 < length set.now.txns }
+    requires core { IsCore (core_of set.now journal.old tables.old) }
+    ensures fixed { (journal.new.room ≡ journal.old.room) × (journal.new.first ≡ journal.old.first) }
+    ensures answer { (story : List Noted) → Stands (core_of set.now journal.old tables.old) story → result ≡ step_answer set.now story (length journal.old.kept) journal.old.room job Op.Compute }
+    ensures turn { (story : List Noted) → Stands (core_of set.now journal.old tables.old) story → IsTurn (core_of set.now journal.old tables.old) (core_of set.now journal.new tables.new) story (ask job Op.Compute) (step_entry (now_of set.now story) job Op.Compute result) }
+    ensures refused { IsRefusal result → (journal.new ≡ journal.old) × (tables.new ≡ tables.old) }
+{
+    asked(set, journal, tables, job, Op::Compute)
+}
+
+/// A job asks for an operation.
+#[inline(always)]
+pub fn step(
+    set: &CompiledSet,
+    journal: &mut Journal,
+    tables: &mut CoreTables,
+    job: JobId,
+    op: Op,
+) -> StepReply
+    requires in_set { job.tx.0 < length set.now.txns }
+    requires core { IsCore (core_of set.now journal.old tables.old) }
+    ensures fixed { (journal.new.room ≡ journal.old.room) × (journal.new.first ≡ journal.old.first) }
+    ensures answer { (story : List Noted) → Stands (core_of set.now journal.old tables.old) story → result ≡ step_answer set.now story (length journal.old.kept) journal.old.room job op }
+    ensures turn { (story : List Noted) → Stands (core_of set.now journal.old tables.old) story → IsTurn (core_of set.now journal.old tables.old) (core_of set.now journal.new tables.new) story (ask job op) (step_entry (now_of set.now story) job op result) }
+    ensures refused { IsRefusal result → (journal.new ≡ journal.old) × (tables.new ≡ tables.old) }
+{
+    match op {
+        Op::Compute => compute(set, journal, tables, job),
+        _ => asked(set, journal, tables, job, op),
     }
 }
 

@@ -110,6 +110,7 @@ impl Pending {
 
     /// The running job: the highest pending one, or the one on which it waits, which then has its priority (Sha, Rajkumar,
     /// Son, Chang 1991). None exactly where nothing is pending. At most three looks, and one look-up.
+    #[inline(always)]
     pub fn running(&self) -> Option<JobId>
         ensures { (set : Set) → AreFactsOf set self.now.facts → result ≡ option_map (λ r. r.job) (running_row set self.now.rows) }
     {
@@ -120,6 +121,7 @@ impl Pending {
 
     /// Why an operation of a pending job does not get the lock that it needs, by the lock rule; None exactly where it gets the
     /// lock or needs none. At most four looks, and one look-up.
+    #[inline(always)]
     pub fn lock_refusal(&self, tx: TxId, op: Op) -> Option<Blocker>
         requires tx { tx.0 < length self.now.rows }
         requires item { HasItem (length self.now.facts.ceilings) op }
@@ -166,6 +168,7 @@ impl Pending {
     /// The pending job of a transaction takes a granted step: it is counted, what it read or wrote is noted, and it holds the
     /// lock. A new lock goes over the holders' rows; else it touches the rows of its transaction and item alone, with a scan
     /// of the job's own reads or writes.
+    #[inline(always)]
     pub fn step(&mut self, tx: TxId, op: Op, items: &Items)
         requires tx { tx.0 < length self.old.rows }
         requires declared { IsDeclared (accesses_at self.old.facts tx.0) op }
@@ -234,6 +237,7 @@ impl Pending {
 }
 
 /// Notes what an operation reads from outside or writes.
+#[inline(always)]
 fn note(work: &mut Work, op: Op, items: &Items)
     requires declared { IsDeclared (access_of work.old) op }
     requires item { HasItem (length items.now) op }
@@ -254,6 +258,7 @@ fn note(work: &mut Work, op: Op, items: &Items)
 }
 
 /// Adds the lock that an operation needs.
+#[inline(always)]
 fn lock(held: &mut Held, tx: TxId, op: Op)
     requires tx { tx.0 < length held.old.prios }
     requires item { HasItem (length held.old.ceilings) op }

@@ -1,18 +1,16 @@
-//! The lines of entries, jobs and last items.
+//! The lines of jobs and last items.
 ghost use Rattle.std.specs.Prelude.{ℕ, ◌≡◌, ◌+◌, ◌<◌, ◌≤◌, ◌^◌, ◌++◌, Some, length, slice_get, OnOk, vec_len, vec_capacity};
 ghost use Rattle.std.specs.List.{All};
 ghost use Rattle.rt_base.specs.declared.operation.End.{End as EndOf};
 ghost use Rattle.line_fields.specs.Cuts.{field};
-ghost use Rattle.journal_text.specs.Lines.{IsWritable};
-ghost use Rattle.report_lines.specs.Texts.{whole_entry_line, entries_text, by_text, close_text, job_line, jobs_text, final_line, finals_text, KnownBy, KnownClose, KnownRow};
+ghost use Rattle.report_lines.specs.Texts.{by_text, close_text, job_line, jobs_text, final_line, finals_text, KnownBy, KnownClose, KnownRow};
 
 use item_model::Stored;
 use job_rows::JobRow;
-use journal_text::{put_end, write_entry};
+use journal_text::put_end;
 use line_fields::{put, put_job, put_name, put_signed, put_unsigned};
 use rt_base::{End, JobId, Names, OutOfMemory, Tick};
 use std::mem;
-use step_journal::Entry;
 
 #[inline(always)]
 fn put_by(into: &mut Vec<u8>, names: &Names, by: Option<JobId>)
@@ -95,26 +93,6 @@ pub fn add_jobs(into: &mut Vec<u8>, names: &Names, rows: &[JobRow]) -> Result<()
 {
     for i in 0..rows.len() {
         add_job(into, names, &rows[i])?;
-    }
-    Ok(())
-}
-
-fn add_entry(into: &mut Vec<u8>, names: &Names, entry: &Entry) -> Result<(), OutOfMemory>
-    requires { IsWritable names.now entry.now }
-    ensures { OnOk result (into.new.items ≡ into.old.items ++ whole_entry_line names.now 0 entry.now) }
-{
-    into.reserve(256)?;
-    write_entry(names, entry, into);
-    Ok(())
-}
-
-/// Adds the lines of entries, in their order.
-pub fn add_entries(into: &mut Vec<u8>, names: &Names, entries: &[Entry]) -> Result<(), OutOfMemory>
-    requires { All (IsWritable names.now) entries.now }
-    ensures { OnOk result (into.new.items ≡ into.old.items ++ entries_text names.now entries.now) }
-{
-    for i in 0..entries.len() {
-        add_entry(into, names, &entries[i])?;
     }
     Ok(())
 }

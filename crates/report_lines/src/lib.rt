@@ -1,4 +1,4 @@
-//! The lines of a report: declarations, ceilings, bounds, entries, jobs and last items; and that the declarations are read
+//! The lines of a report: declarations, ceilings, bounds, jobs and last items; and that the declarations are read
 //! back.
 #![tactic(auto)]
 
@@ -9,7 +9,7 @@ mod declared;
 mod limits;
 mod lists;
 
-pub use closing::{add_entries, add_finals, add_jobs, put_job_line};
+pub use closing::{add_finals, add_jobs, put_job_line};
 pub use declared::add_declarations;
 pub use limits::{add_age, add_bound, add_ceilings};
 

@@ -48,21 +48,22 @@ fn make_room<K: Sink>(lines: &mut Vec<u8>, sink: &mut K) -> Result<(), WriteFaul
 }
 
 // Adds the line of the next entry after the others, and answers how many bytes it has.
+#[inline(always)]
 fn add_line<K: Sink>(
     writer: &mut ReportWriter,
     names: &Names,
-    entry: Entry,
+    entry: &Entry,
     lines: &mut Vec<u8>,
     sink: &mut K,
 ) -> Result<u64, WriteFault>
-    requires next { Writes names.now writer.old entry }
+    requires next { Writes names.now writer.old entry.now }
     requires room { 256 ≤ vec_capacity lines.old }
     ensures added { OnOk result ((sent : Many ℕ) × Appends (K.taken sink.old) (K.taken sink.new) sent ×
-        (sent ++ lines.new.items ≡ lines.old.items ++ whole_entry_line names.now 0 entry)) }
-    ensures bytes { IfOk result (λ n. (n ≡ length (whole_entry_line names.now 0 entry)) × (n ≤ 256)) }
+        (sent ++ lines.new.items ≡ lines.old.items ++ whole_entry_line names.now 0 entry.now)) }
+    ensures bytes { IfOk result (λ n. (n ≡ length (whole_entry_line names.now 0 entry.now)) × (n ≤ 256)) }
     ensures front { OnErr result ((n : ℕ) × Appends (K.taken sink.old) (K.taken sink.new) (take n lines.old.items)) }
     ensures follows { OnOk result ((set : Set) (story : Many Noted) → Follows set writer.old story →
-        IsLegal set (story ++ entry ∷ []) → Follows set writer.new (story ++ entry ∷ [])) }
+        IsLegal set (story ++ entry.now ∷ []) → Follows set writer.new (story ++ entry.now ∷ [])) }
     ensures places { writer.new.room ≡ writer.old.room }
     ensures room { vec_capacity lines.old ≤ vec_capacity lines.new }
     ensures cause { HasCause (K.faults sink.old) (K.faults sink.new) result }
@@ -97,7 +98,7 @@ pub(crate) fn add_lines<K: Sink>(
 {
     let mut bytes = 0;
     for i in 0..entries.len() {
-        bytes += add_line(writer, names, entries[i], lines, sink)?;
+        bytes += add_line(writer, names, &entries[i], lines, sink)?;
     }
     send(lines, sink)?;
     Ok(bytes)

@@ -30,7 +30,7 @@ fn add_next(
     ensures follows { OnOk result ((set : Set) (story : Many Noted) → Follows set writer.old story → IsLegal set (story ++ entry ∷ []) → Follows set writer.new (story ++ entry ∷ [])) }
 {
     into.reserve(256)?;
-    writer.push(names, entry, into);
+    writer.push(names, &entry, into);
     Ok(())
 }
 

@@ -13,7 +13,7 @@ ghost use Rattle.run_report.specs.Report.{opening_text, closing_text, limits_tex
 use crate::limits::add_limits;
 use item_model::{Items, Stored};
 use job_rows::{JobRow, JobRows};
-use journal_text::write_entry;
+use journal_text::{Numerals, write_entry};
 use report_lines::{add_ceilings, add_declarations, add_finals, add_jobs};
 use rt_base::{Names, OutOfMemory};
 use set_admission::AdmittedSet;
@@ -22,10 +22,11 @@ use std::marker::Model;
 use step_journal::Entry;
 use txn_set::CompiledSet;
 
-/// The report of a history, written entry by entry: the rows of its jobs so far.
+/// The report of a history, written entry by entry: the rows of its jobs so far, and the digits of its latest lines.
 #[derive(Drop)]
 pub struct ReportWriter {
     rows: JobRows,
+    numerals: Numerals,
 }
 
 impl Model for ReportWriter {
@@ -105,22 +106,24 @@ impl ReportWriter {
         add_opening(&mut opening, names, set, bounds)?;
         let rows = JobRows::with_room(alloc, set, jobs)?;
         into.append(&mut opening)?;
-        Ok(ReportWriter { rows })
+        let numerals = Numerals::new();
+        Ok(ReportWriter { rows, numerals })
     }
 
     /// Adds the line of the next entry, at most 256 bytes, and keeps the rows up. It takes no memory, and looks at no earlier
     /// entry.
-    pub fn push(&mut self, names: &Names, entry: Entry, into: &mut Vec<u8>)
-        requires next { Writes names.now self.old entry }
+    #[inline(always)]
+    pub fn push(&mut self, names: &Names, entry: &Entry, into: &mut Vec<u8>)
+        requires next { Writes names.now self.old entry.now }
         requires room { vec_len into.old + 256 ≤ vec_capacity into.old }
-        ensures text { into.new.items ≡ into.old.items ++ entry_line names.now entry ++ codes "\n" }
+        ensures text { into.new.items ≡ into.old.items ++ entry_line names.now entry.now ++ codes "\n" }
         ensures len { vec_len into.new ≤ vec_len into.old + 256 }
         ensures room { vec_capacity into.old ≤ vec_capacity into.new }
         ensures places { self.new.room ≡ self.old.room }
-        ensures follows { (set : Set) (story : Many Noted) → Follows set self.old story → IsLegal set (story ++ entry ∷ []) → Follows set self.new (story ++ entry ∷ []) }
+        ensures follows { (set : Set) (story : Many Noted) → Follows set self.old story → IsLegal set (story ++ entry.now ∷ []) → Follows set self.new (story ++ entry.now ∷ []) }
     {
-        self.rows.push(entry);
-        write_entry(names, &entry, into);
+        self.rows.push(*entry);
+        write_entry(names, entry, &mut self.numerals, into);
     }
 
     /// How many planned jobs more have a place.
@@ -136,7 +139,7 @@ impl ReportWriter {
         ensures text { (set : Set) (story : Many Noted) → Follows set self story → OnOk result (into.new.items ≡ into.old.items ++ closing_text names.now (job_rows set story) items.now) }
         ensures unchanged { OnErr result (into.new.items ≡ into.old.items) }
     {
-        let ReportWriter { rows } = self;
+        let ReportWriter { rows, numerals: _ } = self;
         let rows = rows.into_rows();
         let mut closing = Vec::new(*into.allocator());
         add_closing(&mut closing, names, rows.as_slice(), items.as_slice())?;

@@ -100,6 +100,7 @@ fn begin_new<Y: Body>(body: &mut Y, serial: &mut u32, next: u32)
 }
 
 // Lets the running job ask for its body's operation, and tells the body the outcome.
+#[inline(always)]
 fn ask<B: Board, Y: Body>(board: &mut B, body: &mut Y, serial: &mut u32, job: JobId)
     requires ready { (story : Many Noted) ×
         CanAsk (B.stands board.old) (Y.stands body.old) (Y.gives body.old) (B.set board.old) job serial.old story }

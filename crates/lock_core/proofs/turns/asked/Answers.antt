@@ -1,7 +1,7 @@
 use Rattle.std.proofs.Common.{arith}
 use Rattle.lock_core.proofs.Stood.{legal_state}
 use Rattle.lock_core.proofs.Turned.{block_room, blocked_said, never_done}
-use Rattle.lock_core.proofs.turns.step.Goals as goal
+use Rattle.lock_core.proofs.turns.asked.Goals as goal
 
 pub go-requires-clause-roomy : goal.go-requires-clause-roomy
 go-requires-clause-roomy c =
