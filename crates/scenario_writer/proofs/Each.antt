@@ -1,6 +1,7 @@
 -- Lists that are made from a number.
-use Rattle.std.proofs.Common.{◌≡◌, ℕ, ◌+◌, ◌<◌, ◌≤◌, ◌^◌, ◌%◌, List, [], ◌∷◌, ◌++◌, length, codes, decimal, ◌*◌, true, arith, refl, zero-add}
+use Rattle.std.proofs.Common.{◌≡◌, ℕ, ◌+◌, ◌<◌, ◌≤◌, ◌^◌, ◌%◌, List, [], ◌∷◌, ◌++◌, length, take, codes, decimal, ◌*◌, true, refl, ap, ◌∙◌, arith, zero-add}
 use Rattle.std.specs.List.{list_all}
+use Rattle.std.proofs.Math.Seq.{take-append_seam}
 use Rattle.std.proofs.lemmas.List.FromFn.{map-range_with_len_more}
 use Rattle.std.proofs.lemmas.Bool.{and_from, and_parts, lt-ltb}
 use Rattle.std.proofs.lemmas.Bool.Decides.{nat_tests}
@@ -29,10 +30,22 @@ name_digits n h = decimal_by_steps (λ k ds. list_all is_name_byte ds ≡ true)
     (λ k lt. and_from _ _ (digit k lt) refl)
     (λ k ds le so_far. one_more ds (48 + k % 10) so_far (digit (k % 10) (omega arith))) n h
 
+-- a letter, and digits that were copied behind it
+pub led : (letter : ℕ) (copied ds rest : List ℕ) → copied ≡ ds → {all : List ℕ} → ds ≡ all
+    → take (1 + length ds) (letter ∷ (copied ++ rest)) ≡ letter ∷ all
+led letter copied ds rest same is =
+    let e : 1 + length ds ≡ length (letter ∷ ds) = omega arith in
+    ap (λ (n : ℕ). take n (letter ∷ (copied ++ rest))) e
+    ∙ ap (λ (bs : List ℕ). take (length (letter ∷ ds)) (letter ∷ (bs ++ rest))) same
+    ∙ take-append_seam (letter ∷ ds) rest ∙ ap (λ (bs : List ℕ). letter ∷ bs) is
+
+pub two_digits : (n : ℕ) → n < 64 → length (decimal n) ≤ 2
+two_digits n lt = length-decimal-le 2 n (omega arith) (omega arith) (omega arith)
+
 -- a letter with a number below 64 is a name
 pub is_numbered : (letter n : ℕ) → is_letter letter ≡ true → n < 64 → is_name (letter ∷ decimal n) ≡ true
 is_numbered letter n h lt =
-    let short : length (decimal n) ≤ 2 = length-decimal-le 2 n (omega arith) (omega arith) (omega arith) in
+    let short : length (decimal n) ≤ 2 = two_digits n lt in
     and_from _ _ (and_from _ _ h (lt-ltb (length (decimal n)) 32 (omega arith))) (name_digits n (omega arith))
 
 -- the generated scenario by its parts

@@ -9,4 +9,5 @@ pub mod Merging
 mod Plain
 pub mod Ranges
 mod Runs
+mod Sending
 mod Whole

@@ -1,5 +1,5 @@
 -- What writing asks of a scenario's parts.
-use Rattle.std.proofs.Common.{◌≡◌, ℕ, zero, suc, ◌+◌, ◌<◌, ◌≤◌, List, [], ◌∷◌, length, get_or, drop, map, subst, Bool, true, false, not, cond, Option, Some, None, Result, Ok, Err, IfOk, refl, sym, ap, ◌∙◌, arith}
+use Rattle.std.proofs.Common.{◌≡◌, ℕ, zero, suc, ◌+◌, ◌<◌, ◌≤◌, List, [], ◌∷◌, length, get_or, drop, map, subst, Bool, true, false, not, cond, Option, Some, None, refl, sym, ap, ◌∙◌, arith}
 use Rattle.std.specs.List.{All, list_all, position, position_or_len, prefix_len}
 use Rattle.std.proofs.lemmas.Bool.{ltb-false, not-true}
 use Rattle.std.proofs.lemmas.List.{length-map, get_or-map, drop_all}
@@ -117,7 +117,3 @@ pub none_written : (ns : List (List ℕ)) (ts : List TxnDecl) (ss : List Script)
     → written (drop i ns) (drop i ts) (map program_of (drop i ss)) (drop i rs) ≡ []
 none_written ns ts ss rs i le =
     ap (λ (ms : List (List ℕ)). written ms (drop i ts) (map program_of (drop i ss)) (drop i rs)) (drop_all i ns le)
-
-pub if_ok : {A E : Type 0} (r : Result A E) (P : Type 0) → P → IfOk r (λ v. P)
-if_ok (Ok x) P h = h
-if_ok (Err e) P h = tt

@@ -1,18 +1,21 @@
 -- Runs of computes.
 use Rattle.std.proofs.Common.{◌≡◌, ℕ, zero, suc, ◌+◌, ◌<◌, ◌≤◌, List, [], ◌∷◌, ◌++◌, length, get_or, drop, take, map, subst, true, Some, None, refl, sym, ap, ◌∙◌, add_assoc, zero-add, arith}
-use Rattle.std.proofs.lemmas.List.{append_assoc, map-append, at_drop_more, at_drop_all, take_more, take_all}
+use Rattle.std.proofs.lemmas.List.{append_assoc, append-nil, map-append, at_drop_more, at_drop_all, take_more, take_all}
 use Rattle.std.proofs.lemmas.List.Elements.{All-append}
 use Rattle.scenario_writer.specs.Integers.{OpHasConstants}
 use Rattle.std.proofs.lemmas.Bool.{and_parts}
+use Rattle.std.proofs.lemmas.Bool.Decides.{nat_tests}
 use Rattle.std.specs.List.{All, list_all}
 use Rattle.step_script.specs.declared.script.ScriptOp.{ScriptOp}
 use Rattle.scenario.specs.Scripts.{steps_of}
 use Rattle.step_script.specs.Scripts.{Operation, operation, read, write, compute, commit, quit, is_good, width}
 use Rattle.serde_json.specs.Data.{Data}
-use Rattle.serde_json.specs.View.{view}
-use Rattle.serde_json.specs.declared.value.Value.{Value}
-use Rattle.scenario_writer.specs.Canonical.{op_data, joined, merged_ops}
+use Rattle.json.specs.Token.{begin_array, end_array}
+use Rattle.json.specs.Written.{Written}
+use Rattle.scenario_writer.specs.Canonical.{op_data, joined, merged_ops, script_data}
 use Rattle.scenario_writer.specs.Runs.{computes_of, with_run, run_before, run_data}
+use Rattle.scenario_writer.specs.Sent.{Adds, Sends, SendsItems}
+use Rattle.scenario_writer.proofs.Loops.{Begun, begun, more, done}
 
 -- three runs in a row are joined in either order
 joined_twice : (m n : ℕ) (ops : List Operation) → joined (compute m) (joined (compute n) ops) ≡ joined (compute
@@ -41,6 +44,14 @@ computes_is (compute m) n h = cc
 computes_is commit n h = cc
 computes_is quit n h = cc
 
+-- a good one stands for some
+pub more_computes : (items : ℕ) (op : Operation) (n : ℕ) → Some n ≡ computes_of op → is_good items op ≡ true → 0 < n
+more_computes items (read i) n h good = cc
+more_computes items (write i value) n h good = cc
+more_computes items (compute m) n h good = grind (arith, nat_tests)
+more_computes items commit n h good = cc
+more_computes items quit n h good = cc
+
 -- the operations of a step, before those that follow
 pub run_goes_on : (names : List (List ℕ)) (run n : ℕ) (op : Operation) (ops : List Operation)
     → Some n ≡ computes_of op → 0 < n
@@ -61,28 +72,20 @@ written names (suc run) (compute n) ops is = cc
 written names (suc run) commit ops is = refl
 written names (suc run) quit ops is = refl
 
-pub run_ends : (names : List (List ℕ)) (run : ℕ) (op : Operation) (ops : List Operation) (vs vs' : List Value)
-    (v : Value)
-    → None ≡ computes_of op → map view vs' ≡ map view vs ++ run_data run → view v ≡ op_data names op
-    → map view (vs' ++ v ∷ []) ++ run_before names 0 ops ≡ map view vs ++ run_before names run (op ∷ ops)
-run_ends names run op ops vs vs' v is ended wrote =
-    rw (
-      map-append view vs' (v ∷ []),
-      append_assoc (map view vs') (view v ∷ []) (run_before names 0 ops),
-      ended,
-      wrote,
-      append_assoc (map view vs) (run_data run) (op_data names op ∷ run_before names 0 ops),
-    )
-    (ap (λ (ds : List Data). map view vs ++ ds) (sym (written names run op ops is)))
+-- an operation that ends the run before it
+pub run_ends : (names : List (List ℕ)) (run : ℕ) (op : Operation) (ops : List Operation) → None ≡ computes_of op
+    → run_before names run (op ∷ ops) ≡ (run_data run ++ op_data names op ∷ []) ++ run_before names 0 ops
+run_ends names run op ops is = written names run op ops is
+    ∙ sym (append_assoc (run_data run) (op_data names op ∷ []) (run_before names 0 ops))
 
 -- the last run
 pub last_run : (names : List (List ℕ)) (run : ℕ) → run_before names run [] ≡ run_data run
 last_run names zero = refl
 last_run names (suc run) = refl
 
--- what is written and the run, before the operations that are left
-pub record IsLeft (names : List (List ℕ)) (ops : List ScriptOp) (vs : List Value) (run i : ℕ) : Type 0 where
-  pub same : map view vs ++ run_before names run (map operation (drop i ops)) ≡ run_before names 0 (map operation ops)
+-- what was sent since `old`, and the run, before the operations that are left
+pub record IsLeft (names : List (List ℕ)) (ops : List ScriptOp) (old now : Written) (run i : ℕ) : Type 0 where
+  pub begun : Begun (run_before names 0 (map operation ops)) (run_before names run (map operation (drop i ops))) old now
   pub good : list_all (is_good (length names)) (map operation (drop i ops)) ≡ true
   pub short : run + steps_of (map operation (drop i ops)) ≤ 10000
   pub fits : All OpHasConstants (map operation (take i ops))
@@ -93,16 +96,16 @@ next_op ops i op lt is = at_drop_more (map operation) ops i op lt
     ∙ ap (λ (o : ScriptOp). operation o ∷ map operation (drop (i + 1) ops)) (sym is)
 
 -- the next operation is good and fits
-pub next_good : (names : List (List ℕ)) (ops : List ScriptOp) (vs : List Value) (run i : ℕ) (op : ScriptOp)
+pub next_good : (names : List (List ℕ)) (ops : List ScriptOp) (old now : Written) (run i : ℕ) (op : ScriptOp)
     → i < length ops
-    → op ≡ get_or ops i op → IsLeft names ops vs run i → is_good (length names) (operation op) ≡ true
-next_good names ops vs run i op lt is h = (and_parts _ _ (ap (list_all (is_good (length names)))
+    → op ≡ get_or ops i op → IsLeft names ops old now run i → is_good (length names) (operation op) ≡ true
+next_good names ops old now run i op lt is h = (and_parts _ _ (ap (list_all (is_good (length names)))
     (sym (next_op ops i op lt is)) ∙ h.good)).0
 
-pub next_fits : (names : List (List ℕ)) (ops : List ScriptOp) (vs : List Value) (run i : ℕ) (op : ScriptOp)
+pub next_fits : (names : List (List ℕ)) (ops : List ScriptOp) (old now : Written) (run i : ℕ) (op : ScriptOp)
     → i < length ops
-    → op ≡ get_or ops i op → IsLeft names ops vs run i → run + width (operation op) ≤ 10000
-next_fits names ops vs run i op lt is h =
+    → op ≡ get_or ops i op → IsLeft names ops old now run i → run + width (operation op) ≤ 10000
+next_fits names ops old now run i op lt is h =
     let e : steps_of (map operation (drop i ops)) ≡ width (operation op) + steps_of (map operation (drop (i + 1) ops)) =
     ap steps_of (next_op ops i op lt is) in
     let s : run + steps_of (map operation (drop i ops)) ≤ 10000 = h.short in
@@ -122,46 +125,43 @@ one_more_fits ops i op lt is so_far fits =
     subst (λ (os : List Operation). All OpHasConstants os) (sym e)
     (All-append OpHasConstants (map operation (take i ops)) (operation op ∷ []) so_far (only_one (operation op) fits))
 
-pub next_left : (names : List (List ℕ)) (ops : List ScriptOp) (vs vs' : List Value) (run r i : ℕ) (op : ScriptOp)
-    → i < length ops
-    → op ≡ get_or ops i op → IsLeft names ops vs run i
-    → ((rest : List Operation) → map view vs' ++ run_before names r rest
-    ≡ map view vs ++ run_before names run (operation op ∷ rest)) → r ≤ run + width (operation op)
-    → OpHasConstants (operation op) → IsLeft names ops vs' r (i + 1)
-next_left names ops vs vs' run r i op lt is h goes_on less fits =
+pub next_left : (names : List (List ℕ)) (ops : List ScriptOp) (old now new : Written) (run r i : ℕ) (op : ScriptOp)
+    (ds : List Data) → i < length ops → op ≡ get_or ops i op → IsLeft names ops old now run i → SendsItems ds now new
+    → ((rest : List Operation) → run_before names run (operation op ∷ rest) ≡ ds ++ run_before names r rest)
+    → r ≤ run + width (operation op) → OpHasConstants (operation op) → IsLeft names ops old new r (i + 1)
+next_left names ops old now new run r i op ds lt is h sends goes_on less fits =
     let e : steps_of (map operation (drop i ops)) ≡ width (operation op) + steps_of (map operation (drop (i + 1) ops)) =
     ap steps_of (next_op ops i op lt is) in
     let s : run + steps_of (map operation (drop i ops)) ≤ 10000 = h.short in
     record {
-      same = goes_on (map operation (drop (i + 1) ops))
-          ∙ ap (λ (rest : List Operation). map view vs ++ run_before names run rest) (sym (next_op ops i op lt is))
-          ∙ h.same;
+      begun = more ds _ _ _ old now new (ap (run_before names run) (next_op ops i op lt is)
+          ∙ goes_on (map operation (drop (i + 1) ops))) h.begun sends;
       good = (and_parts _ _ (ap (list_all (is_good (length names))) (sym (next_op ops i op lt is)) ∙ h.good)).1;
       short = omega arith;
       fits = one_more_fits ops i op lt is h.fits fits;
     }
 
-pub first_left : (names : List (List ℕ)) (ops : List ScriptOp)
+pub first_left : (names : List (List ℕ)) (ops : List ScriptOp) (a b : Written)
     → list_all (is_good (length names)) (map operation ops) ≡ true
-    → steps_of (map operation ops) ≤ 10000 → IsLeft names ops [] 0 0
-first_left names ops good short = record {
-  same = refl;
+    → steps_of (map operation ops) ≤ 10000 → Adds (begin_array ∷ []) a b → IsLeft names ops a b 0 0
+first_left names ops a b good short begins = record {
+  begun = begun _ a b begins;
   good = good;
   short = omega arith;
   fits = λ k d lt. absurd
       (omega arith);
 }
 
-pub none_left : (names : List (List ℕ)) (ops : List ScriptOp) (vs vs' : List Value) (run i : ℕ) → length ops ≤ i
-    → IsLeft names ops vs run i → map view vs' ≡ map view vs ++ run_data run
-    → map view vs' ≡ run_before names 0 (map operation ops)
-none_left names ops vs vs' run i le h ended =
-    ended ∙ ap (λ (ds : List Data). map view vs ++ ds) (sym (last_run names run))
-    ∙ ap (λ (rest : List Operation). map view vs ++ run_before names run rest) (sym (at_drop_all
-    (map operation) ops i le))
-    ∙ h.same
+pub none_left : (names : List (List ℕ)) (ops : List ScriptOp) (old now ended closed : Written) (run i : ℕ)
+    → length ops ≤ i → IsLeft names ops old now run i → SendsItems (run_data run) now ended
+    → Adds (end_array ∷ []) ended closed → Sends (script_data names (map operation ops)) old closed
+none_left names ops old now ended closed run i le h sends closes =
+    let left : run_before names run (map operation (drop i ops)) ≡ run_data run ++ [] =
+    ap (run_before names run) (at_drop_all (map operation) ops i le) ∙ last_run names run
+    ∙ sym (append-nil (run_data run)) in
+    done [] _ old ended closed refl (more (run_data run) [] _ _ old now ended left h.begun sends) closes
 
-pub all_fit : (names : List (List ℕ)) (ops : List ScriptOp) (vs : List Value) (run i : ℕ) → length ops ≤ i
-    → IsLeft names ops vs run i → All OpHasConstants (map operation ops)
-all_fit names ops vs run i le h = subst (λ (os : List ScriptOp). All OpHasConstants (map operation os))
+pub all_fit : (names : List (List ℕ)) (ops : List ScriptOp) (old now : Written) (run i : ℕ) → length ops ≤ i
+    → IsLeft names ops old now run i → All OpHasConstants (map operation ops)
+all_fit names ops old now run i le h = subst (λ (os : List ScriptOp). All OpHasConstants (map operation os))
     (take_all i ops le) h.fits

@@ -3,3 +3,4 @@ pub mod Generated
 pub mod Integers
 pub mod Members
 pub mod Runs
+pub mod Sent

@@ -33,28 +33,30 @@ fn period(n: u32) -> u64
 }
 
 // A letter and a number.
-fn numbered(alloc: Global, letter: u8, i: u32) -> Result<Name, OutOfMemory>
+fn numbered(letter: u8, i: u32) -> Name
     requires letter { IsTrue (is_letter letter) }
     requires small { i < 64 }
-    ensures { IfOk result (λ name. name ≡ letter ∷ decimal i) }
+    ensures { result ≡ letter ∷ decimal i }
 {
-    let mut text = Vec::new(alloc);
-    text.push(letter)?;
-    text.extend_from_slice(itoa::Buffer::new().format(i).as_bytes())?;
-    match Name::new(&text) {
-        Some(name) => Ok(name),
+    let mut buffer = itoa::Buffer::new();
+    let digits = buffer.format(i).as_bytes();
+    let end = 1 + digits.len();
+    let mut text = [letter; 3];
+    text[1..end].copy_from_slice(digits);
+    match Name::new(&text[..end]) {
+        Some(name) => name,
         None => unreachable!(),
     }
 }
 
-fn dated_name(alloc: Global, i: u32) -> Result<Name, OutOfMemory>
+fn dated_name(i: u32) -> Name
     requires { i < 64 }
-    ensures { IfOk result (λ name. name ≡ name_of_dated i) }
+    ensures { result ≡ name_of_dated i }
 {
     if is_even(i) {
-        numbered(alloc, b's', i)
+        numbered(b's', i)
     } else {
-        numbered(alloc, b'd', i)
+        numbered(b'd', i)
     }
 }
 
@@ -72,9 +74,9 @@ fn item_names(alloc: Global, n: u32) -> Result<Vec<Name>, OutOfMemory>
     requires { n ≤ 64 }
     ensures { IfOk result (λ names. names.items ≡ each name_of_dated n ++ codes "m" ∷ []) }
 {
-    let mut names = Vec::new(alloc);
+    let mut names = Vec::with_capacity(alloc, n as usize + 1)?;
     for i in 0..n {
-        names.push(dated_name(alloc, i)?)?;
+        names.push(dated_name(i))?;
     }
     names.push(state_name())?;
     Ok(names)
@@ -85,9 +87,9 @@ fn txn_names(alloc: Global, n: u32) -> Result<Vec<Name>, OutOfMemory>
     requires { n ≤ 64 }
     ensures { IfOk result (λ names. names.items ≡ each txn_name n) }
 {
-    let mut names = Vec::new(alloc);
+    let mut names = Vec::with_capacity(alloc, n as usize)?;
     for i in 0..n {
-        names.push(numbered(alloc, b't', i)?)?;
+        names.push(numbered(b't', i))?;
     }
     Ok(names)
 }
@@ -109,7 +111,7 @@ fn items(alloc: Global, n: u32) -> Result<Vec<ItemDecl>, OutOfMemory>
     requires { n ≤ 64 }
     ensures { IfOk result (λ decls. decls.items ≡ each (dated_decl n) n ++ state_item ∷ []) }
 {
-    let mut decls = Vec::new(alloc);
+    let mut decls = Vec::with_capacity(alloc, n as usize + 1)?;
     for i in 0..n {
         decls.push(dated_item(n, i))?;
     }
@@ -163,7 +165,7 @@ fn txns(alloc: Global, n: u32) -> Result<Vec<TxnDecl>, OutOfMemory>
     requires { n ≤ 64 }
     ensures { IfOk result (λ txns. txns.items ≡ each (decl_of_txn n) n) }
 {
-    let mut txns = Vec::new(alloc);
+    let mut txns = Vec::with_capacity(alloc, n as usize)?;
     for i in 0..n {
         txns.push(txn(alloc, n, i)?)?;
     }
@@ -220,7 +222,7 @@ fn scripts(alloc: Global, n: u32) -> Result<Vec<Script>, OutOfMemory>
     ensures made { IfOk result (λ scripts. map program_of scripts.items ≡ each (program n) n) }
     ensures begun { IfOk result (λ scripts. All (λ s. IsTold s 0 []) scripts.items) }
 {
-    let mut scripts = Vec::new(alloc);
+    let mut scripts = Vec::with_capacity(alloc, n as usize)?;
     for i in 0..n {
         scripts.push(script(alloc, n, i)?)?;
     }
@@ -231,7 +233,7 @@ fn scripts(alloc: Global, n: u32) -> Result<Vec<Script>, OutOfMemory>
 fn releases(alloc: Global, n: u32) -> Result<Vec<Releases>, OutOfMemory>
     ensures { IfOk result (λ releases. releases.items ≡ each releases_each n) }
 {
-    let mut releases = Vec::new(alloc);
+    let mut releases = Vec::with_capacity(alloc, n as usize)?;
     for _i in 0..n {
         releases.push(Releases::Jobs(JOBS_EACH))?;
     }

@@ -1,16 +1,18 @@
-//! Items and relative sets as JSON values.
-ghost use Rattle.std.specs.Prelude.{◌≡◌, ◌≤◌, ◌<◌, IfOk, OnOk, codes, map, length};
+//! Items and relative sets in a JSON text.
+ghost use Rattle.std.specs.Prelude.{◌≡◌, ◌<◌, [], ◌∷◌, OnOk, codes, map, length, option_map};
 ghost use Rattle.std.specs.List.{All};
-ghost use Rattle.serde_json.specs.Data.{member, no_members};
-ghost use Rattle.serde_json.specs.View.{view, items_view, members_view};
-ghost use Rattle.scenario_writer.specs.Canonical.{array_of, integer, word as word_data, kind_word as word_of_kind, item_data, items_data, item_words as words_of, set_data};
+ghost use Rattle.item_model.specs.Kinds.{validity_of_kind};
+ghost use Rattle.scenario_writer.specs.Canonical.{array_of, whole, kind_word as word_of_kind, item_data, items_data, item_words as words_of, set_data};
 ghost use Rattle.scenario_writer.specs.Integers.{IsI64};
+ghost use Rattle.scenario_writer.specs.Sent.{Sends, SendsFields, field, optional_field};
 
-use crate::object::{integer_value, item_value, name_value, word};
+use crate::object::{
+    begin_array, begin_object, end_array, end_object, item_name, key, put_integer, put_name,
+    put_whole, put_word,
+};
 use item_model::{ItemDecl, ItemKind};
+use json::Writer;
 use rt_base::{ItemId, Name, OutOfMemory, TogetherDecl};
-use serde_json::{Map, Value};
-use std::alloc::Global;
 
 fn kind_word(kind: ItemKind) -> &'static str
     ensures { result.now ≡ word_of_kind kind }
@@ -22,94 +24,92 @@ fn kind_word(kind: ItemKind) -> &'static str
     }
 }
 
-// Puts the kind, the name and the value into an empty object.
-fn put_declared(
-    members: &mut Map<String, Value>,
-    alloc: Global,
-    name: &Name,
-    decl: &ItemDecl,
-) -> Result<(), OutOfMemory>
-    requires { members_view members.old.entries ≡ no_members }
-    ensures data { OnOk result (members_view members.new.entries
-        ≡ member (codes "kind") (word_data (word_of_kind decl.now.kind))
-        (member (codes "name") (word_data name.now)
-        (member (codes "value") (integer decl.now.initial) no_members))) }
-    ensures fits { OnOk result (IsI64 decl.now.initial) }
+// The validity, which a state item has not.
+fn put_validity(out: &mut Writer, kind: ItemKind) -> Result<(), OutOfMemory>
+    ensures { OnOk result (SendsFields (optional_field (codes "validity") (option_map whole (validity_of_kind kind)))
+        out.old out.new) }
 {
-    let kind = word(alloc, kind_word(decl.kind))?;
-    serde_json::put(members, alloc, "kind", kind)?;
-    let name = name_value(alloc, name)?;
-    serde_json::put(members, alloc, "name", name)?;
-    Ok(serde_json::put(members, alloc, "value", integer_value(decl.initial))?)
+    match kind {
+        ItemKind::Sensor { validity } | ItemKind::Derived { validity } => {
+            put_whole(out, "validity", validity)
+        }
+        ItemKind::State => Ok(()),
+    }
 }
 
-fn item(alloc: Global, name: &Name, decl: &ItemDecl) -> Result<Value, OutOfMemory>
-    ensures data { IfOk result (λ v. view v ≡ item_data name.now decl.now) }
-    ensures fits { IfOk result (λ v. IsI64 decl.now.initial) }
+fn item(out: &mut Writer, name: &Name, decl: &ItemDecl) -> Result<(), OutOfMemory>
+    ensures data { OnOk result (Sends (item_data name.now decl.now) out.old out.new) }
+    ensures fits { OnOk result (IsI64 decl.now.initial) }
 {
-    let mut members = Map::new(alloc);
-    put_declared(&mut members, alloc, name, decl)?;
-    match decl.kind {
-        ItemKind::Sensor { validity } | ItemKind::Derived { validity } => {
-            serde_json::put(&mut members, alloc, "validity", Value::from(validity))?;
-        }
-        ItemKind::State => {}
-    }
-    Ok(Value::Object(members))
+    begin_object(out)?;
+    put_word(out, "kind", kind_word(decl.kind))?;
+    put_name(out, "name", name)?;
+    put_validity(out, decl.kind)?;
+    put_integer(out, "value", decl.initial)?;
+    end_object(out)
 }
 
 /// The items with their names.
-pub(crate) fn items(alloc: Global, names: &[Name], decls: &[ItemDecl]) -> Result<Value, OutOfMemory>
+pub(crate) fn items(out: &mut Writer, names: &[Name], decls: &[ItemDecl]) -> Result<(), OutOfMemory>
     requires { length names.now ≡ length decls.now }
-    ensures data { IfOk result (λ v. view v ≡ array_of (items_data names.now decls.now)) }
-    ensures fits { IfOk result (λ v. All (λ d. IsI64 d.initial) decls.now) }
+    ensures data { OnOk result (Sends (array_of (items_data names.now decls.now)) out.old out.new) }
+    ensures fits { OnOk result (All (λ d. IsI64 d.initial) decls.now) }
 {
-    let mut values = Vec::new(alloc);
+    begin_array(out)?;
     for i in 0..decls.len() {
-        values.push(item(alloc, &names[i], &decls[i])?)?;
+        item(out, &names[i], &decls[i])?;
     }
-    Ok(Value::Array(values))
+    end_array(out)
 }
 
-/// Items by their names.
-pub(crate) fn item_words(
-    alloc: Global,
+// Items by their names.
+fn item_words(out: &mut Writer, names: &[Name], items: &[ItemId]) -> Result<(), OutOfMemory>
+    requires { All (λ i. i.0 < length names.now) items.now }
+    ensures { OnOk result (Sends (words_of names.now items.now) out.old out.new) }
+{
+    begin_array(out)?;
+    for item in items {
+        item_name(out, names, *item)?;
+    }
+    end_array(out)
+}
+
+/// A member that is a list of items, by their names.
+pub(crate) fn put_items(
+    out: &mut Writer,
+    label: &str,
     names: &[Name],
     items: &[ItemId],
-) -> Result<Value, OutOfMemory>
+) -> Result<(), OutOfMemory>
     requires { All (λ i. i.0 < length names.now) items.now }
-    ensures { IfOk result (λ v. view v ≡ words_of names.now items.now) }
+    ensures { OnOk result (SendsFields (field label.now (words_of names.now items.now) ∷ []) out.old out.new) }
 {
-    let mut values = Vec::new(alloc);
-    for item in items {
-        values.push(item_value(alloc, names, *item)?)?;
-    }
-    Ok(Value::Array(values))
+    key(out, label)?;
+    item_words(out, names, items)
 }
 
-fn set(alloc: Global, names: &[Name], set: &TogetherDecl) -> Result<Value, OutOfMemory>
+fn set(out: &mut Writer, names: &[Name], set: &TogetherDecl) -> Result<(), OutOfMemory>
     requires { All (λ i. i.0 < length names.now) set.now.items }
-    ensures { IfOk result (λ v. view v ≡ set_data names.now set.now) }
+    ensures { OnOk result (Sends (set_data names.now set.now) out.old out.new) }
 {
-    let mut members = Map::new(alloc);
-    let items = item_words(alloc, names, set.items.as_slice())?;
-    serde_json::put(&mut members, alloc, "items", items)?;
-    serde_json::put(&mut members, alloc, "within", Value::from(set.within))?;
-    Ok(Value::Object(members))
+    begin_object(out)?;
+    put_items(out, "items", names, set.items.as_slice())?;
+    put_whole(out, "within", set.within)?;
+    end_object(out)
 }
 
 /// The relative sets.
 pub(crate) fn sets(
-    alloc: Global,
+    out: &mut Writer,
     names: &[Name],
     sets: &[TogetherDecl],
-) -> Result<Value, OutOfMemory>
+) -> Result<(), OutOfMemory>
     requires { All (λ g. All (λ i. i.0 < length names.now) g.items) sets.now }
-    ensures { IfOk result (λ v. view v ≡ array_of (map (set_data names.now) sets.now)) }
+    ensures { OnOk result (Sends (array_of (map (set_data names.now) sets.now)) out.old out.new) }
 {
-    let mut values = Vec::new(alloc);
+    begin_array(out)?;
     for one in sets {
-        values.push(set(alloc, names, one)?)?;
+        set(out, names, one)?;
     }
-    Ok(Value::Array(values))
+    end_array(out)
 }

@@ -1,12 +1,12 @@
-use Rattle.std.proofs.Common.{◌≡◌, ◌++◌, map, drop, take}
+use Rattle.std.proofs.Common.{drop, take}
 use Rattle.std.specs.List.{All}
-use Rattle.serde_json.specs.View.{view}
 use Rattle.scenario_writer.specs.Canonical.{items_data}
 use Rattle.scenario_writer.specs.Integers.{IsI64}
+use Rattle.scenario_writer.proofs.Loops.{Begun}
 use Rattle.scenario_writer.proofs.items.items.Given as goal
 
 abbrev pub invariant-loop-i : goal.invariant-loop-i
 invariant-loop-i l = record {
-  same : map view l.values.items ++ items_data (drop l.i l.names) (drop l.i l.decls) ≡ items_data l.names l.decls;
+  begun : Begun (items_data l.names l.decls) (items_data (drop l.i l.names) (drop l.i l.decls)) l.fn.out l.out;
   fits : All (λ d. IsI64 d.initial) (take l.i l.decls);
 }

@@ -1,15 +1,15 @@
-use Rattle.std.proofs.Common.{ap, ◌∙◌}
-use Rattle.serde_json.proofs.Views.{view-Array}
-use Rattle.scenario_writer.specs.Canonical.{set_data, array_of}
-use Rattle.scenario_writer.proofs.Loops.{more_mapped, all_mapped}
+use Rattle.std.proofs.lemmas.Result.{on_ok_weaker}
+use Rattle.scenario_writer.specs.Canonical.{set_data}
+use Rattle.scenario_writer.proofs.Loops.{begun, more_mapped, all_mapped}
 use Rattle.scenario_writer.proofs.items.sets.Goals as goal
 
+pub loop-one-init : goal.loop-one-init
+loop-one-init c = begun _ _ _ c.in_ok-begin_array.ensures
+
 pub loop-one-preserved : goal.loop-one-preserved
-loop-one-preserved c = rw (c.in_ok-push.ensures.items) (more_mapped (set_data c.args.names.now) c.args.sets.now
-    c.loop-one.one-index c.one-item.result c.loop-one.values.items _ _ c.loop-one-test.true c.one-item.is
-    c.in_ok-set.ensures c.loop-one.invariant)
+loop-one-preserved c = more_mapped (set_data c.args.names.now) c.args.sets.now c.loop-one.one-index c.one-item.result
+    _ _ _ _ c.loop-one-test.true c.one-item.is c.loop-one.invariant c.in_ok-set.ensures
 
 pub returns : goal.returns
-returns c = view-Array c.loop-one.values ∙ ap array_of
-    (all_mapped (set_data c.args.names.now) c.args.sets.now c.loop-one.one-index
-    c.loop-one.values.items _ c.loop-one-test.false c.loop-one.invariant)
+returns c = on_ok_weaker c.end_array.result (all_mapped (set_data c.args.names.now) c.args.sets.now c.loop-one.one-index
+    _ _ _ _ c.loop-one-test.false c.loop-one.invariant) c.end_array.ensures

@@ -1,20 +1,20 @@
-use Rattle.std.proofs.Common.{◌≤◌, Some, ap, sym, ◌∙◌, subst, arith}
-use Rattle.serde_json.specs.Data.{Data, depth}
-use Rattle.serde_json.specs.Written.{has_float, compact_text}
+use Rattle.std.proofs.Common.{◌≤◌, ◌∙◌, arith}
+use Rattle.serde_json.specs.Data.{depth}
 use Rattle.scenario.specs.Shown.{shown}
 use Rattle.scenario_writer.specs.Canonical.{canonical}
 use Rattle.scenario_writer.proofs.Plain.{canonical_plain}
+use Rattle.scenario_writer.proofs.Sending.{text_sent, read_sent}
 use Rattle.scenario_writer.proofs.text.write_scenario.Goals as goal
 
 pub returns-clause-text : goal.returns-clause-text
-returns-clause-text c =
-    let p = canonical_plain (shown c.args.scenario.now) c.requires in
-    c.in_ok-text.ensures.text (ap has_float c.in_ok-value.ensures.data ∙ p.no_float)
-    ∙ ap compact_text c.in_ok-value.ensures.data
+returns-clause-text c = text_sent (canonical (shown c.args.scenario.now)) c.new-out.result c.root.new.out
+    c.into_inner.result.items (c.new-out.ensures.before ∙ c.in_ok-with_capacity.ensures.items) c.new-out.ensures.tokens
+    c.in_ok-root.ensures.data c.into_inner.ensures.items
 
 pub returns-clause-reads_back : goal.returns-clause-reads_back
 returns-clause-reads_back c =
     let p = canonical_plain (shown c.args.scenario.now) c.requires in
     let low : depth (canonical (shown c.args.scenario.now)) ≤ 69 = p.low in
-    c.in_ok-text.ensures.reads_back (subst (λ (d : Data). depth d ≤ 127) (sym c.in_ok-value.ensures.data) (omega arith))
-    ∙ ap Some c.in_ok-value.ensures.data
+    read_sent (canonical (shown c.args.scenario.now)) c.new-out.result c.root.new.out c.into_inner.result.items
+    (c.new-out.ensures.before ∙ c.in_ok-with_capacity.ensures.items) c.new-out.ensures.tokens c.in_ok-root.ensures.data
+    c.into_inner.ensures.items c.into_inner.ensures.reads_back (omega arith)

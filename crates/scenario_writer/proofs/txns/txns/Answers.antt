@@ -1,4 +1,4 @@
-use Rattle.std.proofs.Common.{IfOk, List, map, ap, subst}
+use Rattle.std.proofs.Common.{OnOk, List, map, ap, subst}
 use Rattle.std.specs.List.{All}
 use Rattle.step_script.specs.declared.script.Script.{Script}
 use Rattle.step_script.specs.Scripts.{program_of}
@@ -7,12 +7,11 @@ use Rattle.scenario_writer.specs.Integers.{ProgramHasIntegers}
 use Rattle.scenario_writer.proofs.Ranges.{writable_as}
 use Rattle.scenario_writer.proofs.txns.txns.Goals as goal
 
-pub txn_values-requires : goal.txn_values-requires
-txn_values-requires c = writable_as (shown c.args.scenario.now) c.requires _ _ _ _ _ c.as_slice-names.ensures
+pub txn_list-requires : goal.txn_list-requires
+txn_list-requires c = writable_as (shown c.args.scenario.now) c.requires _ _ _ _ _ c.as_slice-names.ensures
     c.as_slice-txn_names.ensures
     c.as_slice-decls.ensures (ap (map program_of) c.as_slice-scripts.ensures) c.as_slice-releases.ensures
 
 pub returns-clause-fits : goal.returns-clause-fits
-returns-clause-fits c = subst (λ (ss : List Script). IfOk c.txn_values.result (λ v. All (λ s. ProgramHasIntegers
-    (program_of s)) ss))
-    c.as_slice-scripts.ensures c.txn_values.ensures.fits
+returns-clause-fits c = subst (λ (ss : List Script). OnOk c.txn_list.result (All (λ s. ProgramHasIntegers (program_of s)) ss))
+    c.as_slice-scripts.ensures c.txn_list.ensures.fits

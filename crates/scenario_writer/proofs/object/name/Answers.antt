@@ -1,5 +1,5 @@
 use Rattle.scenario_writer.proofs.Ascii.{name_text}
-use Rattle.scenario_writer.proofs.object.name_value.Goals as goal
+use Rattle.scenario_writer.proofs.object.name.Goals as goal
 use Rattle.std.proofs.Common.{subst, sym, List, ℕ}
 use Rattle.std.specs.Str.{IsUtf8}
 
