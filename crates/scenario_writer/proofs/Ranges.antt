@@ -11,7 +11,7 @@ use Rattle.scenario.specs.Scripts.{steps_of, is_long}
 use Rattle.scenario.specs.Scenarios.{IsScenario}
 use Rattle.scenario.specs.declared.releases.Releases.{Releases}
 use Rattle.scenario_writer.specs.Canonical.{written}
-use Rattle.scenario_writer.specs.Members.{AreWritable}
+use Rattle.scenario_writer.specs.Writable.{AreWritable}
 use Rattle.scenario_writer.proofs.Loops.{next}
 
 passes : (q : Program → Bool) (b : Bool) (n : ℕ) (ps : List Program) → suc (length ps) ≤ cond b (1 + n) 0

@@ -1,6 +1,6 @@
 pub mod Canonical
 pub mod Generated
 pub mod Integers
-pub mod Members
+pub mod Writable
 pub mod Runs
 pub mod Sent

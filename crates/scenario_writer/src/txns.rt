@@ -7,7 +7,7 @@ ghost use Rattle.scenario.specs.Shown.{shown};
 ghost use Rattle.scenario.specs.Scenarios.{IsScenario};
 ghost use Rattle.scenario_writer.specs.Canonical.{whole as whole_data, integer as integer_data, array_of, ticks_data, jobs_data, eager_data, quiet_data, script_data, txn_data, written, txns_in};
 ghost use Rattle.scenario_writer.specs.Integers.{IsI64, OpHasConstants, ProgramHasIntegers};
-ghost use Rattle.scenario_writer.specs.Members.{AreWritable};
+ghost use Rattle.scenario_writer.specs.Writable.{AreWritable};
 ghost use Rattle.scenario_writer.specs.Sent.{Sends, SendsFields, field, optional_field, head_fields, number_fields, list_fields};
 
 use crate::items::put_items;
