@@ -33,6 +33,7 @@ fn names(items: &[ItemId], item: ItemId) -> bool
 }
 
 /// Why an access is refused: to an item that is not declared, or before the quiet steps are used.
+#[inline(always)]
 fn access(declared: &[ItemId], item: ItemId, quiet: u64, used: u64) -> Option<StepReply>
     requires { AllPairs (λ a b. a.0 < b.0) declared.now }
     ensures { result ≡ access_by declared.now item quiet used }

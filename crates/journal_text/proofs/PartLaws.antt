@@ -336,3 +336,7 @@ over_committed names bs e =
       given_again (codes "end"),
       field_again (codes "committed") [] (lacks_test 32 (codes "committed") refl) tt,
     ) refl
+
+pub end_committed : (names : Names) (bs rest : List ℕ) → bs ≡ codes " committed" ++ rest → Ends rest → end_of names bs ≡ Some (end.Committed, rest)
+unfolding end_of end_form
+end_committed names bs rest is ends = rw (is, field_again (codes "committed") rest (lacks_test 32 (codes "committed") refl) ends) refl

@@ -1,7 +1,7 @@
 //! Numbers that come again from line to line.
-ghost use Rattle.std.specs.Prelude.{◌≡◌, ◌+◌, ◌<◌, ◌≤◌, ◌++◌, length, decimal, vec_len, vec_capacity};
+ghost use Rattle.std.specs.Prelude.{◌≡◌, ◌+◌, ◌^◌, ◌<◌, ◌≤◌, ◌++◌, length, decimal, vec_len, vec_capacity};
 ghost use Rattle.line_fields.specs.Cuts.{field};
-ghost use Rattle.line_fields.specs.Ids.{job_text};
+ghost use Rattle.line_fields.specs.Ids.{job_text, IsJob};
 
 use line_fields::{Numeral, put_name};
 use rt_base::{JobId, Name, Tick};
@@ -33,6 +33,7 @@ impl Numerals {
     pub(crate) fn put_tick(&mut self, into: &mut Vec<u8>, tick: Tick)
         requires { vec_len into.old + 33 ≤ vec_capacity into.old }
         ensures items { into.new.items ≡ into.old.items ++ field (decimal tick) }
+        ensures fits { tick < 2 ^ 64 }
         ensures len { vec_len into.new ≤ vec_len into.old + 21 }
         ensures room { vec_capacity into.old ≤ vec_capacity into.new }
     {
@@ -48,6 +49,7 @@ impl Numerals {
         requires known { job.tx.0 < length txns.now }
         requires room { vec_len into.old + 66 ≤ vec_capacity into.old }
         ensures items { into.new.items ≡ into.old.items ++ field (job_text txns.now job) }
+        ensures line { IsJob txns.now job }
         ensures len { vec_len into.new ≤ vec_len into.old + 44 }
         ensures room { vec_capacity into.old ≤ vec_capacity into.new }
     {

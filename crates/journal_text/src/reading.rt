@@ -74,13 +74,27 @@ fn op_after<'a>(names: &NameTables, word: &[u8], rest: &'a [u8]) -> Option<(Op, 
     }
 }
 
-#[inline(always)]
+#[inline(never)]
 #[tactic(auto, unfolding(crate::specs::Reading::op_of))]
-fn op<'a>(names: &NameTables, rest: &'a [u8]) -> Option<(Op, &'a [u8])>
+fn any_op<'a>(names: &NameTables, rest: &'a [u8]) -> Option<(Op, &'a [u8])>
     ensures { option_map (λ p. (p.0, p.1.now)) result ≡ op_of names.now rest.now }
 {
     let (word, rest) = field(rest)?;
     op_after(names, word, rest)
+}
+
+// The operations that take a lock are looked for first.
+#[inline(always)]
+fn op<'a>(names: &NameTables, rest: &'a [u8]) -> Option<(Op, &'a [u8])>
+    ensures { option_map (λ p. (p.0, p.1.now)) result ≡ op_of names.now rest.now }
+{
+    if let Some(rest) = after(b" write", rest) {
+        return write(names, rest);
+    }
+    if let Some(rest) = after(b" read", rest) {
+        return read(names, rest);
+    }
+    any_op(names, rest)
 }
 
 #[tactic(auto, unfolding(crate::specs::Reading::stamp_of))]
@@ -178,13 +192,24 @@ fn end_after<'a>(names: &NameTables, word: &[u8], rest: &'a [u8]) -> Option<(End
     }
 }
 
-/// The end that the next fields are.
+#[inline(never)]
 #[tactic(auto, unfolding(crate::specs::Reading::end_of))]
-pub fn next_end<'a>(names: &NameTables, rest: &'a [u8]) -> Option<(End, &'a [u8])>
+fn any_end<'a>(names: &NameTables, rest: &'a [u8]) -> Option<(End, &'a [u8])>
     ensures { option_map (λ p. (p.0, p.1.now)) result ≡ end_of names.now rest.now }
 {
     let (word, rest) = field(rest)?;
     end_after(names, word, rest)
+}
+
+/// The end that the next fields are.
+#[inline(always)]
+pub fn next_end<'a>(names: &NameTables, rest: &'a [u8]) -> Option<(End, &'a [u8])>
+    ensures { option_map (λ p. (p.0, p.1.now)) result ≡ end_of names.now rest.now }
+{
+    if let Some(rest) = after(b" committed", rest) {
+        return Some((End::Committed, rest));
+    }
+    any_end(names, rest)
 }
 
 #[inline(never)]
@@ -253,7 +278,7 @@ fn answered_write<'a>(names: &NameTables, rest: &'a [u8]) -> Option<((Op, Outcom
 fn any_answered<'a>(names: &NameTables, rest: &'a [u8]) -> Option<((Op, Outcome), &'a [u8])>
     ensures { option_map (λ p. (p.0, p.1.now)) result ≡ answers_of (op_of names.now rest.now) }
 {
-    let (op, rest) = op(names, rest)?;
+    let (op, rest) = any_op(names, rest)?;
     let (outcome, rest) = outcome(op, rest)?;
     Some(((op, outcome), rest))
 }

@@ -115,11 +115,11 @@ fn put_over(into: &mut Vec<u8>, names: &Names, over: Option<End>)
 }
 
 #[inline(always)]
-fn put_entry(into: &mut Vec<u8>, names: &Names, entry: Entry, numerals: &mut Numerals)
-    requires known { IsWritable names.now entry }
+fn put_entry(into: &mut Vec<u8>, names: &Names, entry: &Entry, numerals: &mut Numerals)
+    requires known { IsWritable names.now entry.now }
     requires room { vec_len into.old + 255 ≤ vec_capacity into.old }
-    ensures items { into.new.items ≡ into.old.items ++ entry_line names.now entry }
-    ensures line { HasLine names.now entry }
+    ensures items { into.new.items ≡ into.old.items ++ entry_line names.now entry.now }
+    ensures line { HasLine names.now entry.now }
     ensures len { vec_len into.new ≤ vec_len into.old + 254 }
     ensures room { vec_capacity into.old ≤ vec_capacity into.new }
 {
@@ -127,7 +127,7 @@ fn put_entry(into: &mut Vec<u8>, names: &Names, entry: Entry, numerals: &mut Num
         Entry::Planned { tx, tick } => {
             put(into, b"plan");
             put_name(into, names.txns.as_slice(), tx.0);
-            put_unsigned(into, tick);
+            put_unsigned(into, *tick);
         }
         Entry::Step {
             job,
@@ -137,11 +137,11 @@ fn put_entry(into: &mut Vec<u8>, names: &Names, entry: Entry, numerals: &mut Num
             tick,
         } => {
             put(into, b"step");
-            numerals.put_job(into, names.txns.as_slice(), job);
-            numerals.put_tick(into, tick);
-            put_op(into, names, op);
-            put_outcome(into, outcome);
-            put_over(into, names, over);
+            numerals.put_job(into, names.txns.as_slice(), *job);
+            numerals.put_tick(into, *tick);
+            put_op(into, names, *op);
+            put_outcome(into, *outcome);
+            put_over(into, names, *over);
         }
         Entry::Blocked {
             job,
@@ -151,23 +151,24 @@ fn put_entry(into: &mut Vec<u8>, names: &Names, entry: Entry, numerals: &mut Num
             tick,
         } => {
             put(into, b"block");
-            numerals.put_job(into, names.txns.as_slice(), job);
-            numerals.put_tick(into, tick);
-            put_op(into, names, op);
+            numerals.put_job(into, names.txns.as_slice(), *job);
+            numerals.put_tick(into, *tick);
+            put_op(into, names, *op);
             put(into, b" by");
-            numerals.put_job(into, names.txns.as_slice(), by);
-            put_short(into, ceiling);
+            numerals.put_job(into, names.txns.as_slice(), *by);
+            put_short(into, *ceiling);
         }
         Entry::Idle { from, to } => {
             put(into, b"idle");
-            put_unsigned(into, from);
-            put_unsigned(into, to);
+            put_unsigned(into, *from);
+            put_unsigned(into, *to);
         }
     }
 }
 
 /// Adds the line of an entry, with its line end: at most 256 bytes. It takes no memory. The line is that of this entry
 /// alone (`lines_both_ways`). Digits that are those of an earlier line are taken from `numerals`.
+#[inline(never)]
 pub fn write_entry(names: &Names, entry: &Entry, numerals: &mut Numerals, into: &mut Vec<u8>)
     requires known { IsWritable names.now entry.now }
     requires room { vec_len into.old + 256 ≤ vec_capacity into.old }
@@ -179,7 +180,7 @@ pub fn write_entry(names: &Names, entry: &Entry, numerals: &mut Numerals, into: 
     // A list of its own stays in registers while the pieces are added.
     let alloc = *into.allocator();
     let mut line = mem::replace(into, Vec::new(alloc));
-    put_entry(&mut line, names, *entry, numerals);
+    put_entry(&mut line, names, entry, numerals);
     line.push_reserved(b'\n');
     *into = line;
 }

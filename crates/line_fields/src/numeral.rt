@@ -43,7 +43,6 @@ impl Copy for Numeral {}
 
 impl Numeral {
     /// The numeral of a number.
-    #[inline(never)]
     pub fn of(number: u64) -> Numeral
         ensures { result ≡ number }
     {
@@ -72,8 +71,16 @@ impl Numeral {
             self.digits[last] += 1;
             self.number = number;
         } else {
-            *self = Numeral::of(number);
+            self.make(number);
         }
+    }
+
+    // Apart, so that nothing of it is made where the digits are there.
+    #[inline(never)]
+    fn make(&mut self, number: u64)
+        ensures { self.new ≡ number }
+    {
+        *self = Numeral::of(number);
     }
 
     /// Adds the digits to text: all places by one copy, of which those after the digits are taken off again.

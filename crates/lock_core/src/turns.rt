@@ -150,6 +150,25 @@ fn compute(
     asked(set, journal, tables, job, Op::Compute)
 }
 
+// The same of the others.
+#[inline(never)]
+fn other(
+    set: &CompiledSet,
+    journal: &mut Journal,
+    tables: &mut CoreTables,
+    job: JobId,
+    op: Op,
+) -> StepReply
+    requires in_set { job.tx.0 < length set.now.txns }
+    requires core { IsCore (core_of set.now journal.old tables.old) }
+    ensures fixed { (journal.new.room ≡ journal.old.room) × (journal.new.first ≡ journal.old.first) }
+    ensures answer { (story : List Noted) → Stands (core_of set.now journal.old tables.old) story → result ≡ step_answer set.now story (length journal.old.kept) journal.old.room job op }
+    ensures turn { (story : List Noted) → Stands (core_of set.now journal.old tables.old) story → IsTurn (core_of set.now journal.old tables.old) (core_of set.now journal.new tables.new) story (ask job op) (step_entry (now_of set.now story) job op result) }
+    ensures refused { IsRefusal result → (journal.new ≡ journal.old) × (tables.new ≡ tables.old) }
+{
+    asked(set, journal, tables, job, op)
+}
+
 /// A job asks for an operation.
 #[inline(always)]
 pub fn step(
@@ -168,7 +187,7 @@ pub fn step(
 {
     match op {
         Op::Compute => compute(set, journal, tables, job),
-        _ => asked(set, journal, tables, job, op),
+        _ => other(set, journal, tables, job, op),
     }
 }
 

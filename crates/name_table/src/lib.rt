@@ -222,6 +222,7 @@ impl NameTables {
     }
 
     /// The number of an item's name, by one comparison or one look-up in a hash map; None exactly where no item has it.
+    #[inline(always)]
     pub fn item(&self, name: &[u8]) -> Option<u32>
         ensures at { result ≡ place_in self.now.items name.now }
         ensures below { IfSome result (λ i. i < length self.now.items) }
@@ -230,6 +231,7 @@ impl NameTables {
     }
 
     /// The number of a transaction's name, by one comparison or one look-up in a hash map; None exactly where no transaction has it.
+    #[inline(always)]
     pub fn txn(&self, name: &[u8]) -> Option<u32>
         ensures at { result ≡ place_in self.now.txns name.now }
         ensures below { IfSome result (λ i. i < length self.now.txns) }

@@ -38,6 +38,7 @@ pub fn running_tx<L: Ledger>(ranks: RankSet, waits: &Waits, blank: Blank) -> Opt
 }
 
 /// Why a transaction gets no new lock.
+#[inline(always)]
 pub fn refused<L: Ledger>(held: &Held, tx: TxId, blank: Blank) -> Option<Above>
     requires name { blank.name ≡ L.name }
     requires parts { blank.parts ≡ L.parts }

@@ -105,11 +105,11 @@ fn may_be_over(second: bool, over: Option<End>) -> bool
     }
 }
 
-fn may_be(second: bool, entry: Entry) -> bool
-    ensures { result ≡ entry_allowed second entry }
+fn may_be(second: bool, entry: &Entry) -> bool
+    ensures { result ≡ entry_allowed second entry.now }
 {
     match entry {
-        Entry::Step { over, .. } => may_be_over(second, over),
+        Entry::Step { over, .. } => may_be_over(second, *over),
         Entry::Planned { .. } => true,
         Entry::Blocked { .. } => true,
         Entry::Idle { .. } => true,
@@ -117,14 +117,16 @@ fn may_be(second: bool, entry: Entry) -> bool
 }
 
 /// The entry that a line is in a report of this version; None where it is no entry's line there.
+#[inline(always)]
 #[tactic(auto, unfolding(crate::specs::Forms::entry_form))]
 pub(crate) fn entry_in(second: bool, names: &NameTables, line: &[u8]) -> Option<Entry>
     ensures value { result ≡ entry_form second names.now line.now }
     ensures line { IfSome result (λ e. entry_line names.now e ≡ line.now) }
 {
-    let entry = read_entry(names, line)?;
-    allowed(may_be(second, entry))?;
-    Some(entry)
+    match read_entry(names, line) {
+        Some(entry) if may_be(second, &entry) => Some(entry),
+        _ => None,
+    }
 }
 
 #[tactic(auto, unfolding(crate::specs::Forms::pending_form))]

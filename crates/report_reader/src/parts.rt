@@ -72,9 +72,10 @@ pub(crate) fn add_entries<'a>(
     let mut rest = text;
     let mut n = first;
     while let Some((line, more)) = cut(b'\n', rest) {
+        entries.reserve(1)?;
         match entry_in(second, names, line) {
             None => return Ok((rest, n)),
-            Some(entry) => entries.push(entry)?,
+            Some(entry) => entries.push_reserved(entry),
         }
         rest = more;
         n += 1;

@@ -117,6 +117,7 @@ impl Work {
     /// does and the relative rule fails, by the first relative set in list order that is apart. Both change nothing. Else
     /// the writes are installed with their stamps. A scan of the reads for each declared read and each item of a relative
     /// set, and for each write of a derived item.
+    #[inline(always)]
     pub fn commit(
         &self,
         decls: &[ItemDecl],

@@ -1,4 +1,5 @@
-use Rattle.std.proofs.Common.{◌≡◌, ◌∷◌, [], ◌++◌, rules}
+use Rattle.std.proofs.Common.{◌≡◌, List, ◌∷◌, [], ◌++◌, ap, ◌∙◌, rules}
+use Rattle.step_journal.specs.declared.entry.Entry.{Entry}
 use Rattle.report_reader.specs.Forms.{entry_form}
 use Rattle.report_reader.specs.Document.{lines_of, front}
 use Rattle.report_reader.specs.Placed.{entry_lines}
@@ -8,7 +9,8 @@ use Rattle.report_reader.proofs.parts.add_entries.Goals as goal
 
 pub returns-in-None-clause-entries : goal.returns-in-None-clause-entries
 returns-in-None-clause-entries c =
-    read_stops (entry_form c.args.second c.args.names.now) c.loop-line.entries.items
+    let kept : c.reserve.new.self.items ≡ c.loop-line.entries.items = search rules in
+    kept ∙ read_stops (entry_form c.args.second c.args.names.now) c.loop-line.entries.items
     (c.args.entries.now.items ++ front (entry_form c.args.second c.args.names.now) (lines_of c.args.text.now).0)
     c.loop-line.rest.now c.in-Some.line.now c.in-Some.more.now (search rules) (search rules) c.loop-line.invariant.0
 
@@ -19,7 +21,8 @@ returns-in-None-clause-after c =
 
 pub loop-line-preserved : goal.loop-line-preserved
 loop-line-preserved c =
-    let pushed : c.push.new.self.items ≡ c.loop-line.entries.items ++ c.in-Some-entry_in.entry ∷ [] = search rules in (
+    let kept : c.reserve.new.self.items ≡ c.loop-line.entries.items = search rules in
+    let pushed : c.push_reserved.new.self.items ≡ c.loop-line.entries.items ++ c.in-Some-entry_in.entry ∷ [] = c.push_reserved.ensures.items ∙ ap (λ (es : List Entry). es ++ c.in-Some-entry_in.entry ∷ []) kept in (
       rw pushed (one_more (entry_form c.args.second c.args.names.now) c.loop-line.entries.items
           (c.args.entries.now.items ++ front (entry_form c.args.second c.args.names.now) (lines_of c.args.text.now).0)
           c.loop-line.rest.now c.in-Some.line.now c.in-Some.more.now c.in-Some-entry_in.entry (search rules) (search rules)
