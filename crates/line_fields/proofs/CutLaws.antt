@@ -228,3 +228,36 @@ pub lacks_append : (byte : ℕ) (a b : List ℕ) → Lacks byte a → Lacks byte
 lacks_append byte [] b p q i lt = q i lt
 lacks_append byte (x ∷ a) b p q zero lt = p zero (omega arith)
 lacks_append byte (x ∷ a) b p q (suc i) lt = lacks_append byte a b (λ j h. p (suc j) (omega arith)) q i (omega arith)
+
+-- ---- a word that the next field does not begin with
+
+none_unless : {A : Type 0} (o : Option A) → ((x : A) → o ≡ Some x → ⊥) → o ≡ None
+none_unless None never = refl
+none_unless (Some x) never = absurd (never x refl)
+
+-- a field that is a word begins with it
+word_front : (want bs : List ℕ) (y : Unit {0} × List ℕ) → next (word_is want) bs ≡ Some y
+    → (rest : List ℕ) × (bs ≡ 32 ∷ (want ++ rest))
+unfolding next
+word_front want bs y e =
+    let f = bind_some (field_of bs) (λ f. word_is want f.0 >>= λ a. Some (a, f.1)) y e in
+    let a = bind_some (word_is want f.0.0) (λ a. Some (a, f.0.1)) y f.2 in
+    let t = given_takes want f.0.0 a.0 a.1 in
+    (f.0.1, field_takes bs f.0.0 f.0.1 f.1 ∙ ap (λ (w : List ℕ). 32 ∷ (w ++ f.0.1)) (sym t.1))
+
+pub too_short : (want bs : List ℕ) → length bs < length want + 1 → next (word_is want) bs ≡ None
+too_short want bs few =
+    none_unless (next (word_is want) bs) (λ y e.
+    let f = word_front want bs y e in
+    omega (arith, few, ap length f.1, length-append want f.0))
+
+pub no_blank : (want bs : List ℕ) → (get_or bs 0 0 ≡ 32 → ⊥) → next (word_is want) bs ≡ None
+no_blank want bs other =
+    none_unless (next (word_is want) bs) (λ y e. other (ap (λ (l : List ℕ). get_or l 0 0) (word_front want bs y e).1))
+
+pub other_front : (want bs : List ℕ) → bytes_eq (take (length want) (drop 1 bs)) want ≡ false → next (word_is want) bs ≡ None
+other_front want bs other =
+    none_unless (next (word_is want) bs) (λ y e.
+    let f = word_front want bs y e in
+    let front : take (length want) (drop 1 bs) ≡ want = ap (λ (l : List ℕ). take (length want) (drop 1 l)) f.1 ∙ take_at want f.0 (length want) refl in
+    absurd (cc (other, (bytes_eq-Decides (take (length want) (drop 1 bs)) want).1 front)))

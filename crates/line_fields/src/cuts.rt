@@ -1,5 +1,5 @@
 //! A line is a word, and then fields, each after one blank.
-ghost use Rattle.std.specs.Prelude.{◌≡◌, ◌≤◌, ◌<◌, ◌==◌, length, option_map, position, IfSome};
+ghost use Rattle.std.specs.Prelude.{◌≡◌, ◌≤◌, ◌<◌, ◌==◌, None, false, length, option_map, position, IfSome};
 ghost use Rattle.std.specs.List.{position_or_len};
 ghost use Rattle.std.specs.Str.{bytes_eq};
 ghost use Rattle.line_fields.specs.Cuts.{word_of, field_of, next, word_is, done_of, cut_at};
@@ -104,12 +104,27 @@ fn same(want: &[u8], word: &[u8]) -> Option<()>
     if is_word(want, word) { Some(()) } else { None }
 }
 
+// Whether the next field begins with these bytes. Most fields that are no such word do not.
+#[inline(always)]
+fn begins(want: &[u8], bytes: &[u8]) -> bool
+    ensures { result ≡ false → next (word_is want.now) bytes.now ≡ None }
+{
+    let end = want.len() + 1;
+    if bytes.len() < end || bytes[0] != b' ' {
+        return false;
+    }
+    is_word(want, &bytes[1..end])
+}
+
 /// The rest after a field that is this word; None where the next field is another or there is none.
 #[inline(always)]
 #[tactic(auto, unfolding(crate::specs::Cuts::next))]
 pub fn next_word<'a>(want: &[u8], bytes: &'a [u8]) -> Option<((), &'a [u8])>
     ensures { option_map (λ p. (p.0, p.1.now)) result ≡ next (word_is want.now) bytes.now }
 {
+    if !begins(want, bytes) {
+        return None;
+    }
     let (word, rest) = field(bytes)?;
     let found = same(want, word)?;
     Some((found, rest))

@@ -105,6 +105,8 @@ fn may_be_over(second: bool, over: Option<End>) -> bool
     }
 }
 
+// A call of its own, so that the entry is not taken apart for it.
+#[inline(never)]
 fn may_be(second: bool, entry: &Entry) -> bool
     ensures { result ≡ entry_allowed second entry.now }
 {
