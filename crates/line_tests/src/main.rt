@@ -9,8 +9,8 @@ mod heads;
 use heads::head;
 use journal_text::{Numerals, read_entry, write_entry};
 use line_fields::{
-    Numeral, done, item, job, next_unsigned, next_word, put, put_job, put_name, put_short, put_signed,
-    put_unsigned, short, signed, tx, unsigned, word,
+    Numeral, done, item, job, next_unsigned, next_word, put, put_job, put_name, put_short,
+    put_signed, put_unsigned, short, signed, tx, unsigned, word,
 };
 use name_table::{NameTable, NameTables};
 use rt_base::{JobId, Name, TxId};
