@@ -101,7 +101,7 @@ fn block(
     StepReply::Blocked { by, ceiling }
 }
 
-// A job asks for an operation.
+// A job asks for an operation. Inlined where the operation is known, so that no more than what that one needs is left.
 #[inline(always)]
 fn asked(
     set: &CompiledSet,
@@ -132,44 +132,7 @@ fn asked(
     }
 }
 
-// A job asks for Compute, as in most steps: by itself, so that what other operations need is left out.
-#[inline(never)]
-fn compute(
-    set: &CompiledSet,
-    journal: &mut Journal,
-    tables: &mut CoreTables,
-    job: JobId,
-) -> StepReply
-    requires in_set { job.tx.0 < length set.now.txns }
-    requires core { IsCore (core_of set.now journal.old tables.old) }
-    ensures fixed { (journal.new.room ≡ journal.old.room) × (journal.new.first ≡ journal.old.first) }
-    ensures answer { (story : List Noted) → Stands (core_of set.now journal.old tables.old) story → result ≡ step_answer set.now story (length journal.old.kept) journal.old.room job Op.Compute }
-    ensures turn { (story : List Noted) → Stands (core_of set.now journal.old tables.old) story → IsTurn (core_of set.now journal.old tables.old) (core_of set.now journal.new tables.new) story (ask job Op.Compute) (step_entry (now_of set.now story) job Op.Compute result) }
-    ensures refused { IsRefusal result → (journal.new ≡ journal.old) × (tables.new ≡ tables.old) }
-{
-    asked(set, journal, tables, job, Op::Compute)
-}
-
-// The same of the others.
-#[inline(never)]
-fn other(
-    set: &CompiledSet,
-    journal: &mut Journal,
-    tables: &mut CoreTables,
-    job: JobId,
-    op: Op,
-) -> StepReply
-    requires in_set { job.tx.0 < length set.now.txns }
-    requires core { IsCore (core_of set.now journal.old tables.old) }
-    ensures fixed { (journal.new.room ≡ journal.old.room) × (journal.new.first ≡ journal.old.first) }
-    ensures answer { (story : List Noted) → Stands (core_of set.now journal.old tables.old) story → result ≡ step_answer set.now story (length journal.old.kept) journal.old.room job op }
-    ensures turn { (story : List Noted) → Stands (core_of set.now journal.old tables.old) story → IsTurn (core_of set.now journal.old tables.old) (core_of set.now journal.new tables.new) story (ask job op) (step_entry (now_of set.now story) job op result) }
-    ensures refused { IsRefusal result → (journal.new ≡ journal.old) × (tables.new ≡ tables.old) }
-{
-    asked(set, journal, tables, job, op)
-}
-
-/// A job asks for an operation.
+/// A job asks for an operation. Each has code of its own.
 #[inline(always)]
 pub fn step(
     set: &CompiledSet,
@@ -186,8 +149,11 @@ pub fn step(
     ensures refused { IsRefusal result → (journal.new ≡ journal.old) × (tables.new ≡ tables.old) }
 {
     match op {
-        Op::Compute => compute(set, journal, tables, job),
-        _ => other(set, journal, tables, job, op),
+        Op::Read(item) => asked(set, journal, tables, job, Op::Read(item)),
+        Op::Write(item, value) => asked(set, journal, tables, job, Op::Write(item, value)),
+        Op::Compute => asked(set, journal, tables, job, Op::Compute),
+        Op::Commit => asked(set, journal, tables, job, Op::Commit),
+        Op::Quit => asked(set, journal, tables, job, Op::Quit),
     }
 }
 

@@ -5,13 +5,13 @@
 ghost use Rattle.std.specs.Prelude.{◌≡◌, ◌<◌, ◌≤◌, ◌^◌, length, IfOk, IfErr, MatchResult, Some, None};
 ghost use Rattle.std.specs.List.{All};
 ghost use Rattle.response_test.specs.Response.{HasGoodRanges, demand, response, AreResponses, Tells};
-ghost use Rattle.response_test.specs.Loads.{IsFair, StandsFor};
+ghost use Rattle.response_test.specs.Loads.{StandsFor};
 
 mod windows;
 
 use rt_base::Tick;
 use std::alloc::Global;
-pub use windows::{Load, add_load, least_window};
+pub use windows::Loads;
 
 /// A transaction as the response test sees it: its steps and its blocking in steps, which last a tick each, and its
 /// period and deadline in ticks.
@@ -36,7 +36,7 @@ pub enum ResponseError {
 /// deadline, that is at least the demand of the row, its blocking and the rows before it (Joseph and Pandya 1986, with
 /// the blocking term that later textbooks add). `Unschedulable` comes exactly where a row has none.
 ///
-/// It takes memory twice, a place for each row. Its time is that of `least_window` for each row, over the rows before it.
+/// It takes memory twice, a place for each row. Its time is that of `Loads::least_window` for each row, over the rows before it.
 pub fn responses(alloc: Global, rows: &[RespRow]) -> Result<Vec<Tick>, ResponseError>
     requires few { length rows.now ≤ 64 }
     requires ranges { All HasGoodRanges rows.now }
@@ -46,15 +46,15 @@ pub fn responses(alloc: Global, rows: &[RespRow]) -> Result<Vec<Tick>, ResponseE
     let Ok(mut answers) = Vec::with_capacity(alloc, rows.len()) else {
         return Err(ResponseError::OutOfMemory);
     };
-    let Ok(mut loads) = Vec::with_capacity(alloc, rows.len()) else {
+    let Ok(mut loads) = Loads::new(alloc, rows.len()) else {
         return Err(ResponseError::OutOfMemory);
     };
     for (i, row) in rows.iter().enumerate() {
-        match response_of(&rows[..i], &loads, *row) {
+        match response_of(&rows[..i], &mut loads, *row) {
             Ok(ticks) => answers.push(ticks).unwrap(),
             Err(demand) => return Err(ResponseError::Unschedulable { row: i, demand }),
         }
-        let Ok(()) = add_load(&mut loads, row.steps, row.period) else {
+        let Ok(()) = loads.add(row.steps, row.period) else {
             return Err(ResponseError::OutOfMemory);
         };
     }
@@ -62,18 +62,17 @@ pub fn responses(alloc: Global, rows: &[RespRow]) -> Result<Vec<Tick>, ResponseE
 }
 
 // The response of a row below these, whose loads are given too, or else its demand within its deadline.
-fn response_of(higher: &[RespRow], loads: &[Load], row: RespRow) -> Result<Tick, u64>
+fn response_of(higher: &[RespRow], loads: &mut Loads, row: RespRow) -> Result<Tick, u64>
     requires few { length higher.now < 64 }
     requires ranges { All HasGoodRanges higher.now }
-    requires one_each { length loads.now ≡ length higher.now }
-    requires fair { All IsFair loads.now }
-    requires stands { StandsFor loads.now higher.now }
+    requires stands { StandsFor loads.old higher.now }
     requires row { HasGoodRanges row }
+    ensures loads { loads.new ≡ loads.old }
     ensures ok { IfOk result (λ w. response higher.now row ≡ Some w) }
     ensures none { IfErr result (λ d. response higher.now row ≡ None) }
     ensures err { IfErr result (λ d. d ≡ demand higher.now row row.deadline) }
 {
-    match least_window(loads, row.steps + row.blocking, row.deadline) {
+    match loads.least_window(row.steps + row.blocking, row.deadline) {
         Some(ticks) => Ok(ticks),
         None => Err(demand_of(higher, row, row.deadline)),
     }

@@ -1,11 +1,12 @@
 //! The least window that holds its demand, found with the shares of the processor that higher rows take.
-ghost use Rattle.std.specs.Prelude.{◌≡◌, ℕ, ◌+◌, ◌-◌, ◌*◌, ◌^◌, ◌<◌, ◌≤◌, length, IfOk, OnErr};
+ghost use Rattle.std.specs.Prelude.{◌≡◌, ℕ, ◌+◌, ◌-◌, ◌*◌, ◌^◌, ◌<◌, ◌≤◌, [], length, IfOk, OnErr};
 ghost use Rattle.std.specs.List.{All};
 ghost use Rattle.std.specs.Int.{div_ceil};
-ghost use Rattle.response_test.specs.Loads.{IsFair, IsBound, Serves, uses, shares, window};
+ghost use Rattle.response_test.specs.Loads.{IsFair, IsBelow, IsBound, Serves, uses, shares, window};
 
-use rt_base::Tick;
-use std::alloc::AllocFailed;
+use rt_base::{OutOfMemory, Tick};
+use std::alloc::{AllocFailed, Global};
+use std::marker::Model;
 
 // The parts that the processor is shared in.
 const WHOLE: u64 = 1 << 48;
@@ -42,9 +43,9 @@ fn place_of(loads: &[Load], period: Tick) -> usize
         .unwrap_or(loads.len())
 }
 
-/// Adds the load of a row of these steps and this period, before the first one with a shorter period. Where memory is
-/// refused nothing is added.
-pub fn add_load(loads: &mut Vec<Load>, steps: u64, period: Tick) -> Result<(), AllocFailed<Load>>
+// Adds the load of a row of these steps and this period, before the first one with a shorter period. Where memory is
+// refused nothing is added.
+fn add_load(loads: &mut Vec<Load>, steps: u64, period: Tick) -> Result<(), AllocFailed<Load>>
     requires steps { steps ≤ 10000 }
     requires period { (1 ≤ period) × (period ≤ 2 ^ 30) }
     requires fair { All IsFair loads.now.items }
@@ -143,28 +144,116 @@ fn next_window(loads: &[Load], idle: u64, own: u64, ticks: Tick, deadline: Tick)
     raised(ticks, longest, deadline)
 }
 
-/// The least window, from 1 to `most` ticks, that holds these steps and what the loads use of it; None exactly where
-/// there is none.
-///
-/// It starts from the steps, below which no window fits, and goes on from a window that is too short to one that is at
-/// least as long as its demand, and as long as follows from the shares of the processor that the loads take. Each window
-/// costs a division for each load, and no memory. Where the loads take all of the processor, or leave too little for the
-/// steps, one window tells. No clause bounds the number of windows.
-pub fn least_window(loads: &[Load], own: u64, most: Tick) -> Option<Tick>
+// The least window, from this one on, that holds these steps and what the loads use of it; or else one past `most`.
+//
+// It goes on from a window that is too short to one that is at least as long as its demand, and as long as follows from the
+// shares of the processor that the loads take.
+fn first_window(loads: &[Load], own: u64, from: Tick, most: Tick) -> Tick
     requires few { length loads.now ≤ 64 }
     requires fair { All IsFair loads.now }
     requires own { (1 ≤ own) × (own ≤ 19999) }
+    requires from { IsBelow loads.now own from }
     requires most { most ≤ 2 ^ 30 }
-    ensures { result ≡ window loads.now own most }
+    ensures below { IsBelow loads.now own result }
+    ensures holds { result ≤ most → own + uses result loads.now ≤ result }
 {
     let idle = idle_of(loads);
-    let mut ticks = own;
+    let mut ticks = from;
     while ticks <= most {
         let next = next_window(loads, idle, own, ticks, most);
         if next <= ticks {
-            return Some(ticks);
+            return ticks;
         }
         ticks = next;
     }
-    None
+    ticks
+}
+
+/// The loads of higher rows, which contracts see as their list, in any order; and what is known of windows: none from 1 to
+/// below `from` holds `own` steps and what the loads use of it.
+#[derive(Drop)]
+pub struct Loads {
+    loads: Vec<Load>,
+    own: u64,
+    from: Tick,
+}
+
+impl Model for Loads {
+    ghost use Rattle.std.specs.Prelude.{List};
+    ghost use Rattle.response_test.specs.declared.windows.Load.{Load as Seen};
+    ghost use Rattle.response_test.specs.Loads.{AreLoads};
+
+    ghost Value = { List Seen };
+
+    ghost view = { λ l. l.loads.items };
+
+    ghost invariant = { λ l. AreLoads l.loads.items l.own l.from };
+}
+
+impl Loads {
+    /// No loads, with room for so many.
+    pub fn new(alloc: Global, room: usize) -> Result<Loads, OutOfMemory>
+        ensures { IfOk result (λ l. l ≡ []) }
+    {
+        Ok(Loads {
+            loads: Vec::with_capacity(alloc, room)?,
+            own: 0,
+            from: 1,
+        })
+    }
+
+    /// Adds the load of a row of these steps and this period. Where memory is refused nothing is added.
+    pub fn add(&mut self, steps: u64, period: Tick) -> Result<(), OutOfMemory>
+        requires few { length self.old < 64 }
+        requires steps { steps ≤ 10000 }
+        requires period { (1 ≤ period) × (period ≤ 2 ^ 30) }
+        ensures unchanged { OnErr result (self.new ≡ self.old) }
+        ensures length { IfOk result (λ _. length self.new ≡ length self.old + 1) }
+        ensures uses { IfOk result (λ _. (w : ℕ) → uses w self.new ≡ uses w self.old + div_ceil w period * steps) }
+    {
+        add_load(&mut self.loads, steps, period)?;
+        self.own = self.own.saturating_sub(steps);
+        Ok(())
+    }
+
+    /// The least window, from 1 to `most` ticks, that holds these steps and what the loads use of it; None exactly where
+    /// there is none.
+    ///
+    /// It starts from the window that the last call found or that `start_from` was told, where these steps and those of the
+    /// loads that were added since are no fewer than the steps of that call; else from the steps, below which no window fits.
+    /// Each window costs a division for each load, and no memory. Where the loads take all of the processor, or leave too
+    /// little for the steps, one window tells. No clause bounds the number of windows.
+    pub fn least_window(&mut self, own: u64, most: Tick) -> Option<Tick>
+        requires own { (1 ≤ own) × (own ≤ 19999) }
+        requires most { most ≤ 2 ^ 30 }
+        ensures window { result ≡ window self.old own most }
+        ensures unchanged { self.new ≡ self.old }
+    {
+        let from = self.start(own);
+        let window = first_window(&self.loads, own, from, most);
+        self.own = own;
+        self.from = window;
+        if window <= most { Some(window) } else { None }
+    }
+
+    /// Lets the next search for these steps, or more, start from a window below which none holds them.
+    pub fn start_from(&mut self, own: u64, from: Tick)
+        requires { IsBelow self.old own from }
+        ensures { self.new ≡ self.old }
+    {
+        self.own = own;
+        self.from = from;
+    }
+
+    // The window from which to start for these steps.
+    fn start(&self, own: u64) -> Tick
+        requires { 1 ≤ own }
+        ensures { IsBelow self.now own result }
+    {
+        if self.own <= own {
+            self.from.max(own)
+        } else {
+            own
+        }
+    }
 }

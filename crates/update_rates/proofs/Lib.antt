@@ -4,6 +4,7 @@ pub mod Greatest
 pub mod Tight
 pub mod Ranges
 pub mod Windows
+mod Growing
 pub mod Chosen
 pub mod Retimed
 pub mod Updating

@@ -1,11 +1,10 @@
 -- Counts and sums over the numbers that pass a test, as a loop over the numbers takes them.
-use Rattle.std.proofs.Common.{◌≡◌, ℕ, suc, ◌+◌, ◌-◌, ◌*◌, ◌^◌, ◌<◌, ◌≤◌, Bool, true, false, List, [], ◌∷◌, length, refl, ap, ⊎_elim, arith}
+use Rattle.std.proofs.Common.{◌≡◌, ℕ, suc, ◌+◌, ◌-◌, ◌*◌, ◌^◌, ◌<◌, ◌≤◌, Bool, true, false, List, [], ◌∷◌, length, refl, ap, arith}
 use Rattle.std.specs.List.{filter, range_with_len, sum_by}
 use Rattle.std.specs.Int.{div_ceil}
-use Rattle.std.proofs.Math.Nat.{mul-le-mul, mul-le-mul_left, mul-le-mul_right}
-use Rattle.std.proofs.lemmas.Grind.{div_ceil_times}
-use Rattle.std.proofs.lemmas.Bool.{cases_lt}
+use Rattle.std.proofs.Math.Nat.{mul-le-mul}
 use Rattle.std.proofs.lemmas.List.Sums.{sum_by-cons}
+use Rattle.response_test.proofs.Quotients.{div_ceil-le}
 
 -- the numbers from one on, below an end
 abbrev pub rest_of : ℕ → ℕ → List ℕ
@@ -52,20 +51,7 @@ count-ends p i n place all le e =
     omega (arith, none, e)
 
 -- one term of a load is small
-beginnings-le : (t w : ℕ) → 1 ≤ t → div_ceil w t ≤ w
-beginnings-le t w some =
-    ⊎_elim
-    (λ (less : w < div_ceil w t).
-    let up : w + 1 ≤ div_ceil w t = omega arith in
-    let a : (w + 1) * t ≤ div_ceil w t * t = mul-le-mul_right t up in
-    let b : w * 1 ≤ w * t = mul-le-mul_left w some in
-    let pt : 0 < t = omega arith in
-    let from = div_ceil_times w t pt in
-    absurd (omega (arith, a, b, from.1)))
-    (λ (le : div_ceil w t ≤ w). le)
-    (cases_lt w (div_ceil w t))
-
 pub term-le : (t w steps : ℕ) → 1 ≤ t → w ≤ 2 ^ 30 → steps ≤ 10000 → div_ceil w t * steps ≤ 2 ^ 30 * 10000
 term-le t w steps some few low =
-    let a : div_ceil w t ≤ 2 ^ 30 = omega (arith, beginnings-le t w some) in
+    let a : div_ceil w t ≤ 2 ^ 30 = omega (arith, div_ceil-le t w some) in
     mul-le-mul a low

@@ -1,14 +1,13 @@
 //! The deadline of an updater, from the rates of the earlier ones.
 ghost use Rattle.std.specs.Prelude.{◌≡◌, ◌<◌, ◌≤◌, ◌^◌, length, Some, None, IfOk, IfErr};
-ghost use Rattle.response_test.specs.Loads.{IsFair};
 ghost use Rattle.std.specs.List.{All};
 ghost use Rattle.update_rates.specs.Rates.{load, cap, longest, deadline, period};
-ghost use Rattle.update_rates.specs.Turns.{HasFewSteps, AreRatedBefore, StandForEarlier};
+ghost use Rattle.update_rates.specs.Turns.{HasFewSteps, AreRatedBefore, IsTooShort, StandForEarlier};
 
 use crate::order::is_earlier;
 use crate::rates::Rate;
 use crate::updaters::Updater;
-use response_test::{Load, add_load, least_window};
+use response_test::Loads;
 use rt_base::{OutOfMemory, Tick};
 use std::alloc::Global;
 
@@ -33,51 +32,51 @@ fn load_of(updaters: &[Updater], rates: &[Rate], tx: usize, ticks: Tick) -> u64
     total
 }
 
-/// The loads of the updaters that come before the one at `tx`. It takes memory once, a place for each updater.
+/// The loads of the updaters that come before the one at `tx`, of which no window below `from` holds its load. It takes
+/// memory once, a place for each updater.
 pub fn earlier_loads(
     alloc: Global,
     updaters: &[Updater],
     rates: &[Rate],
     tx: usize,
-) -> Result<Vec<Load>, OutOfMemory>
+    from: Tick,
+) -> Result<Loads, OutOfMemory>
     requires few { length updaters.now ≤ 64 }
     requires steps { All HasFewSteps updaters.now }
     requires rates { AreRatedBefore updaters.now rates.now tx }
     requires tx { tx < length updaters.now }
-    ensures few { IfOk result (λ loads. length loads.items ≤ 64) }
-    ensures fair { IfOk result (λ loads. All IsFair loads.items) }
-    ensures stand { IfOk result (λ loads. StandForEarlier updaters.now tx loads.items) }
+    requires from { IsTooShort updaters.now tx from }
+    ensures stand { IfOk result (StandForEarlier updaters.now tx) }
 {
-    let mut loads = Vec::with_capacity(alloc, updaters.len())?;
+    let mut loads = Loads::new(alloc, updaters.len())?;
     for other in 0..updaters.len() {
         if is_earlier(updaters, other, tx) {
-            add_load(&mut loads, updaters[other].steps, rates[other].period)?;
+            loads.add(updaters[other].steps, rates[other].period)?;
         }
     }
+    loads.start_from(updaters[tx].steps, from);
     Ok(loads)
 }
 
 /// The least window up to the cap that holds the load of the updater at `tx`, given the loads of the earlier ones; or else
-/// the load of the cap. Its time is that of `least_window`.
+/// the load of the cap. Its time is that of `Loads::least_window`.
 pub fn deadline_of(
     updaters: &[Updater],
     rates: &[Rate],
-    loads: &[Load],
+    loads: &mut Loads,
     tx: usize,
 ) -> Result<Tick, u64>
     requires few { length updaters.now ≤ 64 }
     requires steps { All HasFewSteps updaters.now }
     requires rates { AreRatedBefore updaters.now rates.now tx }
     requires tx { tx < length updaters.now }
-    requires few_loads { length loads.now ≤ 64 }
-    requires fair { All IsFair loads.now }
-    requires stand { StandForEarlier updaters.now tx loads.now }
+    requires stand { StandForEarlier updaters.now tx loads.old }
     ensures found { IfOk result (λ d. deadline updaters.now tx ≡ Some d) }
     ensures none { IfErr result (λ e. deadline updaters.now tx ≡ None) }
     ensures demand { IfErr result (λ e. e ≡ load updaters.now (period updaters.now) tx (cap updaters.now tx)) }
 {
     let most = (updaters[tx].validity / 2).min(LONGEST);
-    match least_window(loads, updaters[tx].steps, most) {
+    match loads.least_window(updaters[tx].steps, most) {
         Some(ticks) => Ok(ticks),
         None => Err(load_of(updaters, rates, tx, most)),
     }

@@ -19,8 +19,9 @@ pub struct Rate {
     pub deadline: Tick,
 }
 
-/// The rates of updaters, in list order, or the first by rising validity that has no deadline. It takes memory for them, and
-/// for each updater for the loads of the earlier ones.
+/// The rates of updaters, in list order, or the first by rising validity that has no deadline. No deadline is less than that of
+/// an earlier updater, so the search for it starts there. It takes memory for them, and for each updater for the loads of the
+/// earlier ones.
 pub fn rates_of(alloc: Global, updaters: &[Updater]) -> Result<Vec<Rate>, RateError>
     requires few { length updaters.now ≤ 64 }
     requires steps { All HasFewSteps updaters.now }
@@ -35,10 +36,12 @@ pub fn rates_of(alloc: Global, updaters: &[Updater]) -> Result<Vec<Rate>, RateEr
         deadline: 0,
     };
     let mut rates = vec![in alloc; none; updaters.len()]?;
+    let mut from = 1;
     for turn in &turns {
-        let loads = earlier_loads(alloc, updaters, &rates, turn.tx)?;
-        match deadline_of(updaters, &rates, &loads, turn.tx) {
+        let mut loads = earlier_loads(alloc, updaters, &rates, turn.tx, from)?;
+        match deadline_of(updaters, &rates, &mut loads, turn.tx) {
             Ok(deadline) => {
+                from = deadline;
                 rates[turn.tx] = Rate {
                     prio: (updaters.len() - turn.place) as u32,
                     period: (updaters[turn.tx].validity - deadline).min(LONGEST),
