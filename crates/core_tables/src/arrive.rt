@@ -66,10 +66,10 @@ pub fn release(pending: &mut Pending, calendar: &mut Calendar, tick: Tick)
     ensures planned { (planned : List Planned) → Holds calendar.old planned → CanRelease tick pending.old.rows planned → Holds calendar.new (later tick planned) }
     ensures rest { SamePlans calendar.old calendar.new }
 {
-    if !calendar.may_be_due(tick) {
-        return;
-    }
-    while let Some(job) = calendar.due(tick) {
+    while calendar.may_be_due(tick) {
+        let Some(job) = calendar.due(tick) else {
+            return;
+        };
         pending.release(job, tick);
     }
 }

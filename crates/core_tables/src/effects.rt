@@ -158,7 +158,7 @@ impl CoreTables {
     /// The running job takes a granted step: its effect, then the arrival at the next tick. It answers the outcome, and the
     /// job's end where it has ended then, also where that end is Late. A step that ends nobody, and at whose end nothing is
     /// released, touches the rows of its job and item alone, with one look at the least deadline and one at the next release.
-    /// A job that ends costs what `Pending::end` does; each release logarithmic time in the number of planned releases.
+    /// A job that ends costs what `Pending::end` does, and each release what `Calendar::due` does, however many are planned.
     #[inline(always)]
     pub fn go(&mut self, set: &CompiledSet, job: JobId, op: Op) -> (Outcome, Option<End>)
         requires granted { StandGranted set.now self.old job op }
@@ -175,7 +175,7 @@ impl CoreTables {
     }
 
     /// With nothing pending, the time goes on to the least planned tick, and the releases planned for it take place. Each
-    /// costs logarithmic time in the number of planned releases.
+    /// costs what `Calendar::due` does, however many are planned.
     pub fn go_on(&mut self, to: Tick)
         requires idle { (set : Set) × StandIdle set self.old to }
         ensures { (set : Set) (s : State) → AreTables set self.old s → IsLegalState set s → IsIdle set s to → AreTables set self.new (arrived set to s) }

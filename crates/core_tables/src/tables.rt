@@ -152,7 +152,7 @@ impl CoreTables {
     }
 
     /// Plans the transaction's next job for a tick, or refuses it as `plan_check` says. A job planned for the present tick is
-    /// pending at once. A refusal changes nothing. It costs logarithmic time in the number of planned releases.
+    /// pending at once. A refusal changes nothing. It costs a few looks, however many are planned.
     pub fn plan(
         &mut self,
         tx: TxId,
@@ -182,9 +182,7 @@ impl CoreTables {
         requires free { refusal self.old.calendar tx.0 tick self.old.clock ≡ None }
         ensures { (set : Set) (s : State) → AreTables set self.old s → IsLegalState set s → AreTables set self.new (with_plan s tx.0 tick) }
     {
-        let Ok(serial) = self.calendar.plan(tx, tick, self.clock) else {
-            return;
-        };
+        let serial = self.calendar.plan_free(tx, tick);
         if tick != self.clock {
             return;
         }

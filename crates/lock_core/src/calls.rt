@@ -20,7 +20,7 @@ use step_journal::Entry;
 impl Core {
     /// Plans the transaction's next job for a tick; a job planned for the present tick is pending at once. Errors: those of
     /// the calendar in their order, then Full exactly where as many entries are kept as there is room for. A refusal
-    /// changes nothing. It costs a few look-ups and an insertion into the calendar's heap.
+    /// changes nothing. It costs a few look-ups, however many releases are planned.
     pub fn plan(&mut self, tx: TxId, tick: Tick) -> Result<JobId, PlanRefused>
         requires { tx.0 < length self.old.set.txns }
         ensures fixed { (self.new.set ≡ self.old.set) × (self.new.journal.room ≡ self.old.journal.room) × (self.new.journal.first ≡ self.old.journal.first) }

@@ -1,5 +1,6 @@
-mod Heads
+mod Firsts
 mod Keeps
+mod Leasts
 mod Moves
 mod Releases
 mod Splits

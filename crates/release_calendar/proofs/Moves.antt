@@ -5,11 +5,12 @@ use Rattle.std.proofs.lemmas.List.Sorted.{IsPermutation-refl, IsPermutation-sym,
 use Rattle.std.proofs.lemmas.List.Sums.{sum_by-cons}
 use Rattle.std.specs.List.{remove, sum_by}
 use Rattle.std.specs.List.Sorted.{IsPermutation}
-use Rattle.std.specs.declared.cmp.Reverse.{Reverse}
 use Rattle.rt_base.specs.declared.release.Release.{Release}
-use Rattle.release_calendar.specs.declared.planned.Planned.{Planned}
 use Rattle.release_calendar.specs.Agenda.{same_release, without}
-use Rattle.release_calendar.specs.Queues.{one_if}
+
+abbrev one_if : Bool → ℕ
+one_if true = 1
+one_if false = 0
 
 -- an equality by a test
 record IsSame {X : Type 0} (same : X → X → Bool) : Type 0 where
@@ -66,11 +67,6 @@ module _ {X : Type 0} (same : X → X → Bool) (is : IsSame same) where
       let there : 0 < count r xs = omega (arith, counts r, count_itself r rest) in
       by_counts (less same r xs) rest (λ s. omega (arith, one_less r s xs there, counts s, count_cons s r rest))
 
-  same_rest : (xs rest : List X) (r : X) → IsPermutation (r ∷ xs) (r ∷ rest) → IsPermutation xs rest
-  same_rest xs rest r p =
-      let counts : (s : X) → count s (r ∷ rest) ≡ count s (r ∷ xs) = (λ s. sum_by-IsPermutation (λ x. one_if (same s x)) (r ∷ xs) (r ∷ rest) p) in
-      by_counts xs rest (λ s. omega (arith, counts s, count_cons s r rest, count_cons s r xs))
-
 pub same-true : (a b : Release) → same_release a b ≡ true → a ≡ b
 same-true a b h =
     let parts : ((a.job.tx.0 == b.job.tx.0 && a.job.serial == b.job.serial) ≡ true) × ((a.tick == b.tick) ≡ true) = and_parts _ _ h in
@@ -93,22 +89,3 @@ without-less r (x ∷ xs) = ap (λ (q : List Release). cond (same_release r x) x
 -- what is left of a list without a release is what is left of each order of it
 pub taken : (planned rest : List Release) (r : Release) → IsPermutation planned (r ∷ rest) → IsPermutation (without r planned) rest
 taken planned rest r p = rw (without-less r planned) (left same_release releases_same planned rest r p)
-
-abbrev same_head : Reverse Planned → Reverse Planned → Bool
-same_head a b = (a.0.tx == b.0.tx) && (a.0.serial == b.0.serial) && (a.0.tick == b.0.tick)
-
-heads_same : IsSame same_head
-heads_same = record {
-  sound = λ a b h.
-      (let parts : ((a.0.tx == b.0.tx && a.0.serial == b.0.serial) ≡ true) × ((a.0.tick == b.0.tick) ≡ true) = and_parts _ _ h in
-      let job : ((a.0.tx == b.0.tx) ≡ true) × ((a.0.serial == b.0.serial) ≡ true) = and_parts _ _ parts.0 in
-      let tx : a.0.tx ≡ b.0.tx = eqb-true _ _ job.0 in
-      let serial : a.0.serial ≡ b.0.serial = eqb-true _ _ job.1 in
-      let tick : a.0.tick ≡ b.0.tick = eqb-true _ _ parts.1 in
-      let q : record { 0 = record { tick = a.0.tick; tx = a.0.tx; serial = a.0.serial } } ≡ record { 0 = record { tick = b.0.tick; tx = b.0.tx; serial = b.0.serial } } = cc in q);
-  itself = λ a. and_from _ _ (and_from _ _ (eq-eqb a.0.tx a.0.tx refl) (eq-eqb a.0.serial a.0.serial refl)) (eq-eqb a.0.tick a.0.tick refl);
-}
-
--- what stands beside a head in one order and in another
-pub beside : (xs ys : List (Reverse Planned)) (r : Reverse Planned) → IsPermutation (r ∷ xs) (r ∷ ys) → IsPermutation xs ys
-beside xs ys r p = same_rest same_head heads_same xs ys r p

@@ -10,7 +10,7 @@ use Rattle.rt_base.specs.declared.release.Plans.{Plans}
 use Rattle.rt_base.specs.declared.release.Release.{Release}
 use Rattle.release_calendar.specs.declared.planned.Planned.{Planned}
 use Rattle.release_calendar.specs.Agenda.{Agenda, job_of, no_plans, earliest, ArePeriods, IsPlanned, NothingDue, IsDue, least_tick, without}
-use Rattle.release_calendar.specs.Queues.{queue_of, queued, releases, release_of, IsCalendar, IsFirst, IsPlace, NoneAt, IsBefore}
+use Rattle.release_calendar.specs.Queues.{queue_of, queued, releases, release_of, IsCalendar, IsFirstTick, IsPlace, NoneAt}
 use Rattle.release_calendar.proofs.Keeps.{none_queued_at, empty_at}
 use Rattle.release_calendar.proofs.Moves.{taken}
 use Rattle.release_calendar.proofs.Splits.{queued_put, queued_take}
@@ -26,14 +26,16 @@ contains_map items x h = at items h.0 h.1 h.2 where
   at (r ∷ rest) zero lt e = (0, omega arith, ap release_of e)
   at (r ∷ rest) (suc k) lt e = let more : Contains (map release_of rest) (release_of x) = at rest k (omega arith) e in (suc more.0, omega (arith, more.1), more.2)
 
-pub first_tick : (queues : List (List Planned)) (next : Planned) (planned : List Release) → IsFirst next queues → IsPermutation planned (releases queues) → least_tick planned ≡ Some next.tick
-first_tick queues next planned is p =
-    least_in planned (releases queues) (release_of next) p
-    (All-map (λ (r : Release). next.tick ≤ r.tick) release_of (queued queues) (All-weaker (IsBefore next) (λ q. next.tick ≤ q.tick) (λ q h. h.0) (queued queues) is.before))
-    (contains_map (queued queues) next is.here)
+pub first_tick : (queues : List (List Planned)) (tick : ℕ) (planned : List Release) → IsFirstTick tick queues → IsPermutation planned (releases queues) → least_tick planned ≡ Some tick
+first_tick queues tick planned is p =
+    let at : is.here.0.tick ≡ tick = is.here.2 in
+    subst (λ (t : ℕ). least_tick planned ≡ Some t) at
+    (least_in planned (releases queues) (release_of is.here.0) p
+    (All-map (λ (r : Release). is.here.0.tick ≤ r.tick) release_of (queued queues) (All-weaker (λ q. tick ≤ q.tick) (λ q. is.here.0.tick ≤ q.tick) (λ q h. omega (arith, h, at)) (queued queues) is.before))
+    (contains_map (queued queues) is.here.0 is.here.1))
 
-pub no_tick : (queues : List (List Planned)) (planned : List Release) → queued queues ≡ [] → IsPermutation planned (releases queues) → least_tick planned ≡ None
-no_tick queues planned e p = none_in planned (releases queues) p (length-map (queued queues) release_of ∙ ap length e)
+pub none_planned : (queues : List (List Planned)) (planned : List Release) → queued queues ≡ [] → IsPermutation planned (releases queues) → least_tick planned ≡ None
+none_planned queues planned e p = none_in planned (releases queues) p (length-map (queued queues) release_of ∙ ap length e)
 
 pub how_many : (queues : List (List Planned)) (planned : List Release) → IsPermutation planned (releases queues) → length planned ≡ length (queued queues)
 how_many queues planned p = sym (length_permutation planned (releases queues) p) ∙ length-map (queued queues) release_of
@@ -97,7 +99,7 @@ new_calendar periods plans queues room are p q =
     let none : (tx : ℕ) → (get_or plans tx no_plans).last ≡ 0 = (λ tx. ap (λ (qs : List Plans). (get_or qs tx no_plans).last) p ∙ ap (λ (r : Plans). r.last) (plans_at (length periods) tx)) in
     record {
       size = ap length p ∙ length-replicate (length periods) no_plans;
-      each = (none_queued_at queues (length periods) q).2;
+      each = (none_queued_at queues (length periods) q).1;
       periods = are;
       last = λ tx. (let e : (get_or plans tx no_plans).last ≡ 0 = none tx in omega (arith, e));
       none = λ tx zero. none tx;

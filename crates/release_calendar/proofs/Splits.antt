@@ -1,12 +1,12 @@
 -- What stands in the queues, apart into that of one transaction and those of the others.
-use Rattle.std.proofs.Common.{◌≡◌, ℕ, zero, suc, ◌<◌, ◌≤◌, List, [], ◌∷◌, ◌++◌, length, get_or, set, refl, ap, subst, arith}
+use Rattle.std.proofs.Common.{◌≡◌, ℕ, zero, suc, ◌<◌, ◌≤◌, List, [], ◌∷◌, ◌++◌, length, get_or, set, refl, subst, arith}
 use Rattle.std.proofs.lemmas.List.{append_assoc, set-get_or, length-append}
 use Rattle.std.proofs.lemmas.List.Elements.{All-nil, All-cons, All-head, All-tail, All-append}
 use Rattle.std.proofs.lemmas.List.Sorted.{IsPermutation-refl, IsPermutation-sym, IsPermutation-cons, IsPermutation-trans, IsPermutation-middle, IsPermutation-append_left, IsPermutation-append_right, IsPermutation-append_comm, IsPermutation-remove, length_permutation}
 use Rattle.std.specs.List.{All, flat_map, remove}
 use Rattle.std.specs.List.Sorted.{IsPermutation}
 use Rattle.release_calendar.specs.declared.planned.Planned.{Planned}
-use Rattle.release_calendar.specs.Queues.{queue_of, queued, head, heads}
+use Rattle.release_calendar.specs.Queues.{queue_of, queued}
 
 -- ---- of any lists that are made of the queues
 
@@ -41,11 +41,6 @@ flat_set f (q ∷ rest) (suc tx) queue e lt =
 flat_at : {X : Type 0} (f : List Planned → List X) (queues : List (List Planned)) (tx : ℕ) → f [] ≡ [] → tx < length queues → IsPermutation (flat_map f queues) (f (get_or queues tx []) ++ flat_map f (set queues tx []))
 flat_at f queues tx e lt = subst (λ (qs : List (List Planned)). IsPermutation (flat_map f qs) (f (get_or queues tx []) ++ flat_map f (set queues tx []))) (set-get_or queues tx []) (flat_set f queues tx (get_or queues tx []) e lt)
 
-flat_same : {X : Type 0} (f : List Planned → List X) (queues : List (List Planned)) (tx : ℕ) (queue : List Planned) → f queue ≡ f (get_or queues tx []) → flat_map f (set queues tx queue) ≡ flat_map f queues
-flat_same f [] tx queue e = refl
-flat_same f (q ∷ rest) zero queue e = ap (λ xs. xs ++ flat_map f rest) e
-flat_same f (q ∷ rest) (suc tx) queue e = ap (λ xs. f q ++ xs) (flat_same f rest tx queue e)
-
 -- ---- a release more, a release less
 
 abbrev all : List Planned → List Planned
@@ -76,28 +71,3 @@ queued_take queues tx index p lt in' is =
 -- no queue is longer than all
 pub in_all : (queues : List (List Planned)) (tx : ℕ) → tx < length queues → length (queue_of queues tx) ≤ length (queued queues)
 in_all queues tx lt = omega (arith, length_permutation (queued queues) (get_or queues tx [] ++ queued (set queues tx [])) (flat_at all queues tx refl lt), length-append (get_or queues tx []) (queued (set queues tx [])))
-
--- ---- the heads
-
--- the heads, where the first of a queue is this one
-pub heads_with : (queues : List (List Planned)) (tx : ℕ) (p : Planned) (rest : List Planned) → tx < length queues → IsPermutation (heads (set queues tx (p ∷ rest))) (record { 0 = p } ∷ heads (set queues tx []))
-heads_with queues tx p rest lt = flat_set head queues tx (p ∷ rest) refl lt
-
-pub heads_split : (queues : List (List Planned)) (tx : ℕ) (p : Planned) (rest : List Planned) → tx < length queues → queue_of queues tx ≡ p ∷ rest → IsPermutation (heads queues) (record { 0 = p } ∷ heads (set queues tx []))
-heads_split queues tx p rest lt e = subst (λ (q : List Planned). IsPermutation (heads queues) (head q ++ heads (set queues tx []))) e (flat_at head queues tx refl lt)
-
-pub heads_same : (queues : List (List Planned)) (tx : ℕ) (queue : List Planned) → head queue ≡ head (queue_of queues tx) → heads (set queues tx queue) ≡ heads queues
-heads_same queues tx queue e = flat_same head queues tx queue e
-
-heads_at_most : (queues : List (List Planned)) → length (heads queues) ≤ length queues
-heads_at_most [] = omega arith
-heads_at_most ([] ∷ rest) = omega (arith, heads_at_most rest)
-heads_at_most ((p ∷ q) ∷ rest) = omega (arith, heads_at_most rest)
-
--- where a queue is empty, there are fewer heads than queues
-pub heads_below : (queues : List (List Planned)) (tx : ℕ) → tx < length queues → queue_of queues tx ≡ [] → length (heads queues) < length queues
-heads_below [] tx lt e = absurd (omega arith)
-heads_below ([] ∷ rest) zero lt e = omega (arith, heads_at_most rest)
-heads_below ((p ∷ q) ∷ rest) zero lt e = absurd (omega (arith, ap length e))
-heads_below ([] ∷ rest) (suc tx) lt e = omega (arith, heads_at_most rest)
-heads_below ((p ∷ q) ∷ rest) (suc tx) lt e = omega (arith, heads_below rest tx (omega arith) e)

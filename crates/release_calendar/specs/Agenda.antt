@@ -10,7 +10,7 @@ use Rattle.rt_base.specs.declared.release.PlanRefused.TheVariants.{Past, TooSoon
 use Rattle.rt_base.specs.Planning.{calendar_refusal}
 use Rattle.release_calendar.specs.declared.planned.Planned.{Planned}
 
--- the job of a release in the heap
+-- the job of a planned release
 abbrev pub job_of : Planned → JobId
 job_of p = record { tx = record { 0 = p.tx }; serial = p.serial }
 

@@ -81,8 +81,8 @@ impl Calendar {
         }
     }
 
-    /// Plans the next job of a transaction for a tick, and answers its serial. A refusal changes nothing. It costs
-    /// logarithmic time in the number of transactions, however many releases are planned.
+    /// Plans the next job of a transaction for a tick, and answers its serial. A refusal changes nothing. It costs the same,
+    /// however many transactions there are and releases are planned.
     pub fn plan(&mut self, tx: TxId, tick: Tick, now: Tick) -> Result<u32, PlanRefused>
         requires { tx.0 < length self.old.periods }
         ensures rule { MatchResult result (λ _. refusal self.old tx.0 tick now ≡ None) (λ refused. refusal self.old tx.0 tick now ≡ Some refused) }
@@ -131,9 +131,22 @@ impl Calendar {
     }
 
     /// Takes out one release that is planned for a tick, the one with the least transaction number; None exactly where there
-    /// is none. It costs one comparison where nothing is planned up to that tick, and logarithmic time in the number of
-    /// transactions where nothing is planned before it. Else it goes over the planned releases.
+    /// is none. It costs one comparison where nothing is planned up to that tick. Where nothing is planned before it, it costs
+    /// at most 32 looks for up to 64 transactions, and at most 16 more for each 64 further ones. Else it goes over the planned
+    /// releases.
     pub fn due(&mut self, tick: Tick) -> Option<JobId>
+        ensures due { (planned : List Release) → Holds self.old planned → MatchOption result (NothingDue tick planned) (IsDue tick planned) }
+        ensures left { (planned : List Release) → Holds self.old planned → Holds self.new (left tick result planned) }
+        ensures rest { SamePlans self.old self.new }
+    {
+        match self.planned.first_at(tick) {
+            Some(place) => Some(self.planned.take(place).job()),
+            None => self.due_later(tick),
+        }
+    }
+
+    #[inline(never)]
+    fn due_later(&mut self, tick: Tick) -> Option<JobId>
         ensures due { (planned : List Release) → Holds self.old planned → MatchOption result (NothingDue tick planned) (IsDue tick planned) }
         ensures left { (planned : List Release) → Holds self.old planned → Holds self.new (left tick result planned) }
         ensures rest { SamePlans self.old self.new }
@@ -146,10 +159,7 @@ impl Calendar {
     pub fn next_tick(&self) -> Option<Tick>
         ensures { (planned : List Release) → Holds self.now planned → result ≡ least_tick planned }
     {
-        match self.planned.first() {
-            Some(next) => Some(next.tick),
-            None => None,
-        }
+        self.planned.first()
     }
 
     /// How many releases are planned and did not take place yet.
@@ -157,6 +167,20 @@ impl Calendar {
         ensures { (planned : List Release) → Holds self.now planned → result ≡ length planned }
     {
         self.planned.waiting()
+    }
+
+    /// Plans the next job of a transaction for a tick for which `check` does not refuse it, without a second check, and answers
+    /// its serial.
+    pub fn plan_free(&mut self, tx: TxId, tick: Tick) -> u32
+        requires tx { tx.0 < length self.old.periods }
+        requires free { (now : ℕ) × (refusal self.old tx.0 tick now ≡ None) }
+        ensures serial { result ≡ (plans_of self.old tx.0).number }
+        ensures planned { IsPlanned self.old self.new tx.0 tick }
+        ensures periods { self.new.periods ≡ self.old.periods }
+    {
+        let serial = self.plans[tx.0 as usize].number;
+        self.note(tx, serial, tick);
+        serial
     }
 
     fn earliest(&self, tx: TxId) -> Tick

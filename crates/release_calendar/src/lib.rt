@@ -2,6 +2,7 @@
 #![tactic(auto)]
 
 mod calendar;
+mod heads;
 mod planned;
 mod queues;
 

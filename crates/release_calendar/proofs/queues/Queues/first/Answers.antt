@@ -1,16 +1,13 @@
-use Rattle.std.proofs.Common.{◌≡◌, [], map, sym, subst, arith, rules}
-use Rattle.std.specs.BinaryHeap.{heap_items}
+use Rattle.std.proofs.Common.{◌≡◌, [], map, subst, arith}
 use Rattle.std.specs.VecDeque.{deque_items}
-use Rattle.release_calendar.specs.Queues.{QueueFacts, IsFirst, queued}
-use Rattle.release_calendar.proofs.Heads.{first_is, none_is}
+use Rattle.release_calendar.specs.Queues.{QueueFacts, IsFirstTick, queued}
+use Rattle.release_calendar.proofs.Firsts.{first_tick, none_waits}
 use Rattle.release_calendar.proofs.queues.Queues.first.Goals as goal
 
-pub returns-in-Some : goal.returns-in-Some
-returns-in-Some c =
-    let e = c.in-Some.ensures in
-    subst (λ (l : QueueFacts). IsFirst c.in-Some.field-0.now.0 l.queues) c.self.view_is
-    (first_is (map deque_items c.self.inside.queues.items) (heap_items c.self.inside.heads) c.in-Some.field-0.now c.self.invariant.0.each c.self.invariant.0.heads (e.greatest c.self.invariant.0.order) (0, search rules, sym e.lookup))
+pub returns-then-self-eq0 : goal.returns-then-self-eq0
+returns-then-self-eq0 c = subst (λ (l : QueueFacts). queued l.queues ≡ []) c.self.view_is (none_waits (map deque_items c.self.inside.queues.items) c.self.inside.heads c.self.inside.waiting c.self.invariant.0 c.if-self-eq0.true)
 
-pub returns-in-None : goal.returns-in-None
-returns-in-None c =
-    subst (λ (l : QueueFacts). queued l.queues ≡ []) c.self.view_is (none_is (map deque_items c.self.inside.queues.items) (heap_items c.self.inside.heads) c.self.invariant.0.heads (omega (arith, c.in-None.ensures.item.3)))
+pub returns-else-self-eq0 : goal.returns-else-self-eq0
+returns-else-self-eq0 c =
+    subst (λ (l : QueueFacts). IsFirstTick c.least.result l.queues) c.self.view_is
+    (first_tick (map deque_items c.self.inside.queues.items) c.self.inside.heads c.self.inside.waiting c.least.result c.self.invariant.0 c.least.ensures (omega (arith, c.if-self-eq0.false)))

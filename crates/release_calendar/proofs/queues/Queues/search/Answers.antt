@@ -4,7 +4,7 @@ use Rattle.std.proofs.lemmas.List.{length-map}
 use Rattle.std.specs.VecDeque.{deque_items}
 use Rattle.release_calendar.specs.declared.planned.Planned.{Planned}
 use Rattle.release_calendar.specs.Queues.{QueueFacts, NoneAt, IsQueue, queue_of}
-use Rattle.release_calendar.proofs.Heads.{place_found, none_in_all}
+use Rattle.release_calendar.proofs.Firsts.{place_found, none_in_all}
 use Rattle.release_calendar.proofs.Keeps.{queue_at}
 use Rattle.release_calendar.proofs.queues.Queues.search.Goals as goal
 
