@@ -1,5 +1,6 @@
 //! The board and its admitted set.
 ghost use Rattle.std.specs.Prelude.{◌≡◌, ◌≤◌, ◌+◌, ◌<◌, ◌^◌, List, [], length, Some, IfOk, IfErr};
+ghost use Rattle.std.specs.Prelude.{◌-◌, ◌++◌, min, take, drop, vec_capacity, vec_len};
 ghost use Rattle.step_journal.specs.declared.entry.Entry.{Entry as Noted};
 ghost use Rattle.board.specs.Stories.{noted, plan_entry, plan_next_entry, step_entry, idle_entry, plan_answer, plan_next_answer, step_answer, idle_answer, now_of};
 ghost use Rattle.history_laws.specs.Protocol.{IsFirstRefusal};
@@ -127,6 +128,23 @@ impl<B: Board> AdmittedBoard<B> {
         self.keeps_bounds();
         reply
     }
+
+    /// Moves the oldest kept entries to the end of `into` as the board does: as many as it has places for and no more
+    /// than `most`. The set stays admitted, and every history that was stood for keeps the bounds as before.
+    pub fn drain(&mut self, most: usize, into: &mut Vec<Entry>) -> usize
+        ensures count { result ≡ min most (min (length (B.kept self.old.board)) (vec_capacity into.old - vec_len into.old)) }
+        ensures moved { into.new.items ≡ into.old.items ++ take result (B.kept self.old.board) }
+        ensures left { B.kept self.new.board ≡ drop result (B.kept self.old.board) }
+        ensures places { vec_capacity into.new ≡ vec_capacity into.old }
+        ensures fixed { (B.set self.new.board ≡ B.set self.old.board) × (B.room self.new.board ≡ B.room self.old.board) × (B.first self.new.board ≡ B.first self.old.board + result) }
+        ensures admitted { self.new.admitted ≡ self.old.admitted }
+        ensures after { (story : List Noted) → B.stands self.old.board story → B.stands self.new.board story }
+        ensures bounds { (story : List Noted) → B.stands self.new.board story → KeepsBounds self.new.admitted story }
+    {
+        let count = self.board.drain(most, into);
+        self.keeps_bounds();
+        count
+    }
 }
 
 impl<B: Board> Board for AdmittedBoard<B> {
@@ -195,7 +213,7 @@ impl<B: Board> Board for AdmittedBoard<B> {
     }
 
     fn drain(&mut self, most: usize, into: &mut Vec<Entry>) -> usize {
-        self.board.drain(most, into)
+        self.drain(most, into)
     }
 
     fn first(&self) -> u64 {

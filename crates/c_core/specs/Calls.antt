@@ -1,0 +1,41 @@
+-- What the calls of a station answer beside what the core answers: 0 where the call was made, and else why not.
+use Rattle.std.specs.Prelude.{◌≡◌, ℕ, ℤ, nat_lt, if◌then◌else◌, List, length, Option, None, Some, is_some}
+use Rattle.rt_base.specs.declared.ids.JobId.{JobId}
+use Rattle.rt_base.specs.declared.operation.Op.{Op}
+use Rattle.board.specs.declared.replies.StepReply.{StepReply}
+use Rattle.step_journal.specs.declared.entry.Entry.{Entry}
+use Rattle.board.specs.Stories.{step_answer}
+use Rattle.txn_set.specs.Set.{Set}
+use Rattle.lock_core.specs.Seen.{CoreSeen}
+use Rattle.c_core.specs.declared.forms.JobForm.{JobForm}
+use Rattle.c_core.specs.Forms.{op_named, job_of, form_of_job}
+
+-- the same of a set
+abbrev pub in_set : Set → ℕ → ℕ
+in_set set tx = if nat_lt tx (length set.txns) then 0 else 4
+
+-- 4 where the number names no transaction of the set
+abbrev pub tx_status : CoreSeen → ℕ → ℕ
+tx_status core tx = if nat_lt tx (length core.set.txns) then 0 else 4
+
+-- 5 where the number names no item of the set
+abbrev pub item_status : CoreSeen → ℕ → ℕ
+item_status core item = if nat_lt item (length core.set.items) then 0 else 5
+
+-- 3 where the number names no operation, and else as above
+abbrev pub step_status : CoreSeen → ℕ → ℕ → ℕ → ℤ → ℕ
+step_status core tx code item value = if is_some (op_named code item value) then tx_status core tx else 3
+
+-- what a core that stands for this history answers to a step
+abbrev pub step_reply_of : CoreSeen → List Entry → JobForm → Op → StepReply
+step_reply_of core story job asked = step_answer core.set story (length core.journal.kept) core.journal.room (job_of job) asked
+
+-- what is answered where this is the running job: 6 where there is none
+abbrev pub IsRunning : Option JobId → ℕ → JobForm → JobForm → Type 0
+IsRunning None status before after = (status ≡ 6) × (after ≡ before)
+IsRunning (Some job) status before after = (status ≡ 0) × (after ≡ form_of_job job)
+
+-- what is answered where this is the age bound: 6 where there is none
+abbrev pub IsAge : Option ℕ → ℕ → ℕ → ℕ → Type 0
+IsAge None status before after = (status ≡ 6) × (after ≡ before)
+IsAge (Some age) status before after = (status ≡ 0) × (after ≡ age)

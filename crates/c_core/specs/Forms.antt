@@ -1,0 +1,116 @@
+-- Answers as plain records.
+use Rattle.std.specs.Prelude.{ℕ, ℤ, pos, ◌==◌, if◌then◌else◌, Option, None, Some, Result, Ok, Err}
+use Rattle.rt_base.specs.declared.ids.JobId.{JobId}
+use Rattle.rt_base.specs.declared.operation.Op.{Op}
+use Rattle.rt_base.specs.declared.operation.Op.TheVariants as op
+use Rattle.rt_base.specs.declared.operation.End.{End}
+use Rattle.rt_base.specs.declared.operation.End.TheVariants as end
+use Rattle.rt_base.specs.declared.operation.Outcome.{Outcome}
+use Rattle.rt_base.specs.declared.operation.Outcome.TheVariants as outcome
+use Rattle.rt_base.specs.declared.release.PlanRefused.{PlanRefused}
+use Rattle.rt_base.specs.declared.release.PlanRefused.TheVariants as refused
+use Rattle.board.specs.declared.replies.StepReply.{StepReply}
+use Rattle.board.specs.declared.replies.StepReply.TheVariants as reply
+use Rattle.board.specs.declared.replies.IdleReply.{IdleReply}
+use Rattle.board.specs.declared.replies.IdleReply.TheVariants as idle
+use Rattle.step_journal.specs.declared.entry.Entry.{Entry}
+use Rattle.step_journal.specs.declared.entry.Entry.TheVariants as entry
+use Rattle.c_core.specs.declared.forms.JobForm.{JobForm}
+use Rattle.c_core.specs.declared.forms.EndForm.{EndForm}
+use Rattle.c_core.specs.declared.forms.StepForm.{StepForm}
+use Rattle.c_core.specs.declared.forms.TimeForm.{TimeForm}
+use Rattle.c_core.specs.declared.entries.EntryForm.{EntryForm}
+
+-- the operation that a number names
+abbrev pub op_named : ℕ → ℕ → ℤ → Option Op
+op_named code item value =
+    if code == 0 then Some (op.Read (record { 0 = item }))
+    else (if code == 1 then Some (op.Write (record { 0 = item }) value)
+    else (if code == 2 then Some op.Compute
+    else (if code == 3 then Some op.Commit
+    else (if code == 4 then Some op.Quit else None))))
+
+abbrev pub form_of_job : JobId → JobForm
+form_of_job job = record { tx = job.tx.0; serial = job.serial }
+
+-- the job that a record names
+abbrev pub job_of : JobForm → JobId
+job_of job = record { tx = record { 0 = job.tx }; serial = job.serial }
+
+abbrev pub no_job : JobForm
+no_job = record { tx = 0; serial = 0 }
+
+abbrev pub no_end : EndForm
+no_end = record { kind = 0; item = 0; other = 0; stamp = 0 }
+
+abbrev pub form_of_end : Option End → EndForm
+form_of_end None = no_end
+form_of_end (Some end.Committed) = record no_end { kind = 1 }
+form_of_end (Some end.Overrun) = record no_end { kind = 2 }
+form_of_end (Some end.Late) = record no_end { kind = 3 }
+form_of_end (Some (end.Stale item stamp)) = record no_end { kind = 4; item = item.0; stamp = stamp }
+form_of_end (Some (end.Apart a b)) = record no_end { kind = 5; item = a.0; other = b.0 }
+form_of_end (Some end.Quit) = record no_end { kind = 6 }
+
+-- a record of an answer without numbers
+abbrev pub bare_step : ℕ → StepForm
+bare_step reply = record { reply = reply; outcome = 0; job = no_job; item = 0; ceiling = 0; count = 0; value = pos 0; stamp = 0; has_stamp = 0; over = no_end }
+
+abbrev pub with_outcome : Outcome → StepForm → StepForm
+with_outcome (outcome.Got value None) form = record form { value = value }
+with_outcome (outcome.Got value (Some stamp)) form = record form { value = value; stamp = stamp; has_stamp = 1 }
+with_outcome outcome.Put form = record form { outcome = 1 }
+with_outcome outcome.Computed form = record form { outcome = 2 }
+with_outcome outcome.Closed form = record form { outcome = 3 }
+
+abbrev pub form_of_step : StepReply → StepForm
+form_of_step (reply.Done outcome over) = with_outcome outcome (record (bare_step 0) { over = form_of_end over })
+form_of_step (reply.Blocked by ceiling) = record (bare_step 1) { job = form_of_job by; ceiling = ceiling }
+form_of_step (reply.NoJob ended last) = record (bare_step 2) { count = ended; over = form_of_end last }
+form_of_step (reply.NotYet running) = record (bare_step 3) { job = form_of_job running }
+form_of_step (reply.Undeclared item) = record (bare_step 4) { item = item.0 }
+form_of_step (reply.TooEarly left) = record (bare_step 5) { count = left }
+form_of_step (reply.Unwritten item) = record (bare_step 6) { item = item.0 }
+form_of_step (reply.Full room) = record (bare_step 7) { count = room }
+
+abbrev pub bare_time : ℕ → TimeForm
+bare_time reply = record { reply = reply; job = no_job; tick = 0; count = 0 }
+
+abbrev pub form_of_refused : PlanRefused → TimeForm
+form_of_refused (refused.Past now) = record (bare_time 1) { tick = now }
+form_of_refused (refused.TooSoon earliest) = record (bare_time 2) { tick = earliest }
+form_of_refused (refused.TooFar limit) = record (bare_time 3) { tick = limit }
+form_of_refused (refused.CalendarFull room) = record (bare_time 4) { count = room }
+form_of_refused (refused.NoSerial planned) = record (bare_time 5) { count = planned }
+form_of_refused (refused.Full room) = record (bare_time 6) { count = room }
+
+-- of a plan for a tick
+abbrev pub form_of_plan : ℕ → Result JobId PlanRefused → TimeForm
+form_of_plan tick (Ok job) = record (bare_time 0) { job = form_of_job job; tick = tick }
+form_of_plan tick (Err e) = form_of_refused e
+
+abbrev pub form_of_plan_next : Result (JobId × ℕ) PlanRefused → TimeForm
+form_of_plan_next (Ok p) = record (bare_time 0) { job = form_of_job p.0; tick = p.1 }
+form_of_plan_next (Err e) = form_of_refused e
+
+abbrev pub form_of_idle : IdleReply → TimeForm
+form_of_idle (idle.Advanced to) = record (bare_time 0) { tick = to }
+form_of_idle (idle.NotIdle running) = record (bare_time 7) { job = form_of_job running }
+form_of_idle idle.Nothing = bare_time 8
+form_of_idle (idle.Full room) = record (bare_time 6) { count = room }
+
+abbrev pub bare_entry : ℕ → EntryForm
+bare_entry kind = record { kind = kind; operation = 0; job = no_job; item = 0; value = pos 0; tick = 0; to = 0; answer = bare_step 0 }
+
+abbrev pub with_op : Op → EntryForm → EntryForm
+with_op (op.Read item) form = record form { item = item.0 }
+with_op (op.Write item value) form = record form { operation = 1; item = item.0; value = value }
+with_op op.Compute form = record form { operation = 2 }
+with_op op.Commit form = record form { operation = 3 }
+with_op op.Quit form = record form { operation = 4 }
+
+abbrev pub form_of_entry : Entry → EntryForm
+form_of_entry (entry.Planned tx tick) = record (bare_entry 0) { job = record { tx = tx.0; serial = 0 }; tick = tick }
+form_of_entry (entry.Step job asked outcome over tick) = with_op asked (record (bare_entry 1) { job = form_of_job job; tick = tick; answer = form_of_step (reply.Done outcome over) })
+form_of_entry (entry.Blocked job asked by ceiling tick) = with_op asked (record (bare_entry 2) { job = form_of_job job; tick = tick; answer = form_of_step (reply.Blocked by ceiling) })
+form_of_entry (entry.Idle from to) = record (bare_entry 3) { tick = from; to = to }

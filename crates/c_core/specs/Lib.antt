@@ -1,0 +1,6 @@
+pub mod Forms
+pub mod Back
+pub mod Rows
+pub mod Refusals
+pub mod Laws
+pub mod Calls

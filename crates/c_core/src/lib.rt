@@ -1,0 +1,22 @@
+//! What a program in C is told: plain records and numbers for what the calls of a core take and answer, the tables from
+//! which a set is made, and a core that tests each number that it is given.
+#![tactic(auto)]
+
+mod checked;
+mod entries;
+mod forms;
+mod laws;
+mod refusals;
+mod tables;
+
+pub use checked::{CheckedCore, NO_ITEM, NO_OPERATION, NO_TRANSACTION, NOTHING, OK, StoredForm};
+pub use entries::{EntryForm, entry_form, put_entries};
+pub use forms::{
+    EndForm, JobForm, StepForm, TimeForm, end_form, idle_form, job_form, op_of, plan_form,
+    plan_next_form, step_form,
+};
+pub use laws::records_lose_nothing;
+pub use refusals::{
+    BAD_TABLE, NO_MEMORY, NO_ROOM, NOT_ADMITTED, NOT_COMPILED, RefusalForm, Refused, refusal_form,
+};
+pub use tables::{ItemRow, Tables, TogetherRow, TxnRow, compiled};

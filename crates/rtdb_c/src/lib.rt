@@ -1,0 +1,371 @@
+//! The database for programs in C: the functions of embed/rtdb.h. Each takes a handle, which is closed at first, and
+//! answers a status: 0 where the call was made, CLOSED by a closed handle, and else which number names nothing of the set.
+//! After each status but 0 the handle and what is written to are as they were. Nothing is required of a caller but what the
+//! head of that file says.
+#![tactic(auto)]
+
+ghost use Rattle.std.specs.Prelude.{◌≡◌, ◌≢◌, None, MatchOption, IfOk, IfErr, IfSome, IsSomeAnd};
+ghost use Rattle.c_core.specs.Refusals.{WhyNotOpened};
+ghost use Rattle.rtdb_c.specs.Called.{Called, ToldWhy, Stepped, Planned, Idled, IsRunningOf, Peeked, IsNowOf, Opened, PlannedNext, IsPendingOf, IsEndedOf, IsResponseOf, IsBlockingOf, IsAgeOf, Drained, IsKeptOf, IsPlannedOf};
+
+mod handle;
+
+use c_core::{
+    CheckedCore, EntryForm, ItemRow, JobForm, OK, RefusalForm, Refused, StepForm, StoredForm,
+    Tables, TimeForm, TogetherRow, TxnRow, refusal_form,
+};
+pub use handle::Handle;
+use std::alloc::Global;
+
+/// The handle is closed.
+pub const CLOSED: u32 = 1;
+
+/// The handle is open already.
+pub const OPEN: u32 = 2;
+
+// A core over the set of these tables, in a box.
+fn boxed(alloc: Global, tables: Tables, room: usize) -> Result<Box<CheckedCore>, Refused>
+    ensures opened { IfOk result (λ b. Opened tables.entry.items.now tables.entry.txns.now tables.entry.together.now tables.entry.ids.now room b.value) }
+    ensures refused { IfErr result (WhyNotOpened tables.entry.items.now tables.entry.txns.now tables.entry.together.now tables.entry.ids.now room) }
+{
+    let core = CheckedCore::open(alloc, tables, room)?;
+    match Box::new(alloc, core) {
+        Ok(core) => Ok(core),
+        Err(unboxed) => {
+            drop(unboxed);
+            Err(Refused::OutOfMemory)
+        }
+    }
+}
+
+/// Compiles and admits the set of these tables, and opens a database over it at the opening state, whose journal has room
+/// for so many entries. OPEN where the handle is open already. Else status and record are those of the first cause, and the
+/// handle stays closed; NO_MEMORY may come in place of each. All memory that the database needs is taken here.
+#[unsafe(no_mangle)]
+pub extern "C" fn rtdb_open(
+    alloc: Global,
+    db: &mut Handle,
+    items: &[ItemRow],
+    txns: &[TxnRow],
+    together: &[TogetherRow],
+    ids: &[u32],
+    room: usize,
+    refusal: &mut RefusalForm,
+) -> u32
+    ensures opened { result ≡ 0 → (db.old.core ≡ None) × (refusal.new ≡ refusal.old) × IsSomeAnd db.new.core (Opened items.now txns.now together.now ids.now room) }
+    ensures refused { result ≢ 0 → db.new.core ≡ db.old.core }
+    ensures open { IfSome db.old.core (λ s. (result ≡ 2) × (refusal.new ≡ refusal.old)) }
+    ensures why { db.old.core ≡ None → result ≢ 0 → ToldWhy items.now txns.now together.now ids.now room result refusal.new }
+{
+    if let Some(core) = db.take(alloc) {
+        db.put(core);
+        return OPEN;
+    }
+    let tables = Tables {
+        items,
+        txns,
+        together,
+        ids,
+    };
+    match boxed(alloc, tables, room) {
+        Ok(core) => {
+            db.put(core);
+            OK
+        }
+        Err(refused) => {
+            let (status, form) = refusal_form(refused);
+            *refusal = form;
+            status
+        }
+    }
+}
+
+/// Frees what the handle has, and closes it. It answers whether it was open.
+#[unsafe(no_mangle)]
+pub extern "C" fn rtdb_close(alloc: Global, db: &mut Handle) -> u32
+    ensures closed { db.new.core ≡ None }
+    ensures status { MatchOption db.old.core (result ≡ 1) (λ _. result ≡ 0) }
+{
+    match db.take(alloc) {
+        Some(core) => {
+            drop(core);
+            OK
+        }
+        None => CLOSED,
+    }
+}
+
+// As the core's call, in one clause.
+fn planned(core: &mut CheckedCore, tx: u32, tick: u64, answer: &mut TimeForm) -> u32
+    ensures { Planned tx tick result answer.old answer.new core.old core.new }
+{
+    core.plan(tx, tick, answer)
+}
+
+/// Plans the transaction's next job for a tick. NO_TRANSACTION where it is none of the set.
+#[unsafe(no_mangle)]
+pub extern "C" fn rtdb_plan(
+    alloc: Global,
+    db: &mut Handle,
+    tx: u32,
+    tick: u64,
+    answer: &mut TimeForm,
+) -> u32
+    ensures { Called db.old.core db.new.core ((result ≡ 1) × (answer.new ≡ answer.old)) (Planned tx tick result answer.old answer.new) }
+{
+    match db.take(alloc) {
+        Some(mut core) => {
+            let status = planned(&mut core, tx, tick, answer);
+            db.put(core);
+            status
+        }
+        None => CLOSED,
+    }
+}
+
+/// With nothing pending the time goes on to the next planned release.
+#[unsafe(no_mangle)]
+pub extern "C" fn rtdb_idle(alloc: Global, db: &mut Handle, answer: &mut TimeForm) -> u32
+    ensures { Called db.old.core db.new.core ((result ≡ 1) × (answer.new ≡ answer.old)) (Idled result answer.new) }
+{
+    match db.take(alloc) {
+        Some(mut core) => {
+            core.idle(answer);
+            db.put(core);
+            OK
+        }
+        None => CLOSED,
+    }
+}
+
+/// A job asks for an operation, which is named by a number. NO_OPERATION, else NO_TRANSACTION, where a number names none.
+#[unsafe(no_mangle)]
+pub extern "C" fn rtdb_step(
+    alloc: Global,
+    db: &mut Handle,
+    job: JobForm,
+    code: u32,
+    item: u32,
+    value: i64,
+    answer: &mut StepForm,
+) -> u32
+    ensures { Called db.old.core db.new.core ((result ≡ 1) × (answer.new ≡ answer.old)) (Stepped job code item value result answer.old answer.new) }
+{
+    match db.take(alloc) {
+        Some(mut core) => {
+            let status = core.step(job, code, item, value, answer);
+            db.put(core);
+            status
+        }
+        None => CLOSED,
+    }
+}
+
+/// The job whose turn it is. NOTHING where none is pending.
+#[unsafe(no_mangle)]
+pub extern "C" fn rtdb_running(alloc: Global, db: &mut Handle, job: &mut JobForm) -> u32
+    ensures { Called db.old.core db.new.core ((result ≡ 1) × (job.new ≡ job.old)) (IsRunningOf result job.old job.new) }
+{
+    match db.take(alloc) {
+        Some(core) => {
+            let status = core.running(job);
+            db.put(core);
+            status
+        }
+        None => CLOSED,
+    }
+}
+
+/// An item's installed value and stamp. NO_ITEM where it is none of the set.
+#[unsafe(no_mangle)]
+pub extern "C" fn rtdb_peek(
+    alloc: Global,
+    db: &mut Handle,
+    item: u32,
+    stored: &mut StoredForm,
+) -> u32
+    ensures { Called db.old.core db.new.core ((result ≡ 1) × (stored.new ≡ stored.old)) (Peeked item result stored.old stored.new) }
+{
+    match db.take(alloc) {
+        Some(core) => {
+            let status = core.peek(item, stored);
+            db.put(core);
+            status
+        }
+        None => CLOSED,
+    }
+}
+
+/// The present tick.
+#[unsafe(no_mangle)]
+pub extern "C" fn rtdb_now(alloc: Global, db: &mut Handle, tick: &mut u64) -> u32
+    ensures { Called db.old.core db.new.core ((result ≡ 1) × (tick.new ≡ tick.old)) (IsNowOf result tick.new) }
+{
+    match db.take(alloc) {
+        Some(core) => {
+            *tick = core.now();
+            db.put(core);
+            OK
+        }
+        None => CLOSED,
+    }
+}
+
+// As the core's call, in one clause.
+fn planned_next(core: &mut CheckedCore, tx: u32, answer: &mut TimeForm) -> u32
+    ensures { PlannedNext tx result answer.old answer.new core.old core.new }
+{
+    core.plan_next(tx, answer)
+}
+
+/// Plans the transaction's next job for the earliest tick that may be. NO_TRANSACTION where it is none of the set.
+#[unsafe(no_mangle)]
+pub extern "C" fn rtdb_plan_next(
+    alloc: Global,
+    db: &mut Handle,
+    tx: u32,
+    answer: &mut TimeForm,
+) -> u32
+    ensures { Called db.old.core db.new.core ((result ≡ 1) × (answer.new ≡ answer.old)) (PlannedNext tx result answer.old answer.new) }
+{
+    match db.take(alloc) {
+        Some(mut core) => {
+            let status = planned_next(&mut core, tx, answer);
+            db.put(core);
+            status
+        }
+        None => CLOSED,
+    }
+}
+
+/// The transaction's pending job. NO_TRANSACTION where it is none of the set, NOTHING where none is pending.
+#[unsafe(no_mangle)]
+pub extern "C" fn rtdb_pending(alloc: Global, db: &mut Handle, tx: u32, job: &mut JobForm) -> u32
+    ensures { Called db.old.core db.new.core ((result ≡ 1) × (job.new ≡ job.old)) (IsPendingOf tx result job.old job.new) }
+{
+    match db.take(alloc) {
+        Some(core) => {
+            let status = core.pending(tx, job);
+            db.put(core);
+            status
+        }
+        None => CLOSED,
+    }
+}
+
+/// How many jobs of the transaction have ended. NO_TRANSACTION where it is none of the set.
+#[unsafe(no_mangle)]
+pub extern "C" fn rtdb_ended(alloc: Global, db: &mut Handle, tx: u32, count: &mut u32) -> u32
+    ensures { Called db.old.core db.new.core ((result ≡ 1) × (count.new ≡ count.old)) (IsEndedOf tx result count.old count.new) }
+{
+    match db.take(alloc) {
+        Some(core) => {
+            let status = core.ended(tx, count);
+            db.put(core);
+            status
+        }
+        None => CLOSED,
+    }
+}
+
+/// The response of the transaction, in ticks. NO_TRANSACTION where it is none of the set.
+#[unsafe(no_mangle)]
+pub extern "C" fn rtdb_response(alloc: Global, db: &mut Handle, tx: u32, ticks: &mut u64) -> u32
+    ensures { Called db.old.core db.new.core ((result ≡ 1) × (ticks.new ≡ ticks.old)) (IsResponseOf tx result ticks.old ticks.new) }
+{
+    match db.take(alloc) {
+        Some(core) => {
+            let status = core.response(tx, ticks);
+            db.put(core);
+            status
+        }
+        None => CLOSED,
+    }
+}
+
+/// For how many ticks one lower transaction blocks the transaction at most. NO_TRANSACTION where it is none of the set.
+#[unsafe(no_mangle)]
+pub extern "C" fn rtdb_blocking(alloc: Global, db: &mut Handle, tx: u32, ticks: &mut u64) -> u32
+    ensures { Called db.old.core db.new.core ((result ≡ 1) × (ticks.new ≡ ticks.old)) (IsBlockingOf tx result ticks.old ticks.new) }
+{
+    match db.take(alloc) {
+        Some(core) => {
+            let status = core.blocking(tx, ticks);
+            db.put(core);
+            status
+        }
+        None => CLOSED,
+    }
+}
+
+/// The age bound of the item, in ticks. NO_ITEM where it is none of the set, NOTHING for a state item.
+#[unsafe(no_mangle)]
+pub extern "C" fn rtdb_age(alloc: Global, db: &mut Handle, item: u32, ticks: &mut u64) -> u32
+    ensures { Called db.old.core db.new.core ((result ≡ 1) × (ticks.new ≡ ticks.old)) (IsAgeOf item result ticks.old ticks.new) }
+{
+    match db.take(alloc) {
+        Some(core) => {
+            let status = core.age(item, ticks);
+            db.put(core);
+            status
+        }
+        None => CLOSED,
+    }
+}
+
+/// Moves the oldest kept entries into the caller's array, as many as it has places for and no more than 64, and answers how
+/// many.
+#[unsafe(no_mangle)]
+pub extern "C" fn rtdb_drain(
+    alloc: Global,
+    db: &mut Handle,
+    into: &mut [EntryForm],
+    moved: &mut usize,
+) -> u32
+    ensures { Called db.old.core db.new.core ((result ≡ 1) × (into.new ≡ into.old) × (moved.new ≡ moved.old)) (Drained result moved.new into.old into.new) }
+{
+    match db.take(alloc) {
+        Some(mut core) => {
+            *moved = core.drain(into);
+            db.put(core);
+            OK
+        }
+        None => CLOSED,
+    }
+}
+
+/// How many entries are kept, and how many were drained in all.
+#[unsafe(no_mangle)]
+pub extern "C" fn rtdb_kept(
+    alloc: Global,
+    db: &mut Handle,
+    kept: &mut usize,
+    drained: &mut u64,
+) -> u32
+    ensures { Called db.old.core db.new.core ((result ≡ 1) × (kept.new ≡ kept.old) × (drained.new ≡ drained.old)) (IsKeptOf result kept.new drained.new) }
+{
+    match db.take(alloc) {
+        Some(core) => {
+            *kept = core.kept();
+            *drained = core.drained();
+            db.put(core);
+            OK
+        }
+        None => CLOSED,
+    }
+}
+
+/// How many releases are planned and did not take place yet.
+#[unsafe(no_mangle)]
+pub extern "C" fn rtdb_planned(alloc: Global, db: &mut Handle, count: &mut usize) -> u32
+    ensures { Called db.old.core db.new.core ((result ≡ 1) × (count.new ≡ count.old)) (IsPlannedOf result count.new) }
+{
+    match db.take(alloc) {
+        Some(core) => {
+            *count = core.planned();
+            db.put(core);
+            OK
+        }
+        None => CLOSED,
+    }
+}

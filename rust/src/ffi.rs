@@ -1,0 +1,334 @@
+//! The records and functions of rtdb.h, and a handle whose methods are safe. All `unsafe` of the crate stands here.
+use std::cell::UnsafeCell;
+use std::ffi::c_void;
+use std::ptr::null_mut;
+
+// A handle as C has it: null while it is closed.
+#[repr(C)]
+struct Raw {
+    at: *mut c_void,
+}
+
+#[repr(C)]
+#[derive(Clone, Copy)]
+pub(crate) struct Item {
+    pub(crate) kind: u32,
+    pub(crate) validity: u64,
+    pub(crate) initial: i64,
+}
+
+#[repr(C)]
+#[derive(Clone, Copy)]
+pub(crate) struct Transaction {
+    pub(crate) priority: u32,
+    pub(crate) reads_at: u32,
+    pub(crate) reads: u32,
+    pub(crate) writes_at: u32,
+    pub(crate) writes: u32,
+    pub(crate) period: u64,
+    pub(crate) offset: u64,
+    pub(crate) deadline: u64,
+    pub(crate) steps: u64,
+    pub(crate) quiet: u64,
+}
+
+#[repr(C)]
+#[derive(Clone, Copy)]
+pub(crate) struct Together {
+    pub(crate) items_at: u32,
+    pub(crate) items: u32,
+    pub(crate) within: u64,
+}
+
+#[repr(C)]
+#[derive(Clone, Copy, Default)]
+pub(crate) struct Refusal {
+    pub(crate) rule: u32,
+    pub(crate) which: u32,
+    pub(crate) a: u64,
+    pub(crate) b: u64,
+    pub(crate) c: u64,
+}
+
+#[repr(C)]
+#[derive(Clone, Copy, Default)]
+pub(crate) struct Job {
+    pub(crate) transaction: u32,
+    pub(crate) serial: u32,
+}
+
+#[repr(C)]
+#[derive(Clone, Copy, Default)]
+pub(crate) struct Time {
+    pub(crate) reply: u32,
+    pub(crate) job: Job,
+    pub(crate) tick: u64,
+    pub(crate) count: u64,
+}
+
+#[repr(C)]
+#[derive(Clone, Copy, Default)]
+pub(crate) struct End {
+    pub(crate) kind: u32,
+    pub(crate) item: u32,
+    pub(crate) other: u32,
+    pub(crate) stamp: u64,
+}
+
+#[repr(C)]
+#[derive(Clone, Copy, Default)]
+pub(crate) struct StepAnswer {
+    pub(crate) reply: u32,
+    pub(crate) outcome: u32,
+    pub(crate) job: Job,
+    pub(crate) item: u32,
+    pub(crate) ceiling: u32,
+    pub(crate) count: u64,
+    pub(crate) value: i64,
+    pub(crate) stamp: u64,
+    pub(crate) has_stamp: u32,
+    pub(crate) over: End,
+}
+
+#[repr(C)]
+#[derive(Clone, Copy, Default)]
+pub(crate) struct Stored {
+    pub(crate) value: i64,
+    pub(crate) stamp: u64,
+}
+
+#[repr(C)]
+#[derive(Clone, Copy, Default)]
+pub(crate) struct Entry {
+    pub(crate) kind: u32,
+    pub(crate) operation: u32,
+    pub(crate) job: Job,
+    pub(crate) item: u32,
+    pub(crate) value: i64,
+    pub(crate) tick: u64,
+    pub(crate) to: u64,
+    pub(crate) answer: StepAnswer,
+}
+
+extern "C" {
+    fn rtdb_open(
+        db: *mut Raw,
+        items: *const Item,
+        item_count: usize,
+        transactions: *const Transaction,
+        transaction_count: usize,
+        together: *const Together,
+        together_count: usize,
+        numbers: *const u32,
+        number_count: usize,
+        room: usize,
+        refusal: *mut Refusal,
+    ) -> u32;
+    fn rtdb_close(db: *mut Raw) -> u32;
+    fn rtdb_plan(db: *mut Raw, transaction: u32, tick: u64, answer: *mut Time) -> u32;
+    fn rtdb_plan_next(db: *mut Raw, transaction: u32, answer: *mut Time) -> u32;
+    fn rtdb_pending(db: *mut Raw, transaction: u32, job: *mut Job) -> u32;
+    fn rtdb_ended(db: *mut Raw, transaction: u32, count: *mut u32) -> u32;
+    fn rtdb_response(db: *mut Raw, transaction: u32, ticks: *mut u64) -> u32;
+    fn rtdb_blocking(db: *mut Raw, transaction: u32, ticks: *mut u64) -> u32;
+    fn rtdb_age(db: *mut Raw, item: u32, ticks: *mut u64) -> u32;
+    fn rtdb_drain(db: *mut Raw, into: *mut Entry, places: usize, moved: *mut usize) -> u32;
+    fn rtdb_kept(db: *mut Raw, kept: *mut usize, drained: *mut u64) -> u32;
+    fn rtdb_idle(db: *mut Raw, answer: *mut Time) -> u32;
+    fn rtdb_step(
+        db: *mut Raw,
+        job: Job,
+        operation: u32,
+        item: u32,
+        value: i64,
+        answer: *mut StepAnswer,
+    ) -> u32;
+    fn rtdb_running(db: *mut Raw, job: *mut Job) -> u32;
+    fn rtdb_peek(db: *mut Raw, item: u32, stored: *mut Stored) -> u32;
+    fn rtdb_now(db: *mut Raw, tick: *mut u64) -> u32;
+    fn rtdb_planned(db: *mut Raw, count: *mut usize) -> u32;
+}
+
+/// A handle that closes itself. It is not `Sync`, so the calls by a shared reference come one after the other.
+pub(crate) struct Handle(UnsafeCell<Raw>);
+
+// SAFETY: it is proved of the handle's type that it may go to another thread.
+unsafe impl Send for Handle {}
+
+/// The tables of a set.
+pub(crate) struct Tables<'a> {
+    pub(crate) items: &'a [Item],
+    pub(crate) transactions: &'a [Transaction],
+    pub(crate) together: &'a [Together],
+    pub(crate) numbers: &'a [u32],
+}
+
+// In each call the handle is this one's own, no other call uses it, since it is not `Sync`, and each answer is a local that has
+// a value. An empty slice has a pointer that is not null.
+impl Handle {
+    pub(crate) fn open(tables: &Tables, room: usize) -> Result<Handle, (u32, Refusal)> {
+        let mut raw = Raw { at: null_mut() };
+        let mut refusal = Refusal::default();
+        // SAFETY: each pointer and count is that of a slice, and the others are of locals.
+        let status = unsafe {
+            rtdb_open(
+                &mut raw,
+                tables.items.as_ptr(),
+                tables.items.len(),
+                tables.transactions.as_ptr(),
+                tables.transactions.len(),
+                tables.together.as_ptr(),
+                tables.together.len(),
+                tables.numbers.as_ptr(),
+                tables.numbers.len(),
+                room,
+                &mut refusal,
+            )
+        };
+        match status {
+            0 => Ok(Handle(UnsafeCell::new(raw))),
+            _ => Err((status, refusal)),
+        }
+    }
+
+    pub(crate) fn plan(&mut self, transaction: u32, tick: u64) -> Result<Time, u32> {
+        let mut answer = Time::default();
+        // SAFETY: as above.
+        told(
+            unsafe { rtdb_plan(self.0.get(), transaction, tick, &mut answer) },
+            answer,
+        )
+    }
+
+    pub(crate) fn plan_next(&mut self, transaction: u32) -> Result<Time, u32> {
+        let mut answer = Time::default();
+        // SAFETY: as above.
+        told(
+            unsafe { rtdb_plan_next(self.0.get(), transaction, &mut answer) },
+            answer,
+        )
+    }
+
+    pub(crate) fn idle(&mut self) -> Time {
+        let mut answer = Time::default();
+        // SAFETY: as above. The handle is open, so the status is 0.
+        unsafe { rtdb_idle(self.0.get(), &mut answer) };
+        answer
+    }
+
+    pub(crate) fn planned(&self) -> usize {
+        let mut count = 0;
+        // SAFETY: as above.
+        unsafe { rtdb_planned(self.0.get(), &mut count) };
+        count
+    }
+
+    pub(crate) fn step(
+        &mut self,
+        job: Job,
+        operation: u32,
+        item: u32,
+        value: i64,
+    ) -> Result<StepAnswer, u32> {
+        let mut answer = StepAnswer::default();
+        // SAFETY: as above.
+        told(
+            unsafe { rtdb_step(self.0.get(), job, operation, item, value, &mut answer) },
+            answer,
+        )
+    }
+
+    pub(crate) fn running(&self) -> Result<Job, u32> {
+        let mut job = Job::default();
+        // SAFETY: as above.
+        told(unsafe { rtdb_running(self.0.get(), &mut job) }, job)
+    }
+
+    pub(crate) fn pending(&self, transaction: u32) -> Result<Job, u32> {
+        let mut job = Job::default();
+        // SAFETY: as above.
+        told(
+            unsafe { rtdb_pending(self.0.get(), transaction, &mut job) },
+            job,
+        )
+    }
+
+    pub(crate) fn ended(&self, transaction: u32) -> Result<u32, u32> {
+        let mut count = 0;
+        // SAFETY: as above.
+        told(
+            unsafe { rtdb_ended(self.0.get(), transaction, &mut count) },
+            count,
+        )
+    }
+
+    pub(crate) fn response(&self, transaction: u32) -> Result<u64, u32> {
+        let mut ticks = 0;
+        // SAFETY: as above.
+        told(
+            unsafe { rtdb_response(self.0.get(), transaction, &mut ticks) },
+            ticks,
+        )
+    }
+
+    pub(crate) fn blocking(&self, transaction: u32) -> Result<u64, u32> {
+        let mut ticks = 0;
+        // SAFETY: as above.
+        told(
+            unsafe { rtdb_blocking(self.0.get(), transaction, &mut ticks) },
+            ticks,
+        )
+    }
+
+    pub(crate) fn age(&self, item: u32) -> Result<u64, u32> {
+        let mut ticks = 0;
+        // SAFETY: as above.
+        told(unsafe { rtdb_age(self.0.get(), item, &mut ticks) }, ticks)
+    }
+
+    pub(crate) fn peek(&self, item: u32) -> Result<Stored, u32> {
+        let mut stored = Stored::default();
+        // SAFETY: as above.
+        told(
+            unsafe { rtdb_peek(self.0.get(), item, &mut stored) },
+            stored,
+        )
+    }
+
+    pub(crate) fn now(&self) -> u64 {
+        let mut tick = 0;
+        // SAFETY: as above.
+        unsafe { rtdb_now(self.0.get(), &mut tick) };
+        tick
+    }
+
+    /// Moves the oldest entries to the head of the slice, and answers how many.
+    pub(crate) fn drain(&mut self, into: &mut [Entry]) -> usize {
+        let mut moved = 0;
+        // SAFETY: as above; the pointer and the count are those of a slice.
+        unsafe { rtdb_drain(self.0.get(), into.as_mut_ptr(), into.len(), &mut moved) };
+        moved
+    }
+
+    pub(crate) fn kept(&self) -> (usize, u64) {
+        let (mut kept, mut drained) = (0, 0);
+        // SAFETY: as above.
+        unsafe { rtdb_kept(self.0.get(), &mut kept, &mut drained) };
+        (kept, drained)
+    }
+}
+
+impl Drop for Handle {
+    fn drop(&mut self) {
+        // SAFETY: as above.
+        unsafe { rtdb_close(self.0.get()) };
+    }
+}
+
+// The answer where the call was made, and else the status.
+fn told<T>(status: u32, answer: T) -> Result<T, u32> {
+    match status {
+        0 => Ok(answer),
+        _ => Err(status),
+    }
+}

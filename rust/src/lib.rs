@@ -1,0 +1,36 @@
+//! A main-memory database for plant control: jobs read and write items under the read/write priority ceiling protocol.
+//!
+//! Items and transactions are declared ([`Declarations`]), and a [`Database`] is opened over them if the set is admitted: then no
+//! job of it is late. What each call answers is proved of the library that this crate links; the crate itself passes numbers on,
+//! and its only `unsafe` code stands in one file.
+//!
+//! ```
+//! use rtdb::{Database, Declarations, ItemKind, Op, Times};
+//!
+//! # fn main() -> Result<(), Box<dyn std::error::Error>> {
+//! let mut declarations = Declarations::new();
+//! let level = declarations.item(ItemKind::Sensor { validity: 20 }, 0);
+//! let times = Times { priority: 1, period: 10, offset: 0, deadline: 10, steps: 2, quiet: 0 };
+//! let sampler = declarations.transaction(times, &[], &[level]);
+//! let mut database = Database::open(&declarations, 64)?;
+//! let job = database.plan(sampler, 0)?;
+//! database.step(job, Op::Write(level, 52))?;
+//! database.step(job, Op::Commit)?;
+//! assert_eq!(database.peek(level)?.value, 52);
+//! # Ok(())
+//! # }
+//! ```
+#![deny(missing_docs)]
+#![deny(unsafe_code)]
+
+mod database;
+mod declarations;
+mod errors;
+#[allow(unsafe_code)]
+mod ffi;
+mod replies;
+
+pub use database::{Database, Drain, Stored};
+pub use declarations::{Declarations, ItemId, ItemKind, JobId, Times, TxId};
+pub use errors::{NotOfTheSet, OpenError, PlanError, Which};
+pub use replies::{End, Entry, IdleReply, Op, Outcome, PlanRefused, StepReply};
