@@ -3,10 +3,9 @@ ghost use Rattle.std.specs.Prelude.{◌≡◌, ◌≤◌, ◌+◌, ◌<◌, ◌^
 ghost use Rattle.std.specs.Prelude.{◌-◌, ◌++◌, min, take, drop, vec_capacity, vec_len};
 ghost use Rattle.step_journal.specs.declared.entry.Entry.{Entry as Noted};
 ghost use Rattle.board.specs.Stories.{noted, plan_entry, plan_next_entry, step_entry, idle_entry, plan_answer, plan_next_answer, step_answer, idle_answer, now_of};
-ghost use Rattle.history_laws.specs.Protocol.{IsFirstRefusal};
 ghost use Rattle.set_admission.specs.Laws.{KeepsBounds};
 ghost use Rattle.lock_core.specs.Stands.{Stands};
-ghost use Rattle.lock_core.specs.Turns.{IfBlocked};
+ghost use Rattle.lock_core.specs.Promises.{IsLawful, IsLawfulStep};
 
 use board::{Board, IdleReply, StepReply};
 use item_model::Items;
@@ -70,6 +69,14 @@ impl<B: Board> AdmittedBoard<B> {
         self.admitted.is_admitted();
     }
 
+    /// That the laws hold of each history of the board, as `Core::is_lawful` says of a core: a caller learns it by this call,
+    /// which does nothing.
+    pub fn is_lawful(&self)
+        ensures { (story : List Noted) → B.stands self.now.board story → IsLawful (B.set self.now.board) story }
+    {
+        let _board = &self.board;
+    }
+
     /// Plans as the board does. Every history that it then stands for keeps the bounds.
     pub fn plan(&mut self, tx: TxId, tick: Tick) -> Result<JobId, PlanRefused>
         requires { tx.0 < length (B.set self.old.board).txns }
@@ -98,8 +105,10 @@ impl<B: Board> AdmittedBoard<B> {
         reply
     }
 
-    /// A job asks for an operation, as of the board. Blocked comes only where the job holds no lock and was not blocked
-    /// before. In every history that it then stands for each job ended by its
+    /// A job asks for an operation, as of the board, and the step promises what a core's does: the answer's entry is that of
+    /// the step and is kept, a refusal other than Blocked changes nothing, Blocked comes only where the job holds no lock and
+    /// was not blocked before, no two pending jobs hold locks in conflict, ended jobs hold nothing, no jobs wait in a cycle,
+    /// and the replies are those of the ended jobs run alone. In every history that it then stands for each job ended by its
     /// release plus its transaction's response, none was late, and where the history is steady no job ended stale or
     /// apart, and what was read is within the age bounds.
     pub fn step(&mut self, job: JobId, op: Op) -> StepReply
@@ -108,7 +117,7 @@ impl<B: Board> AdmittedBoard<B> {
         ensures admitted { self.new.admitted ≡ self.old.admitted }
         ensures answer { (story : List Noted) → B.stands self.old.board story → result ≡ step_answer (B.set self.old.board) story (length (B.kept self.old.board)) (B.room self.old.board) job op }
         ensures after { (story : List Noted) → B.stands self.old.board story → B.stands self.new.board (noted story (step_entry (now_of (B.set self.old.board) story) job op result)) }
-        ensures blocked_once { (story : List Noted) → B.stands self.old.board story → IfBlocked result (IsFirstRefusal (B.set self.old.board) story job) }
+        ensures lawful { IsLawfulStep (λ a story. B.stands a.board story) (λ a. B.set a.board) (λ a. B.kept a.board) self.old self.new job op result }
         ensures bounds { (story : List Noted) → B.stands self.new.board story → KeepsBounds self.new.admitted story }
     {
         let reply = self.board.step(job, op);

@@ -84,3 +84,25 @@ step_answer set story kept room job op = step_reply set (state_of set story) kep
 
 abbrev pub idle_answer : Set → List Entry → ℕ → ℕ → IdleReply
 idle_answer set story kept room = idle_reply set (state_of set story) kept room
+
+-- whether an answer changes nothing: it is a refusal other than Blocked
+abbrev pub IsRefusal : StepReply → Type 0
+IsRefusal (reply.NoJob ended last) = Unit {0}
+IsRefusal (reply.NotYet running) = Unit {0}
+IsRefusal (reply.Undeclared item) = Unit {0}
+IsRefusal (reply.TooEarly left) = Unit {0}
+IsRefusal (reply.Unwritten item) = Unit {0}
+IsRefusal (reply.Full room) = Unit {0}
+IsRefusal (reply.Blocked by ceiling) = ⊥
+IsRefusal (reply.Done outcome over) = ⊥
+
+-- what holds where the answer is Blocked
+abbrev pub IfBlocked : StepReply → Type 0 → Type 0
+IfBlocked (reply.NoJob ended last) P = Unit {0}
+IfBlocked (reply.NotYet running) P = Unit {0}
+IfBlocked (reply.Undeclared item) P = Unit {0}
+IfBlocked (reply.TooEarly left) P = Unit {0}
+IfBlocked (reply.Unwritten item) P = Unit {0}
+IfBlocked (reply.Full room) P = Unit {0}
+IfBlocked (reply.Blocked by ceiling) P = P
+IfBlocked (reply.Done outcome over) P = Unit {0}

@@ -3,7 +3,7 @@ ghost use Rattle.std.specs.Prelude.{◌≡◌, ℕ, ◌+◌, ◌-◌, ◌<◌, �
 ghost use Rattle.txn_set.specs.Set.{Set};
 ghost use Rattle.step_journal.specs.History.{state_of};
 ghost use Rattle.step_journal.specs.declared.entry.Entry.{Entry as Noted};
-ghost use Rattle.board.specs.Stories.{IsStory, noted, plan_entry, plan_next_entry, step_entry, idle_entry, plan_answer, plan_next_answer, step_answer, idle_answer, now_of, running_of, pending_of, ended_of, planned_of};
+ghost use Rattle.board.specs.Stories.{IsStory, IsRefusal, noted, plan_entry, plan_next_entry, step_entry, idle_entry, plan_answer, plan_next_answer, step_answer, idle_answer, now_of, running_of, pending_of, ended_of, planned_of};
 
 use crate::replies::{IdleReply, StepReply};
 use item_model::Items;
@@ -42,12 +42,13 @@ pub trait Board {
         ensures after { (story : List Noted) → stands self.old story → stands self.new (noted story (plan_next_entry tx result)) };
 
     /// A job asks for an operation. A granted one takes one tick. The item may be any: one that is no item of the set is
-    /// Undeclared.
+    /// Undeclared. A refusal other than Blocked changes nothing.
     fn step(&mut self, job: JobId, op: Op) -> StepReply
         requires { job.tx.0 < length (set self.old).txns }
         ensures fixed { (set self.new ≡ set self.old) × (room self.new ≡ room self.old) × (first self.new ≡ first self.old) }
         ensures answer { (story : List Noted) → stands self.old story → result ≡ step_answer (set self.old) story (length (kept self.old)) (room self.old) job op }
-        ensures after { (story : List Noted) → stands self.old story → stands self.new (noted story (step_entry (now_of (set self.old) story) job op result)) };
+        ensures after { (story : List Noted) → stands self.old story → stands self.new (noted story (step_entry (now_of (set self.old) story) job op result)) }
+        ensures refused { IsRefusal result → self.new ≡ self.old };
 
     /// With nothing pending, the time goes on to the least planned tick.
     fn idle(&mut self) -> IdleReply

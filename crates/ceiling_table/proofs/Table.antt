@@ -340,7 +340,7 @@ raised (suc n) item f g lt h le =
 
 kind_rises : (row : CeilRow) (writes : Bool) (k : LockKind) → kind_ceiling row k ≤ kind_ceiling row (with_lock writes k)
 kind_rises row true Free = omega arith
-kind_rises row true Read = omega arith
+kind_rises row true Read = row.ordered
 kind_rises row true Write = omega arith
 kind_rises row false Free = omega arith
 kind_rises row false Read = omega arith

@@ -2,6 +2,7 @@
 use Rattle.std.specs.Prelude.{ℕ, zero, suc, ◌+◌, ◌*◌, ◌==◌, max, Bool, true, false, not, ◌&&◌, ◌||◌, List, [], ◌∷◌, length, slice_index_or, Option, ◌<◌, if◌then◌else◌}
 use Rattle.std.specs.List.{filter}
 use Rattle.std.specs.Option.{option_map}
+use Rattle.std.proofs.Common.{le_refl}
 use Rattle.rt_base.specs.LockRule.{blocker}
 use Rattle.rt_base.specs.declared.operation.Op.{Op}
 use Rattle.rt_base.specs.declared.operation.Op.TheVariants.{Read as ReadOf, Write as WriteOf, Compute, Commit, Quit}
@@ -24,13 +25,13 @@ abbrev pub prio_of : Locks → ℕ → ℕ
 prio_of h tx = slice_index_or h.prios tx 0
 
 abbrev pub no_ceilings : CeilRow
-no_ceilings = record { write = 0; absolute = 0 }
+no_ceilings = record { write = 0; absolute = 0; ordered = le_refl 0 }
 
--- the ceiling of a held lock, and 0 where there is none; a write lock stands for a read lock too, so that it has the greater
+-- the ceiling of a held lock: the absolute ceiling for a write lock, the write ceiling for a read lock; and 0 where there is none
 abbrev pub kind_ceiling : CeilRow → LockKind → ℕ
 kind_ceiling row Free = 0
 kind_ceiling row Read = row.write
-kind_ceiling row Write = max row.write row.absolute
+kind_ceiling row Write = row.absolute
 
 abbrev pub is_lock : LockKind → Bool
 is_lock Free = false

@@ -188,3 +188,6 @@ impl Held {
         unseat(&mut self.rows, tx, &mut steps);
     }
 }
+
+#[cfg(test)]
+mod tests;

@@ -73,3 +73,13 @@ impl Holders {
         self.turned.remove(at);
     }
 }
+
+#[cfg(test)]
+impl Holders {
+    // The one field, named with its type.
+    pub fn only_field(&self) -> &Looked<Above> {
+        let Holders { turned } = self;
+        let turned: &Looked<Above> = turned;
+        turned
+    }
+}

@@ -1,13 +1,12 @@
 -- The least and the greatest stamp of some reads are those of any list with the same reads, so the stamp that a
 -- commit gives follows from the entries.
 use Rattle.std.proofs.Common.{◌≡◌, ◌⊎◌, ℕ, ◌<◌, ◌≤◌, Bool, true, false, cond, List, [], ◌∷◌, Option, None, Some, refl, ap, sym, ◌∙◌, subst, inl, inr, arith, le_antisymm}
-use Rattle.std.proofs.lemmas.Bool.{ltb-true, ltb-false}
-use Rattle.std.specs.Prelude.{nat_lt}
+use Rattle.std.proofs.lemmas.Bool.{ltb-true, ltb-false, eqb-true, or_cases, or_parts, and_parts}
 use Rattle.std.specs.List.{filter}
 use Rattle.std.specs.Option.{option_map_or}
 use Rattle.txn_set.specs.Set.{Set}
 use Rattle.item_model.specs.Kinds.{is_dated, is_derived}
-use Rattle.item_model.specs.Work.{Work, older, oldest, newer, newest, stamp_for}
+use Rattle.item_model.specs.Work.{Work, is_older, older, oldest, is_newer, newer, newest, stamp_for}
 use Rattle.item_model.specs.declared.stored.OutsideRead.{OutsideRead}
 use Rattle.history_laws.proofs.Members.{In, in_filter, filter_in}
 
@@ -19,14 +18,22 @@ pub oldest_none : (rs : List OutsideRead) → oldest rs ≡ None → rs ≡ []
 oldest_none [] e = refl
 oldest_none (r ∷ rs) e = absurd cc
 
-older_at : (rs : List OutsideRead) (r s x : OutsideRead) (b : Bool) → nat_lt s.stamp r.stamp ≡ b → IsOldest rs s → cond b s r ≡ x → IsOldest (r ∷ rs) x
+older_le : (s r : OutsideRead) → is_older s r ≡ true → s.stamp ≤ r.stamp
+unfolding is_older
+older_le s r e = elim (or_cases _ _ e) [ inl lt ↦ omega (arith, ltb-true s.stamp r.stamp lt) | inr q ↦ omega (arith, eqb-true s.stamp r.stamp (and_parts _ _ q).0) ]
+
+not_older : (s r : OutsideRead) → is_older s r ≡ false → r.stamp ≤ s.stamp
+unfolding is_older
+not_older s r e = ltb-false s.stamp r.stamp (or_parts _ _ e).0
+
+older_at : (rs : List OutsideRead) (r s x : OutsideRead) (b : Bool) → is_older s r ≡ b → IsOldest rs s → cond b s r ≡ x → IsOldest (r ∷ rs) x
 older_at rs r s x true e h is = subst (IsOldest (r ∷ rs)) is (record {
   here = inr h.here;
-  least = λ q i. elim i [ inl same ↦ (let lt : s.stamp < r.stamp = ltb-true _ _ e in omega (arith, ap (λ (k : OutsideRead). k.stamp) same)) | inr j ↦ h.least q j ];
+  least = λ q i. elim i [ inl same ↦ (let le : s.stamp ≤ r.stamp = older_le s r e in omega (arith, ap (λ (k : OutsideRead). k.stamp) same)) | inr j ↦ h.least q j ];
 })
 older_at rs r s x false e h is = subst (IsOldest (r ∷ rs)) is (record {
   here = inl refl;
-  least = λ q i. elim i [ inl same ↦ omega (arith, ap (λ (k : OutsideRead). k.stamp) same) | inr j ↦ (let le : r.stamp ≤ s.stamp = ltb-false _ _ e in omega (arith, h.least q j)) ];
+  least = λ q i. elim i [ inl same ↦ omega (arith, ap (λ (k : OutsideRead). k.stamp) same) | inr j ↦ (let le : r.stamp ≤ s.stamp = not_older s r e in omega (arith, h.least q j)) ];
 })
 
 oldest_at : (rs : List OutsideRead) (r x : OutsideRead) (o : Option OutsideRead) → oldest rs ≡ o → ((s : OutsideRead) → o ≡ Some s → IsOldest rs s) → Some (older r o) ≡ Some x → IsOldest (r ∷ rs) x
@@ -34,7 +41,7 @@ oldest_at rs r x None e h is =
     let same : r ≡ x = cc in
     let none : rs ≡ [] = oldest_none rs e in
     subst (λ (k : List OutsideRead). IsOldest (r ∷ k) x) (sym none) (record { here = inl (sym same); least = λ q i. elim i [ inl k ↦ omega (arith, ap (λ (k : OutsideRead). k.stamp) (k ∙ same)) | inr j ↦ absurd j ] })
-oldest_at rs r x (Some s) e h is = let same : older r (Some s) ≡ x = cc in older_at rs r s x (nat_lt s.stamp r.stamp) refl (h s refl) same
+oldest_at rs r x (Some s) e h is = let same : older r (Some s) ≡ x = cc in older_at rs r s x (is_older s r) refl (h s refl) same
 
 pub oldest_is : (rs : List OutsideRead) (x : OutsideRead) → oldest rs ≡ Some x → IsOldest rs x
 oldest_is [] x e = absurd cc
@@ -50,14 +57,22 @@ pub newest_none : (rs : List OutsideRead) → newest rs ≡ None → rs ≡ []
 newest_none [] e = refl
 newest_none (r ∷ rs) e = absurd cc
 
-newer_at : (rs : List OutsideRead) (r s x : OutsideRead) (b : Bool) → nat_lt r.stamp s.stamp ≡ b → IsNewest rs s → cond b s r ≡ x → IsNewest (r ∷ rs) x
+newer_le : (s r : OutsideRead) → is_newer s r ≡ true → r.stamp ≤ s.stamp
+unfolding is_newer
+newer_le s r e = elim (or_cases _ _ e) [ inl lt ↦ omega (arith, ltb-true r.stamp s.stamp lt) | inr q ↦ omega (arith, eqb-true s.stamp r.stamp (and_parts _ _ q).0) ]
+
+not_newer : (s r : OutsideRead) → is_newer s r ≡ false → s.stamp ≤ r.stamp
+unfolding is_newer
+not_newer s r e = ltb-false r.stamp s.stamp (or_parts _ _ e).0
+
+newer_at : (rs : List OutsideRead) (r s x : OutsideRead) (b : Bool) → is_newer s r ≡ b → IsNewest rs s → cond b s r ≡ x → IsNewest (r ∷ rs) x
 newer_at rs r s x true e h is = subst (IsNewest (r ∷ rs)) is (record {
   here = inr h.here;
-  most = λ q i. elim i [ inl same ↦ (let lt : r.stamp < s.stamp = ltb-true _ _ e in omega (arith, ap (λ (k : OutsideRead). k.stamp) same)) | inr j ↦ h.most q j ];
+  most = λ q i. elim i [ inl same ↦ (let le : r.stamp ≤ s.stamp = newer_le s r e in omega (arith, ap (λ (k : OutsideRead). k.stamp) same)) | inr j ↦ h.most q j ];
 })
 newer_at rs r s x false e h is = subst (IsNewest (r ∷ rs)) is (record {
   here = inl refl;
-  most = λ q i. elim i [ inl same ↦ omega (arith, ap (λ (k : OutsideRead). k.stamp) same) | inr j ↦ (let le : s.stamp ≤ r.stamp = ltb-false _ _ e in omega (arith, h.most q j)) ];
+  most = λ q i. elim i [ inl same ↦ omega (arith, ap (λ (k : OutsideRead). k.stamp) same) | inr j ↦ (let le : s.stamp ≤ r.stamp = not_newer s r e in omega (arith, h.most q j)) ];
 })
 
 newest_at : (rs : List OutsideRead) (r x : OutsideRead) (o : Option OutsideRead) → newest rs ≡ o → ((s : OutsideRead) → o ≡ Some s → IsNewest rs s) → Some (newer r o) ≡ Some x → IsNewest (r ∷ rs) x
@@ -65,7 +80,7 @@ newest_at rs r x None e h is =
     let same : r ≡ x = cc in
     let none : rs ≡ [] = newest_none rs e in
     subst (λ (k : List OutsideRead). IsNewest (r ∷ k) x) (sym none) (record { here = inl (sym same); most = λ q i. elim i [ inl k ↦ omega (arith, ap (λ (k : OutsideRead). k.stamp) (k ∙ same)) | inr j ↦ absurd j ] })
-newest_at rs r x (Some s) e h is = let same : newer r (Some s) ≡ x = cc in newer_at rs r s x (nat_lt r.stamp s.stamp) refl (h s refl) same
+newest_at rs r x (Some s) e h is = let same : newer r (Some s) ≡ x = cc in newer_at rs r s x (is_newer s r) refl (h s refl) same
 
 pub newest_is : (rs : List OutsideRead) (x : OutsideRead) → newest rs ≡ Some x → IsNewest rs x
 newest_is [] x e = absurd cc

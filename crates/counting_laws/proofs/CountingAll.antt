@@ -16,6 +16,7 @@ use Rattle.counting_laws.specs.Counting.{IsCounted, IsTimed, refusal_count}
 use Rattle.counting_laws.proofs.Counts.{legal_counted, within_jobs, below_all, greatest_bound}
 use Rattle.counting_laws.proofs.JobCounts.{legal_jobs, at_most_once}
 use Rattle.counting_laws.proofs.Idles.{idle_releases}
+use Rattle.counting_laws.proofs.PlanOnce.{planned_once}
 
 -- of some jobs whose serials rise and lie from b below k there are at most k - b
 ended_at : (n b k : ℕ) (e : EndedJob) (es : List EndedJob) (t : Bool) → (e.job.tx.0 == n) ≡ t → (e.job.tx.0 ≡ n → (b ≤ e.job.serial) × (e.job.serial < k))
@@ -37,6 +38,7 @@ entries_few set entries ok legal =
     let j = legal_jobs set entries ok legal in
     let serial = legal_serial set entries ok legal in
     record {
+      plans = λ job. planned_once set entries job ok legal;
       steps = j.steps;
       refusals = λ job. at_most_once (refused_all (λ _. false) entries job) (refusal_count entries job) (j.refusals job);
       idles = idle_releases set entries ok legal;

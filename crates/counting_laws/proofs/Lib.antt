@@ -4,4 +4,5 @@ pub mod Rooms
 pub mod Counts
 pub mod JobCounts
 pub mod Idles
+mod PlanOnce
 pub mod CountingAll

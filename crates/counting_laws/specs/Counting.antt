@@ -8,10 +8,10 @@ use Rattle.step_journal.specs.declared.entry.Entry.{Entry}
 use Rattle.step_journal.specs.declared.entry.Entry.TheVariants.{Planned, Step, Blocked, Idle}
 use Rattle.txn_set.specs.Set.{Set, txn_of, IsCompiled}
 use Rattle.txn_set.specs.Ceilings.{greatest}
-use Rattle.step_journal.specs.State.{same_job, pending, new_row}
+use Rattle.step_journal.specs.State.{State, same_job, pending, new_row, opening}
 use Rattle.step_journal.specs.Running.{job_row}
-use Rattle.step_journal.specs.Step.{plans_of}
-use Rattle.step_journal.specs.History.{IsLegal, state_of}
+use Rattle.step_journal.specs.Step.{plans_of, next_job}
+use Rattle.step_journal.specs.History.{state_after, IsLegal, state_of}
 use Rattle.step_journal.specs.Serial.{ops_of}
 
 -- the entries that the job of a plan may have: its plan, its steps, one refusal, and the idling before its release
@@ -35,6 +35,17 @@ plans_in n (Idle from to) = 0
 abbrev pub plan_count : List Entry → ℕ → ℕ
 plan_count [] n = 0
 plan_count (e ∷ es) n = plans_in n e + plan_count es n
+
+-- how often a job was planned: a plan is of the next job of its transaction
+abbrev pub planned_by : JobId → State → Entry → ℕ
+planned_by job s (Planned tx tick) = if same_job job (next_job s tx.0) then 1 else 0
+planned_by job s (Step by op outcome over tick) = 0
+planned_by job s (Blocked by op on ceiling tick) = 0
+planned_by job s (Idle from to) = 0
+
+abbrev pub planned_times : Set → State → List Entry → JobId → ℕ
+planned_times set s [] job = 0
+planned_times set s (e ∷ es) job = planned_by job s e + planned_times set (state_after set s e) es job
 
 -- the room of so many jobs of each transaction, where a transaction goes by its number in the list
 abbrev pub room_of_jobs : List TxnDecl → (ℕ → ℕ) → ℕ
@@ -77,6 +88,7 @@ pub record ReleasesAJob (set : Set) (before : List Entry) (from to : ℕ) : Type
 -- The entries are few: each job has one plan, at most its steps and one refusal, and each idling releases a job.
 -- No more jobs of a transaction end than were planned.
 pub record IsCounted (set : Set) (entries : List Entry) : Type 0 where
+  pub plans : (job : JobId) → planned_times set (opening set) entries job ≤ 1
   pub steps : (job : JobId) → length (ops_of entries job) ≤ (txn_of set job.tx.0).steps
   pub refusals : (job : JobId) → refusal_count entries job ≤ 1
   pub idles :

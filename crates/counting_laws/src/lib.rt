@@ -3,7 +3,7 @@
 
 ghost use Rattle.counting_laws.specs.Counting.{EntriesAreFew, TimeIsBounded};
 
-/// A job takes at most its declared steps and is refused at most once, and each idling releases a job; a legal history has at
+/// A job is planned at most once, takes at most its declared steps and is refused at most once, and each idling releases a job; a legal history has at
 /// most the entries for which its planned jobs have room, and fewer than 2^42. Its time, in ticks, goes at most the greatest period beyond the last planned
 /// tick.
 pub fn counting()

@@ -1,5 +1,5 @@
 -- One more legal entry: the history with it is legal, and its state is the one that the step gives.
-use Rattle.std.proofs.Common.{◌≡◌, ℕ, ◌+◌, ◌<◌, ◌==◌, Bool, true, false, cond, List, [], ◌∷◌, ◌++◌, Some, set as with_item, refl, ap, sym, ◌∙◌, arith}
+use Rattle.std.proofs.Common.{◌≡◌, ℕ, ◌+◌, ◌<◌, ◌==◌, Bool, true, false, cond, List, [], ◌∷◌, ◌++◌, Option, None, Some, set as with_item, refl, ap, sym, ◌∙◌, arith}
 use Rattle.std.proofs.lemmas.Bool.{ne_eqb}
 use Rattle.step_journal.specs.declared.entry.Entry.{Entry}
 use Rattle.step_journal.specs.declared.entry.Entry.TheVariants.{Planned}
@@ -27,6 +27,18 @@ pushed set es e next legal h = record {
   legal = legal_more set (opening set) es e legal (ap entry_given h);
   state = sym (state_more set (opening set) es e ∙ ap (state_given (state_of set es)) h);
 }
+
+pub given_is : (s : State) (e : Entry) (o : Option (Entry × State)) → entry_given o ≡ Some e → o ≡ Some (e, state_given s o)
+given_is s e None h = absurd cc
+given_is s e (Some p) h = let same : p.0 ≡ e = cc in ap (λ (x : Entry). Some (x, p.1)) same
+
+last_from : (set : Set) (s : State) (es : List Entry) (e : Entry) → IsLegalFrom set s (es ++ e ∷ []) → step set (states_after set s es) (event_of e) ≡ Some (e, states_after set s (es ++ e ∷ []))
+last_from set s [] e h = given_is s e (step set s (event_of e)) h.0
+last_from set s (x ∷ es) e h = last_from set (state_after set s x) es e h.1
+
+-- the last entry of a legal history is that of the step, and the state after it the step's
+pub last_step : (set : Set) (es : List Entry) (e : Entry) → IsLegal set (es ++ e ∷ []) → step set (state_of set es) (event_of e) ≡ Some (e, state_of set (es ++ e ∷ []))
+last_step set es e legal = last_from set (opening set) es e legal
 
 pub plan_later_is : (set : Set) (s : State) (tx tick : ℕ) → may_plan set s tx tick ≡ true → s.now < tick
     → step set s (plan tx tick) ≡ Some (

@@ -104,3 +104,16 @@ impl Ranking {
         })
     }
 }
+
+#[cfg(test)]
+impl Ranking {
+    // The three fields, each named.
+    pub fn only_fields(&self) -> (&Looked<Prio>, &Looked<TxId>, &Looked<u32>) {
+        let Ranking {
+            prios,
+            order,
+            ranks,
+        } = self;
+        (prios, order, ranks)
+    }
+}

@@ -189,3 +189,6 @@ fn stop_waiting<L: Ledger>(
         left = left.without(rank);
     }
 }
+
+#[cfg(test)]
+mod tests;

@@ -1,6 +1,6 @@
 -- The rules on one job: what it has read from outside and written (own reads, private writes), the verdict of its commit
 -- (staleness, relative validity), and the items after it (install, stamps).
-use Rattle.std.specs.Prelude.{ℕ, ◌-◌, ◌==◌, nat_lt, Bool, false, not, ◌||◌, if◌then◌else◌, ℤ, pos, List, [], ◌∷◌, Option, None, Some, is_some, map, slice_set, slice_index_or}
+use Rattle.std.specs.Prelude.{ℕ, ◌-◌, ◌==◌, nat_lt, Bool, false, not, ◌&&◌, ◌||◌, if◌then◌else◌, ℤ, pos, List, [], ◌∷◌, Option, None, Some, is_some, map, slice_set, slice_index_or}
 use Rattle.std.specs.List.{find, filter, filter_map, list_all, fold}
 use Rattle.std.specs.Option.{option_map_or}
 use Rattle.rt_base.specs.declared.ids.ItemId.{ItemId}
@@ -106,10 +106,17 @@ is_above age (Some validity) = nat_lt validity age
 abbrev pub is_expired : List ItemDecl → ℕ → OutsideRead → Bool
 is_expired decls tick r = is_above (tick - r.stamp) (validity_of decls r.item.0)
 
--- the read with the least stamp and the one with the greatest, each the first among equals
+-- whether a read has a lesser stamp than another, and whether it has a greater one; among equal stamps, the lesser item
+unfoldable pub is_older : OutsideRead → OutsideRead → Bool
+is_older s r = nat_lt s.stamp r.stamp || (s.stamp == r.stamp && nat_lt s.item.0 r.item.0)
+
+unfoldable pub is_newer : OutsideRead → OutsideRead → Bool
+is_newer s r = nat_lt r.stamp s.stamp || (s.stamp == r.stamp && nat_lt s.item.0 r.item.0)
+
+-- the read with the least stamp and the one with the greatest, each the first in item order among equals
 abbrev pub older : OutsideRead → Option OutsideRead → OutsideRead
 older r None = r
-older r (Some s) = if nat_lt s.stamp r.stamp then s else r
+older r (Some s) = if is_older s r then s else r
 
 abbrev pub oldest : List OutsideRead → Option OutsideRead
 oldest [] = None
@@ -117,7 +124,7 @@ oldest (r ∷ rs) = Some (older r (oldest rs))
 
 abbrev pub newer : OutsideRead → Option OutsideRead → OutsideRead
 newer r None = r
-newer r (Some s) = if nat_lt r.stamp s.stamp then s else r
+newer r (Some s) = if is_newer s r then s else r
 
 abbrev pub newest : List OutsideRead → Option OutsideRead
 newest [] = None
@@ -129,7 +136,7 @@ parted within (Some a) (Some b) = if nat_lt within (b.stamp - a.stamp) then Some
 parted within (Some a) None = None
 parted within None b = None
 
--- the oldest and the newest read of a relative set, where they lie too far apart
+-- the oldest and the newest read of a relative set, whatever order its items have, where they lie too far apart
 abbrev pub apart_in : Work → TogetherDecl → Option (OutsideRead × OutsideRead)
 apart_in work group = parted group.within (oldest (reads_of work group.items)) (newest (reads_of work group.items))
 

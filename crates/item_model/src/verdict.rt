@@ -1,7 +1,7 @@
 //! The rules of a commit over what a job read: the staleness rule and the relative rule, after Ramamritham (1993).
 ghost use Rattle.std.specs.Prelude.{◌≡◌, ◌-◌};
 ghost use Rattle.std.specs.List.{find};
-ghost use Rattle.item_model.specs.Work.{of_reads, reads_of, is_above, is_expired, older, oldest, newer, newest, parted, apart_in, first_apart};
+ghost use Rattle.item_model.specs.Work.{of_reads, reads_of, is_above, is_expired, is_older, is_newer, older, oldest, newer, newest, parted, apart_in, first_apart};
 
 use crate::decl::ItemDecl;
 use crate::kinds::validity;
@@ -45,12 +45,26 @@ pub fn first_expired(
     None
 }
 
-/// The older of two reads, and the first of equal ones.
+#[tactic(auto, unfolding(crate::specs::Work::is_older))]
+fn is_older(read: OutsideRead, other: OutsideRead) -> bool
+    ensures { result ≡ is_older read other }
+{
+    read.stamp < other.stamp || read.stamp == other.stamp && read.item.0 < other.item.0
+}
+
+#[tactic(auto, unfolding(crate::specs::Work::is_newer))]
+fn is_newer(read: OutsideRead, other: OutsideRead) -> bool
+    ensures { result ≡ is_newer read other }
+{
+    other.stamp < read.stamp || read.stamp == other.stamp && read.item.0 < other.item.0
+}
+
+/// The older of two reads, and of equally old ones the first in item order.
 pub(crate) fn older(read: OutsideRead, best: Option<OutsideRead>) -> OutsideRead
     ensures { result ≡ older read best }
 {
     match best {
-        Some(other) if other.stamp < read.stamp => other,
+        Some(other) if is_older(other, read) => other,
         _ => read,
     }
 }
@@ -59,7 +73,7 @@ fn newer(read: OutsideRead, best: Option<OutsideRead>) -> OutsideRead
     ensures { result ≡ newer read best }
 {
     match best {
-        Some(other) if read.stamp < other.stamp => other,
+        Some(other) if is_newer(other, read) => other,
         _ => read,
     }
 }
@@ -119,8 +133,8 @@ fn apart_in(reads: &[OutsideRead], group: &TogetherDecl) -> Option<(OutsideRead,
     )
 }
 
-/// The oldest and the newest read of the first relative set whose reads lie more than its interval apart. Two scans of the
-/// reads for each item of a set.
+/// The oldest and the newest read of the first relative set whose reads lie more than its interval apart, each the first in
+/// item order among equally old ones, whatever order the set's items have. Two scans of the reads for each item of a set.
 pub fn first_apart(
     together: &[TogetherDecl],
     reads: &[OutsideRead],

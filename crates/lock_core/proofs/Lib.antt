@@ -1,3 +1,4 @@
 pub mod Refused
 pub mod Stood
 pub mod Turned
+pub mod Lawful

@@ -11,8 +11,7 @@ use Rattle.history_laws.specs.Protocol.{IsFirstRefusal}
 use Rattle.history_laws.proofs.Never.{refused_once}
 use Rattle.board.specs.declared.replies.StepReply.{StepReply}
 use Rattle.board.specs.declared.replies.StepReply.TheVariants as reply
-use Rattle.board.specs.Stories.{noted, step_entry}
-use Rattle.lock_core.specs.Turns.{IfBlocked}
+use Rattle.board.specs.Stories.{noted, step_entry, IfBlocked}
 
 legal_until : (set : Set) (s : State) (es : List Entry) (e : Entry) (rest : List Entry) → IsLegalFrom set s (es ++ e ∷ rest) → IsLegalFrom set s (es ++ e ∷ [])
 legal_until set s [] e rest h = (h.0, tt)

@@ -4,7 +4,7 @@ use Rattle.step_journal.specs.declared.entry.Entry.{Entry}
 use Rattle.txn_set.specs.Set.{Set, IsCompiled}
 use Rattle.step_journal.specs.State.{State, opening}
 use Rattle.step_journal.specs.Journal.{JournalSeen}
-use Rattle.step_journal.specs.History.{state_of}
+use Rattle.step_journal.specs.History.{IsLegal, state_of}
 use Rattle.history_laws.proofs.Never.{never_stuck}
 use Rattle.history_laws.proofs.SerialAll.{no_conflict, ended_hold_nothing, pending_alone, serial}
 use Rattle.history_laws.proofs.DelayAll.{one_delay}
@@ -40,11 +40,9 @@ tally_fits core tx t is says =
 pub fit : (core : CoreSeen) → IsCore core → Places core.set core.tables
 fit core is = places core.set core.tables (state_of core.set is.story) is.stands.are (legal_state core is.story is.stands)
 
-pub lawful : (core : CoreSeen) (story : List Entry) → Stands core story → IsLawful core.set story
-lawful core story h =
-    let set = core.set in
-    let ok = h.is_story.compiled in
-    let legal = h.is_story.legal in
+-- the laws hold of each legal history
+pub lawful_story : (set : Set) (story : List Entry) → IsCompiled set → IsLegal set story → IsLawful set story
+lawful_story set story ok legal =
     record {
       no_conflict = λ a b x y i. no_conflict set story a b x y i ok legal;
       ended_hold_nothing = λ n e. ended_hold_nothing set story n e ok legal;
@@ -54,6 +52,9 @@ lawful core story h =
       pending_alone = λ job row. pending_alone set story job row ok legal;
       one_delay = λ job. one_delay set story job ok legal;
     }
+
+pub lawful : (core : CoreSeen) (story : List Entry) → Stands core story → IsLawful core.set story
+lawful core story h = lawful_story core.set story h.is_story.compiled h.is_story.legal
 
 pub opens : (set : Set) (journal : JournalSeen) (tables : TablesSeen) (room : ℕ) → IsCompiled set → room ≤ 2 ^ 20 → journal ≡ record { room = room; first = 0; kept = [] } → AreTables set tables (opening set)
     → Stands (core_of set journal tables) []

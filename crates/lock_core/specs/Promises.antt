@@ -1,4 +1,4 @@
--- The laws of the histories that a core stands for.
+-- The laws of the histories that a board stands for, and what a step of it promises.
 use Rattle.std.specs.Prelude.{◌≡◌, ◌≢◌, ℕ, true, false, ◌||◌, List, ◌∷◌, ◌++◌, Some, slice_get}
 use Rattle.rt_base.specs.declared.ids.JobId.{JobId}
 use Rattle.rt_base.specs.declared.operation.Op.{Op}
@@ -9,9 +9,13 @@ use Rattle.txn_set.specs.Set.{Set}
 use Rattle.item_model.specs.Work.{has_read, has_written}
 use Rattle.step_journal.specs.State.{State, Row}
 use Rattle.step_journal.specs.Running.{job_row}
+use Rattle.step_journal.specs.Step.{ask}
 use Rattle.step_journal.specs.History.{state_of}
 use Rattle.step_journal.specs.Serial.{IsSerial}
 use Rattle.history_laws.specs.Protocol.{NeverStuck, IsFirstRefusal, HoldsNothing, IsAloneSoFar, DelayedByOne}
+use Rattle.board.specs.declared.replies.StepReply.{StepReply}
+use Rattle.board.specs.Stories.{step_entry, now_of, IsRefusal, IfBlocked}
+use Rattle.lock_core.specs.Turns.{IsTurnOf}
 
 -- of two pending jobs none holds a lock on an item on which the other holds a write lock
 abbrev pub HasNoConflict : State → Type 0
@@ -36,3 +40,15 @@ pub record IsLawful (set : Set) (story : List Entry) : Type 0 where
   pub pending_alone :
       (job : JobId) (row : Row) → job_row (state_of set story).rows job ≡ Some row → IsAloneSoFar set story row
   pub one_delay : (job : JobId) → DelayedByOne set story job
+
+-- What a step promises of a board, by what it stands for, its set and the entries that it keeps, before the call and after.
+pub record IsLawfulStep {B : Type 0} (stands_for : B → List Entry → Type 0) (set_of : B → Set) (kept_by : B → List Entry) (old new : B) (job : JobId) (op : Op) (reply : StepReply) : Type 0 where
+  pub turn :
+      (story : List Entry) → stands_for old story
+      → IsTurnOf stands_for set_of kept_by old new story (ask job op) (step_entry (now_of (set_of old) story) job op reply)
+  pub refused : IsRefusal reply → new ≡ old
+  pub blocked_once : (story : List Entry) → stands_for old story → IfBlocked reply (IsFirstRefusal (set_of old) story job)
+  pub no_conflict : (story : List Entry) → stands_for new story → HasNoConflict (state_of (set_of new) story)
+  pub ended_hold_nothing : (story : List Entry) → stands_for new story → EndedJobsHoldNothing (state_of (set_of new) story)
+  pub no_cycle : (story : List Entry) → stands_for new story → NeverStuck (set_of new) (state_of (set_of new) story)
+  pub serial : (story : List Entry) → stands_for new story → IsSerial (set_of new) story

@@ -1,15 +1,14 @@
 //! The calls that change a core.
 ghost use Rattle.std.specs.Prelude.{◌≡◌, ◌+◌, ◌-◌, ◌<◌, ◌++◌, ℕ, List, length, min, take, drop, vec_len, vec_capacity, OnErr};
 ghost use Rattle.step_journal.specs.declared.entry.Entry.{Entry as Noted};
-ghost use Rattle.step_journal.specs.Step.{plan as planned, ask, idle as idled};
+ghost use Rattle.step_journal.specs.Step.{plan as planned, idle as idled};
 ghost use Rattle.step_journal.specs.History.{state_of};
-ghost use Rattle.step_journal.specs.Serial.{IsSerial};
-ghost use Rattle.history_laws.specs.Protocol.{NeverStuck, IsFirstRefusal};
 ghost use Rattle.board.specs.Answers.{next_tick_for};
-ghost use Rattle.board.specs.Stories.{plan_entry, plan_next_entry, step_entry, idle_entry, plan_answer, plan_next_answer, step_answer, idle_answer, now_of};
+ghost use Rattle.board.specs.Stories.{plan_entry, plan_next_entry, idle_entry, plan_answer, plan_next_answer, step_answer, idle_answer, now_of};
+ghost use Rattle.lock_core.specs.Seen.{set_of, kept_by};
 ghost use Rattle.lock_core.specs.Stands.{Stands};
-ghost use Rattle.lock_core.specs.Turns.{IsTurn, IsRefusal, IfBlocked, IsIdleRefusal};
-ghost use Rattle.lock_core.specs.Promises.{HasNoConflict, EndedJobsHoldNothing};
+ghost use Rattle.lock_core.specs.Turns.{IsTurn, IsIdleRefusal};
+ghost use Rattle.lock_core.specs.Promises.{IsLawfulStep};
 
 use crate::core_board::Core;
 use crate::turns;
@@ -57,13 +56,7 @@ impl Core {
         requires { job.tx.0 < length self.old.set.txns }
         ensures fixed { (self.new.set ≡ self.old.set) × (self.new.journal.room ≡ self.old.journal.room) × (self.new.journal.first ≡ self.old.journal.first) }
         ensures answer { (story : List Noted) → Stands self.old story → result ≡ step_answer self.old.set story (length self.old.journal.kept) self.old.journal.room job op }
-        ensures turn { (story : List Noted) → Stands self.old story → IsTurn self.old self.new story (ask job op) (step_entry (now_of self.old.set story) job op result) }
-        ensures refused { IsRefusal result → self.new ≡ self.old }
-        ensures blocked_once { (story : List Noted) → Stands self.old story → IfBlocked result (IsFirstRefusal self.old.set story job) }
-        ensures no_conflict { (story : List Noted) → Stands self.new story → HasNoConflict (state_of self.new.set story) }
-        ensures ended_hold_nothing { (story : List Noted) → Stands self.new story → EndedJobsHoldNothing (state_of self.new.set story) }
-        ensures no_cycle { (story : List Noted) → Stands self.new story → NeverStuck self.new.set (state_of self.new.set story) }
-        ensures serial { (story : List Noted) → Stands self.new story → IsSerial self.new.set story }
+        ensures lawful { IsLawfulStep Stands set_of kept_by self.old self.new job op result }
     {
         turns::step(&self.set, &mut self.journal, &mut self.tables, job, op)
     }

@@ -4,11 +4,11 @@ ghost use Rattle.rt_base.specs.declared.ids.JobId.{JobId as Job};
 ghost use Rattle.step_journal.specs.declared.entry.Entry.{Entry as Noted};
 ghost use Rattle.step_journal.specs.Step.{plan as planned, ask, idle as idled};
 ghost use Rattle.step_journal.specs.History.{state_of};
-ghost use Rattle.board.specs.Stories.{plan_entry, step_entry, idle_entry, plan_answer, step_answer, idle_answer, now_of};
+ghost use Rattle.board.specs.Stories.{IsRefusal, plan_entry, step_entry, idle_entry, plan_answer, step_answer, idle_answer, now_of};
 ghost use Rattle.core_tables.specs.Legal.{IsGranted, IsBlocked, IsIdle};
 ghost use Rattle.lock_core.specs.Seen.{core_of};
 ghost use Rattle.lock_core.specs.Stands.{Stands, IsCore};
-ghost use Rattle.lock_core.specs.Turns.{IsTurn, IsRefusal, IsIdleRefusal};
+ghost use Rattle.lock_core.specs.Turns.{IsTurn, IsIdleRefusal};
 
 use board::{IdleReply, StepReply};
 use core_tables::CoreTables;

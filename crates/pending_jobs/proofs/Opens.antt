@@ -16,7 +16,7 @@ use Rattle.txn_set.specs.Set.{Set, IsCompiled, no_txn, txn_of}
 use Rattle.step_journal.specs.State.{Row, row_of}
 use Rattle.history_laws.proofs.Calendar.{times_at}
 use Rattle.pending_jobs.specs.declared.head.Head.{Head}
-use Rattle.pending_jobs.specs.Rows.{Accesses, AreRows, ceil_row, accesses_of}
+use Rattle.pending_jobs.specs.Rows.{Accesses, AreRows, HasCeilings, accesses_of}
 use Rattle.pending_jobs.specs.Tables.{head_at, row_at, row_by, rows_by, row_lock, no_job, waited_job, opening_job, access_of, IsTable}
 use Rattle.pending_jobs.proofs.RowsBy.{rows_are, rows_at}
 
@@ -78,7 +78,7 @@ module _ (set : Set) (heads : List (Option Head)) (works : List Job) (held : Loc
     };
   }
 
-  pub opening_are_rows : length held.ceilings ≡ length set.items → ((item : ℕ) → item < length set.items → get_or held.ceilings item no_ceilings ≡ ceil_row set item)
+  pub opening_are_rows : length held.ceilings ≡ length set.items → ((item : ℕ) → item < length set.items → HasCeilings set item (get_or held.ceilings item no_ceilings))
       → AreRows set (record { facts = record { ceilings = held.ceilings; prios = held.prios; deadlines = deadlines; accesses = map access_of works }; rows = rows_by heads works waiting.on }) (map (λ t. None) set.txns)
   opening_are_rows size are = record {
     facts = record {

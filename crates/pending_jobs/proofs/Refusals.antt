@@ -1,5 +1,5 @@
 -- The refusal by the table of locks is that of the rows.
-use Rattle.std.proofs.Common.{◌≡◌, ◌≢◌, ℕ, zero, suc, ◌<◌, ◌≤◌, ◌==◌, Bool, true, false, not, ◌&&◌, ◌||◌, cond, max, List, [], ◌∷◌, length, map, Option, None, Some, get_or, refl, ap, sym, ◌∙◌, subst, inl, inr, arith}
+use Rattle.std.proofs.Common.{◌≡◌, ◌≢◌, ℕ, zero, suc, ◌<◌, ◌≤◌, ◌==◌, Bool, true, false, not, ◌&&◌, ◌||◌, cond, List, [], ◌∷◌, length, map, Option, None, Some, get_or, refl, ap, sym, ◌∙◌, subst, inl, inr, arith}
 use Rattle.std.proofs.Math.Nat.{le-max_left, le-max_right}
 use Rattle.std.proofs.lemmas.Bool.{cases_eq, cases_lt, cases_order, eq-eqb, ne_eqb, or_cases, or_left, or_right, and_parts, and_from, not-true, not_from_false}
 use Rattle.std.specs.Option.{option_map}
@@ -21,8 +21,8 @@ use Rattle.step_journal.specs.State.{Row, row_of, pending, prio}
 use Rattle.step_journal.specs.LockRule.{locks, lock_ceiling, ceiling_of, needs_lock, others, refusal}
 use Rattle.history_laws.proofs.Members.{In, in_filter, filter_in, in_pending, pending_in}
 use Rattle.history_laws.proofs.Invariant.{in_range}
-use Rattle.history_laws.proofs.Holding.{locks_tell, write_le, read_le, write_le_absolute}
-use Rattle.pending_jobs.specs.Rows.{Facts, Accesses, AreFactsOf, ceil_row}
+use Rattle.history_laws.proofs.Holding.{locks_tell, write_le, read_le}
+use Rattle.pending_jobs.specs.Rows.{Facts, Accesses, AreFactsOf}
 use Rattle.pending_jobs.specs.Tables.{work_lock, row_lock, Agree}
 use Rattle.pending_jobs.proofs.Blockers.{SameBlockers, Answers, Neither, Both, answers}
 use Rattle.pending_jobs.proofs.Highs.{prio_is}
@@ -83,10 +83,10 @@ write_of_work true r = refl
 write_of_work false true = refl
 write_of_work false false = refl
 
-ceiling_of_work : (row : CeilRow) (w r : Bool) (c : ℕ) → row.write ≤ row.absolute → (w ≡ true → row.absolute ≤ c) → (r ≡ true → row.write ≤ c) → kind_ceiling row (cond w kind.Write (cond r kind.Read kind.Free)) ≤ c
-ceiling_of_work row true r c le a b = let top : row.absolute ≤ c = a refl in omega (arith, le)
-ceiling_of_work row false true c le a b = b refl
-ceiling_of_work row false false c le a b = omega arith
+ceiling_of_work : (row : CeilRow) (w r : Bool) (c : ℕ) → (w ≡ true → row.absolute ≤ c) → (r ≡ true → row.write ≤ c) → kind_ceiling row (cond w kind.Write (cond r kind.Read kind.Free)) ≤ c
+ceiling_of_work row true r c a b = a refl
+ceiling_of_work row false true c a b = b refl
+ceiling_of_work row false false c a b = omega arith
 
 ceiling_is_lock : (row : CeilRow) (k : LockKind) → 0 < kind_ceiling row k → is_lock k ≡ true
 ceiling_is_lock row kind.Free h = absurd (omega arith)
@@ -98,14 +98,23 @@ module _ (rows : List (Option Row)) (held : Locks) (waiting : Waiting) (deadline
   abbrev facts : Facts
   facts = record { ceilings = held.ceilings; prios = held.prios; deadlines = deadlines; accesses = accesses }
 
+  abbrev row_at : ℕ → CeilRow
+  row_at i = get_or held.ceilings i no_ceilings
+
   abbrev at_item : ℕ → ℕ → ℕ
-  at_item tx i = kind_ceiling (get_or held.ceilings i no_ceilings) (lock_at held tx i)
+  at_item tx i = kind_ceiling (row_at i) (lock_at held tx i)
 
   lock_is : (tx i : ℕ) (x : Row) → row_of rows tx ≡ Some x → i < length held.ceilings → lock_at held tx i ≡ work_lock x.work i
   lock_is tx i x h lt = a.locks tx i (in_range rows tx x h) lt ∙ ap (λ (o : Option Row). row_lock o i) h
 
-  at_item_is : (tx i : ℕ) (x : Row) → row_of rows tx ≡ Some x → i < length held.ceilings → at_item tx i ≡ kind_ceiling (ceil_row set i) (work_lock x.work i)
-  at_item_is tx i x h lt = ap (λ (k : LockKind). kind_ceiling (get_or held.ceilings i no_ceilings) k) (lock_is tx i x h lt) ∙ ap (λ (r : CeilRow). kind_ceiling r (work_lock x.work i)) (f.ceilings i (omega (arith, f.items)))
+  at_item_is : (tx i : ℕ) (x : Row) → row_of rows tx ≡ Some x → i < length held.ceilings → at_item tx i ≡ kind_ceiling (row_at i) (work_lock x.work i)
+  at_item_is tx i x h lt = ap (λ (k : LockKind). kind_ceiling (row_at i) k) (lock_is tx i x h lt)
+
+  absolute_is : (i : ℕ) → i < length held.ceilings → (row_at i).absolute ≡ absolute_ceiling set i
+  absolute_is i lt = (f.ceilings i (omega (arith, f.items))).absolute
+
+  write_is : (i : ℕ) → i < length held.ceilings → (row_at i).write ≡ write_ceiling set i
+  write_is i lt = (f.ceilings i (omega (arith, f.items))).write
 
   -- a holder's ceilings are one
   pub same_ceiling : (tx : ℕ) (x : Row) → row_of rows tx ≡ Some x → held_ceiling held tx ≡ ceiling_of set x
@@ -113,7 +122,8 @@ module _ (rows : List (Option Row)) (held : Locks) (waiting : Waiting) (deadline
   same_ceiling tx x h =
       let up : greatest_below (length held.ceilings) (at_item tx) ≤ greatest (map (lock_ceiling set) (locks x.work)) =
       below_least (length held.ceilings) (at_item tx) _ (λ i lt.
-      let le : kind_ceiling (ceil_row set i) (work_lock x.work i) ≤ ceiling_of set x = ceiling_of_work (ceil_row set i) (has_written x.work i) (has_read x.work i) (ceiling_of set x) (write_le_absolute set i) (write_le set x i) (read_le set x i) in
+      let le : kind_ceiling (row_at i) (work_lock x.work i) ≤ ceiling_of set x =
+      ceiling_of_work (row_at i) (has_written x.work i) (has_read x.work i) (ceiling_of set x) (λ w. omega (arith, absolute_is i lt, write_le set x i w)) (λ r. omega (arith, write_is i lt, read_le set x i r)) in
       omega (arith, le, at_item_is tx i x h lt)) in
       let down : greatest (map (lock_ceiling set) (locks x.work)) ≤ greatest_below (length held.ceilings) (at_item tx) =
       greatest_least (lock_ceiling set) (locks x.work) _ (λ l i.
@@ -121,22 +131,22 @@ module _ (rows : List (Option Row)) (held : Locks) (waiting : Waiting) (deadline
         | inl w ↦ (
             let lt : l.item < length held.ceilings = a.touched tx l.item x h (or_right (has_read x.work l.item) (has_written x.work l.item) w.1) in
             let e : lock_ceiling set l ≡ absolute_ceiling set l.item = ap (lock_ceiling set) w.0 in
-            let k : kind_ceiling (ceil_row set l.item) (work_lock x.work l.item) ≡ max (write_ceiling set l.item) (absolute_ceiling set l.item) = ap (λ (b : Bool). kind_ceiling (ceil_row set l.item) (cond b kind.Write (cond (has_read x.work l.item) kind.Read kind.Free))) w.1 in
-            omega (arith, e, k, write_le_absolute set l.item, at_item_is tx l.item x h lt, below_le (length held.ceilings) (at_item tx) l.item lt))
+            let k : kind_ceiling (row_at l.item) (work_lock x.work l.item) ≡ (row_at l.item).absolute = ap (λ (b : Bool). kind_ceiling (row_at l.item) (cond b kind.Write (cond (has_read x.work l.item) kind.Read kind.Free))) w.1 in
+            omega (arith, e, k, absolute_is l.item lt, at_item_is tx l.item x h lt, below_le (length held.ceilings) (at_item tx) l.item lt))
         | inr r ↦ (
             let lt : l.item < length held.ceilings = a.touched tx l.item x h (or_left (has_read x.work l.item) (has_written x.work l.item) r.1) in
             let e : lock_ceiling set l ≡ write_ceiling set l.item = ap (lock_ceiling set) r.0 in
-            let k : kind_ceiling (ceil_row set l.item) (work_lock x.work l.item) ≡ write_ceiling set l.item =
-            ap (λ (b : Bool). kind_ceiling (ceil_row set l.item) (cond b kind.Write (cond (has_read x.work l.item) kind.Read kind.Free))) r.2
-            ∙ ap (λ (b : Bool). kind_ceiling (ceil_row set l.item) (cond b kind.Read kind.Free)) r.1 in
-            omega (arith, e, k, at_item_is tx l.item x h lt, below_le (length held.ceilings) (at_item tx) l.item lt))
+            let k : kind_ceiling (row_at l.item) (work_lock x.work l.item) ≡ (row_at l.item).write =
+            ap (λ (b : Bool). kind_ceiling (row_at l.item) (cond b kind.Write (cond (has_read x.work l.item) kind.Read kind.Free))) r.2
+            ∙ ap (λ (b : Bool). kind_ceiling (row_at l.item) (cond b kind.Read kind.Free)) r.1 in
+            omega (arith, e, k, write_is l.item lt, at_item_is tx l.item x h lt, below_le (length held.ceilings) (at_item tx) l.item lt))
       ]) in
       omega (arith, up, down)
 
   -- what has a ceiling above 0 holds a lock, and what holds one has a row
   holds_by : (tx : ℕ) → 0 < held_ceiling held tx → is_holder held tx ≡ true
   unfolding held_ceiling is_holder
-  holds_by tx lt = any_from (length held.ceilings) (at_item tx) (λ i. is_lock (lock_at held tx i)) (λ i l pos. ceiling_is_lock (get_or held.ceilings i no_ceilings) (lock_at held tx i) pos) lt
+  holds_by tx lt = any_from (length held.ceilings) (at_item tx) (λ i. is_lock (lock_at held tx i)) (λ i l pos. ceiling_is_lock (row_at i) (lock_at held tx i) pos) lt
 
   row_by_lock : (tx : ℕ) (o : Option Row) (i : ℕ) → row_of rows tx ≡ o → is_lock (row_lock o i) ≡ true → (x : Row) × (row_of rows tx ≡ Some x)
   row_by_lock tx None i e h = absurd cc

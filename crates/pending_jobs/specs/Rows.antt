@@ -37,14 +37,16 @@ pub record PendingSeen : Type 0 where
 abbrev pub accesses_of : TxnDecl → Accesses
 accesses_of t = record { reads = t.reads; writes = t.writes }
 
-abbrev pub ceil_row : Set → ℕ → CeilRow
-ceil_row set item = record { write = write_ceiling set item; absolute = absolute_ceiling set item }
+-- the row has the ceilings that the set gives an item
+pub record HasCeilings (set : Set) (item : ℕ) (row : CeilRow) : Type 0 where
+  pub write : row.write ≡ write_ceiling set item
+  pub absolute : row.absolute ≡ absolute_ceiling set item
 
 -- the facts are those of this compiled set
 pub record AreFactsOf (set : Set) (facts : Facts) : Type 0 where
   pub compiled : IsCompiled set
   pub items : length facts.ceilings ≡ length set.items
-  pub ceilings : (item : ℕ) → item < length set.items → slice_index_or facts.ceilings item no_ceilings ≡ ceil_row set item
+  pub ceilings : (item : ℕ) → item < length set.items → HasCeilings set item (slice_index_or facts.ceilings item no_ceilings)
   pub prios : facts.prios ≡ prios set.txns
   pub deadlines : facts.deadlines ≡ map (λ t. t.deadline) set.txns
   pub accesses : facts.accesses ≡ map accesses_of set.txns

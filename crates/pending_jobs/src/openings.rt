@@ -6,7 +6,7 @@ ghost use Rattle.inherit_prio.specs.Waits.{IsOrder, on_of};
 ghost use Rattle.std.specs.List.{All};
 ghost use Rattle.strict_commit.specs.Jobs.{AreInItemOrder};
 ghost use Rattle.txn_set.specs.Set.{IsCompiled};
-ghost use Rattle.pending_jobs.specs.Rows.{ceil_row};
+ghost use Rattle.pending_jobs.specs.Rows.{HasCeilings};
 ghost use Rattle.pending_jobs.specs.Tables.{opening_job};
 
 use crate::head::Head;
@@ -90,7 +90,7 @@ fn works_of(alloc: Global, txns: &[TxnDecl]) -> Result<Vec<Work>, OutOfMemory>
 // The ceilings of the items.
 fn ceilings_of(alloc: Global, set: &CompiledSet) -> Result<Vec<CeilRow>, OutOfMemory>
     ensures size { IfOk result (λ v. length v.items ≡ length set.now.items) }
-    ensures ceilings { IfOk result (λ v. (item : ℕ) → item < length set.now.items → slice_index_or v.items item no_ceilings ≡ ceil_row set.now item) }
+    ensures ceilings { IfOk result (λ v. (item : ℕ) → item < length set.now.items → HasCeilings set.now item (slice_index_or v.items item no_ceilings)) }
 {
     set.is_compiled();
     let mut ceilings = Vec::new(alloc);
@@ -108,7 +108,7 @@ fn ceilings_of(alloc: Global, set: &CompiledSet) -> Result<Vec<CeilRow>, OutOfMe
 fn held_of(alloc: Global, set: &CompiledSet) -> Result<Held, OutOfMemory>
     ensures prios { IfOk result (λ h. h.prios ≡ map (λ t. t.prio) set.now.txns) }
     ensures size { IfOk result (λ h. length h.ceilings ≡ length set.now.items) }
-    ensures ceilings { IfOk result (λ h. (item : ℕ) → item < length set.now.items → slice_index_or h.ceilings item no_ceilings ≡ ceil_row set.now item) }
+    ensures ceilings { IfOk result (λ h. (item : ℕ) → item < length set.now.items → HasCeilings set.now item (slice_index_or h.ceilings item no_ceilings)) }
     ensures free { IfOk result (λ h. (tx item : ℕ) → lock_at h tx item ≡ Free) }
 {
     set.is_compiled();
@@ -132,7 +132,7 @@ fn waits_of(alloc: Global, set: &CompiledSet) -> Result<Waits, OutOfMemory>
 pub fn locks_of(alloc: Global, set: &CompiledSet) -> Result<(Held, Waits), OutOfMemory>
     ensures prios { IfOk result (λ p. p.0.prios ≡ map (λ t. t.prio) set.now.txns) }
     ensures size { IfOk result (λ p. length p.0.ceilings ≡ length set.now.items) }
-    ensures ceilings { IfOk result (λ p. (item : ℕ) → item < length set.now.items → slice_index_or p.0.ceilings item no_ceilings ≡ ceil_row set.now item) }
+    ensures ceilings { IfOk result (λ p. (item : ℕ) → item < length set.now.items → HasCeilings set.now item (slice_index_or p.0.ceilings item no_ceilings)) }
     ensures free { IfOk result (λ p. (tx item : ℕ) → lock_at p.0 tx item ≡ Free) }
     ensures waits { IfOk result (λ p. p.1.prios ≡ map (λ t. t.prio) set.now.txns) }
     ensures order { IfOk result (λ p. IsOrder (map (λ t. t.prio) set.now.txns) p.1.order) }

@@ -2,7 +2,6 @@
 use Rattle.std.proofs.Common.{◌≡◌, ℕ, ℤ, suc, ◌<◌, ◌^◌, ◌==◌, Bool, true, false, not, List, [], ◌∷◌, map, length, Option, Some, None, set as with_item, refl, ap, subst, inl, inr, arith, pos}
 use Rattle.std.specs.List.{find, filter, fold}
 use Rattle.std.specs.Option.{option_map, option_map_or}
-use Rattle.std.specs.Prelude.{nat_lt}
 use Rattle.std.proofs.lemmas.Bool.{or_right, ne_eqb}
 use Rattle.rt_base.specs.declared.ids.ItemId.{ItemId}
 use Rattle.rt_base.specs.declared.ids.JobId.{JobId}
@@ -16,7 +15,7 @@ use Rattle.item_model.specs.declared.decl.ItemDecl.{ItemDecl}
 use Rattle.item_model.specs.declared.stored.Stored.{Stored}
 use Rattle.item_model.specs.declared.stored.OutsideRead.{OutsideRead}
 use Rattle.item_model.specs.declared.stored.OwnWrite.{OwnWrite}
-use Rattle.item_model.specs.Work.{Work, stored_of, read_of, write_of, has_written, with_read, with_write, got, outcome_of, work_after, reads_of, is_expired, older, oldest, first_apart, judged, verdict, stamp_for, write_installed, items_after}
+use Rattle.item_model.specs.Work.{Work, stored_of, read_of, write_of, has_written, with_read, with_write, got, outcome_of, work_after, reads_of, is_expired, is_older, older, oldest, first_apart, judged, verdict, stamp_for, write_installed, items_after}
 use Rattle.txn_set.specs.Set.{Set, txn_of}
 use Rattle.step_journal.specs.declared.entry.EndedJob.{EndedJob}
 use Rattle.step_journal.specs.State.{State, Row, pending, new_row, opening}
@@ -163,7 +162,7 @@ FirstFits (Some r) = ReadFits r
 
 older_fits : (r : OutsideRead) (o : Option OutsideRead) → ReadFits r → FirstFits o → ReadFits (older r o)
 older_fits r None h k = h
-older_fits r (Some s) h k = chosen ReadFits (nat_lt s.stamp r.stamp) s r k h
+older_fits r (Some s) h k = chosen ReadFits (is_older s r) s r k h
 
 oldest_fits : (rs : List OutsideRead) → Every ReadFits rs → FirstFits (oldest rs)
 oldest_fits [] h = tt

@@ -16,7 +16,7 @@ use Rattle.rt_base.specs.declared.operation.End.TheVariants as end
 use Rattle.item_model.specs.declared.stored.Stored.{Stored}
 use Rattle.item_model.specs.declared.stored.OutsideRead.{OutsideRead}
 use Rattle.item_model.specs.declared.stored.OwnWrite.{OwnWrite}
-use Rattle.item_model.specs.Work.{Work, got, outcome_of, read_of, write_of, stored_of, reads_of, is_expired, older, oldest, newer, newest, parted, apart_in, first_of_both, first_apart, judged, verdict}
+use Rattle.item_model.specs.Work.{Work, got, outcome_of, read_of, write_of, stored_of, reads_of, is_expired, is_older, older, oldest, is_newer, newer, newest, parted, apart_in, first_of_both, first_apart, judged, verdict}
 use Rattle.txn_set.specs.Set.{Set, IsCompiled, AreItemsOf, txn_of, no_txn, names_item}
 use Rattle.step_journal.specs.declared.entry.Entry.{Entry}
 use Rattle.step_journal.specs.declared.entry.Entry.TheVariants.{Planned, Idle}
@@ -91,14 +91,14 @@ read_in set work ids r are h =
 
 older_of : (r : OutsideRead) (o : Option OutsideRead) (a : OutsideRead) → older r o ≡ a → (a ≡ r) ⊎ (o ≡ Some a)
 older_of r None a e = inl (sym e)
-older_of r (Some s) a e = at (nat_lt s.stamp r.stamp) e where
+older_of r (Some s) a e = at (is_older s r) e where
   at : (b : Bool) → cond b s r ≡ a → (a ≡ r) ⊎ (Some s ≡ Some a)
   at true e = inr (ap (λ (q : OutsideRead). Some q) e)
   at false e = inl (sym e)
 
 newer_of : (r : OutsideRead) (o : Option OutsideRead) (a : OutsideRead) → newer r o ≡ a → (a ≡ r) ⊎ (o ≡ Some a)
 newer_of r None a e = inl (sym e)
-newer_of r (Some s) a e = at (nat_lt r.stamp s.stamp) e where
+newer_of r (Some s) a e = at (is_newer s r) e where
   at : (b : Bool) → cond b s r ≡ a → (a ≡ r) ⊎ (Some s ≡ Some a)
   at true e = inr (ap (λ (q : OutsideRead). Some q) e)
   at false e = inl (sym e)

@@ -120,6 +120,42 @@ fn commits(rt: HostRuntime) -> Result<(), OutOfMemory> {
     Ok(())
 }
 
+// How a job that was released at 10 ends by its commit at 15, where all that it may read is one relative set, whose items
+// stand in falling order.
+fn end_of_falling(alloc: Global, work: &Work) -> Result<Result<(), CommitRefused>, OutOfMemory>
+    requires { work.now.may_write ≡ MEAN ∷ VALVE ∷ [] }
+{
+    let mut items = Items::new(alloc, &DECLS)?;
+    let Ok(falling) = Vec::from_array(alloc, [MEAN, FLOW, TEMP]) else {
+        drop(items);
+        return Err(OutOfMemory);
+    };
+    let group = TogetherDecl {
+        items: List::of(falling),
+        within: 5,
+    };
+    let ended = work.commit(&DECLS, slice::from_ref(&group), &mut items, 10, 15);
+    drop(group);
+    drop(items);
+    Ok(ended)
+}
+
+// Of equally old reads the first in item order is named, and not the first of the relative set.
+#[test]
+fn falling_items(rt: HostRuntime) -> Result<(), OutOfMemory> {
+    for (flow, mean, a, b) in [(5, 12, TEMP, MEAN), (12, 12, TEMP, FLOW)] {
+        let mut work = fresh(rt.alloc())?;
+        work.note_read(TEMP, 5);
+        work.note_read(FLOW, flow);
+        work.note_read(MEAN, mean);
+        work.put(MEAN, 4);
+        let told = end_of_falling(rt.alloc(), &work);
+        drop(work);
+        assert!(rt; told? == Err(CommitRefused::Apart(ApartRead { a, b })));
+    }
+    Ok(())
+}
+
 #[test]
 fn notes(rt: HostRuntime) -> Result<(), OutOfMemory> {
     let mut work = fresh(rt.alloc())?;

@@ -4,19 +4,10 @@ ghost use Rattle.std.specs.Prelude.{◌≡◌, ℕ, ◌+◌, ◌<◌, length, sl
 use ceiling_table::{Above, CeilRow, Held, LockKind};
 use rand::RngExt;
 use rand_pcg::Pcg32;
-use rt_base::{ItemId, Looked, Op, OutOfMemory, Prio, Steps, TxId};
+use rt_base::{ItemId, Op, OutOfMemory, Prio, Steps, TxId};
 use std::alloc::Global;
 use std::marker::Brand;
-use std::mem::size_of;
 use std::sync::ledger::{Blank, Ledger};
-
-// A further field would need more room.
-#[test]
-fn fields(rt: HostRuntime) {
-    let declared = size_of::<Looked<CeilRow>>() + size_of::<Looked<Prio>>();
-    let held = size_of::<Looked<LockKind>>() + size_of::<Looked<Above>>();
-    assert_eq!(rt; size_of::<Held>(), declared + held);
-}
 
 fn asked<L: Ledger>(held: &Held, tx: TxId, blank: Blank) -> Result<(), Above>
     requires name { blank.name ≡ L.name }

@@ -7,20 +7,10 @@ use dispatch_core::dispatched;
 use inherit_prio::Waits;
 use rand::RngExt;
 use rand_pcg::Pcg32;
-use rt_base::{Looked, OutOfMemory, Prio, RankSet, Steps, TxId};
+use rt_base::{OutOfMemory, Prio, RankSet, Steps, TxId};
 use std::alloc::Global;
 use std::marker::Brand;
-use std::mem::size_of;
 use std::sync::ledger::{Blank, Ledger};
-
-// A further field would need more room.
-#[test]
-fn fields(rt: HostRuntime) {
-    let by_tx = size_of::<Looked<Prio>>() + size_of::<Looked<u32>>();
-    let of_txns = size_of::<Looked<TxId>>() + size_of::<Looked<Option<TxId>>>();
-    let waiters = size_of::<Looked<RankSet>>();
-    assert_eq!(rt; size_of::<Waits>(), by_tx + of_txns + waiters);
-}
 
 // On whom a transaction waits, what priority it has, who has its rank, and whose job runs where these ranks are pending.
 fn asked<L: Ledger>(

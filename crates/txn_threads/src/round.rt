@@ -11,8 +11,8 @@ use rt_base::{JobId, PlanRefused, Tick, TxId};
 use shared_plant::{Plant, Tried};
 use step_script::Body;
 
-// How often a worker goes through its members in a round, or how many tries it makes for each, at most. This keeps the number
-// of rounds small.
+// How often a worker goes through its members in its part of a round, or how many goes it has for each, at most. This keeps
+// the number of rounds small.
 const TIMES_THROUGH: u32 = 16;
 
 // What came of a try.
@@ -415,7 +415,7 @@ fn heading(came: Came, places: &Places, first: usize) -> Option<usize>
     }
 }
 
-// As many tries as there are members, each of the member whose job runs, as far as the answers tell: up to a full journal or
+// As many goes as there are members, each of the member whose job runs, as far as the answers tell: up to a full journal or
 // a stop, up to an answer that the job of another worker's member runs, and up to one that nothing is pending or planned.
 fn follow<B: Board, Y: Body, G: Gate>(
     plant: &Plant<B>,
@@ -443,8 +443,8 @@ fn follow<B: Board, Y: Body, G: Gate>(
     Came::Went
 }
 
-// Tries of a worker none of whose members has jobs to plan, at most sixteen for each member. Where nothing is pending or
-// planned each member has a try, and so hears that its jobs have ended.
+// Goes of a worker none of whose members has jobs to plan, at most sixteen for each member and each of one try or of two. Where
+// nothing is pending or planned each member has a try, and so hears that its jobs have ended.
 fn follows<B: Board, Y: Body, G: Gate>(
     plant: &Plant<B>,
     gate: &G,

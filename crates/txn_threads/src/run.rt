@@ -343,19 +343,23 @@ fn rounds<R: Threads + Wait + Sync, B: Board + Send, Y: Body + Send, G: Gate + S
 /// `drain` to `out`. A worker that meets a stop makes no further try. At its start the call clears what workers and members
 /// keep from an earlier one. It takes no memory, and it may wait.
 ///
-/// In a round a worker makes at most sixteen tries for each of its members: a step try of the member whose job runs, as far
-/// as the answers told, and where that job has ended or is not pending a try to idle, whose answer tells which job runs. Its
-/// part of the round ends where the journal is full, and that try is made again after the next drain; where the job of
-/// another worker's member runs; and where nothing is pending or planned, after a step try of each member. A worker that has
-/// eager members with jobs to plan goes at most sixteen times through its members instead. Each time it begins with the
-/// member whose job runs, as far as the answers told, and makes at most one step try a member, a plan try for an eager one
-/// whose planned jobs have ended, and a try to idle where no member's job is pending, which ends its part too.
+/// A worker's part of a round has at most sixteen times as many goes as it has members. A go is a step try of the member whose
+/// job runs, as far as the answers told, and where that job has ended or is not pending a try to idle besides, whose answer
+/// tells which job runs. The part ends where the journal is full, and that try is made again after the next drain; where the
+/// job of another worker's member runs; and where nothing is pending or planned, after a step try of each member. So it has at
+/// most 33 tries for each member. A worker that has eager members with jobs to plan goes at most sixteen times through its
+/// members instead. Each time it begins with the member whose job runs, as far as the answers told, and makes at most one step
+/// try a member, a plan try for an eager one whose planned jobs have ended, and a try to idle where no member's job is pending,
+/// which ends its part too unless the turn is taken. So it has at most 32 tries for each member then, and 15 more.
 ///
 /// One job runs at a time. Where the answers of a round told whose, and no eager member has jobs to plan, the next round is
 /// of its worker alone, in the thread of the caller, and where its part ends as another's job runs, of that one after it, up
-/// to 64 parts: the others could only be told to wait, and starting their threads costs more than many steps. Where nothing
-/// is pending or planned the next round is of all workers again. One step costs about one try, with a look at each worker
-/// where the job of another's member runs.
+/// to 64 parts, of which several may be of one worker: the others could only be told to wait, and starting their threads costs
+/// more than many steps. Where nothing is pending or planned the next round is of all workers again. One step costs about one
+/// try, with a look at each worker where the job of another's member runs.
+///
+/// A round of all workers has one part of each. Each try adds at most one entry, and none where the journal is full, so that a
+/// round adds at most as many entries as the board has room for.
 ///
 /// That no two members have the same transaction, and that a member's transaction has exactly `jobs` planned jobs, or
 /// none if it is eager, is left to the caller: no promise needs it. Where the list of `drain` has reserved places for the

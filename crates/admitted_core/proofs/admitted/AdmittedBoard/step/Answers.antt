@@ -1,18 +1,17 @@
-use Rattle.std.proofs.Common.{subst, sym}
-use Rattle.step_journal.specs.History.{IsLegal}
-use Rattle.txn_set.specs.Set.{Set}
-use Rattle.history_laws.specs.Protocol.{IsFirstRefusal}
-use Rattle.board.specs.Stories.{noted, step_entry, now_of}
-use Rattle.lock_core.specs.Turns.{IfBlocked}
-use Rattle.lock_core.proofs.Refused.{first_refusal}
+use Rattle.std.proofs.Common.{List, ap, subst}
+use Rattle.step_journal.specs.declared.entry.Entry.{Entry}
+use Rattle.lock_core.specs.Promises.{IsLawfulStep}
+use Rattle.lock_core.proofs.Lawful.{lawful_step}
 use Rattle.admitted_core.specs.Seen.{AdmittedSeen}
 use Rattle.admitted_core.proofs.admitted.AdmittedBoard.step.Goals as goal
 
-pub returns-clause-blocked_once : goal.returns-clause-blocked_once
-returns-clause-blocked_once c d = λ story h.
-    let own = subst (λ (a : AdmittedSeen _). c.B.Board.stands a.board story) (sym d.self.view_is) h in
-    let before = c.met.B.Board.is_story d.self.inside.board story own in
-    let after = c.met.B.Board.is_story d.step-reply.new.self (noted story (step_entry (now_of (c.B.Board.set d.self.inside.board) story) d.args.job d.args.op d.step-reply.result)) (d.step-reply.ensures.after story own) in
-    subst (λ (a : AdmittedSeen _). IfBlocked d.step-reply.result (IsFirstRefusal (c.B.Board.set a.board) story d.args.job)) d.self.view_is
-    (first_refusal (c.B.Board.set d.self.inside.board) story d.args.job d.args.op (now_of (c.B.Board.set d.self.inside.board) story) d.step-reply.result before.compiled
-    (subst (λ (s : Set). IsLegal s (noted story (step_entry (now_of (c.B.Board.set d.self.inside.board) story) d.args.job d.args.op d.step-reply.result))) d.step-reply.ensures.fixed.0 after.legal))
+pub returns-clause-lawful : goal.returns-clause-lawful
+returns-clause-lawful c d =
+    let said = d.step-reply.ensures in
+    subst
+    (λ (old : AdmittedSeen _). IsLawfulStep (λ (a : AdmittedSeen _) (story : List Entry). c.B.Board.stands a.board story) (λ a. c.B.Board.set a.board) (λ a. c.B.Board.kept a.board) old (record { board = d.step-reply.new.self; admitted = d.self.inside.admitted }) d.args.job d.args.op d.step-reply.result)
+    d.self.view_is
+    (lawful_step (λ (a : AdmittedSeen _) (story : List Entry). c.B.Board.stands a.board story) (λ a. c.B.Board.set a.board) (λ a. c.B.Board.room a.board) (λ a. c.B.Board.first a.board) (λ a. c.B.Board.kept a.board)
+    (λ a story h. c.met.B.Board.is_story a.board story h)
+    (record { board = d.self.inside.board; admitted = d.self.inside.admitted }) (record { board = d.step-reply.new.self; admitted = d.self.inside.admitted }) d.args.job d.args.op d.step-reply.result said.fixed.0 said.fixed.2
+    (λ r. ap (λ b. record { board = b; admitted = d.self.inside.admitted }) (said.refused r)) said.after)
