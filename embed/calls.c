@@ -164,12 +164,41 @@ static void full(void) {
     IS(rtdb_close(&db) == RTDB_OK);
 }
 
+/* A set that is not admitted has no bounds, and its jobs may be late. */
+static void trial(void) {
+    rtdb db = RTDB_INIT;
+    rtdb_refusal r = {9, 9, 9, 9, 9};
+    rtdb_time time = {0};
+    rtdb_step_answer answer = {0};
+    rtdb_job job = {1, 0};
+    rtdb_transaction rows[2];
+    uint64_t ticks = 7;
+    memcpy(rows, transactions, sizeof rows);
+    rows[1].steps = 30;
+    IS(open_set(&db, rows, 2, 64, &r) == RTDB_NOT_ADMITTED && db.at == NULL);
+    r.rule = 9;
+    IS(rtdb_open_trial(&db, items, 1, rows, 2, sets, 0, numbers, 3, 64, &r) == RTDB_BAD_TABLE && refusal_is(r, RTDB_BAD_NUMBER, 2, 0, 0));
+    r.rule = 9;
+    IS(rtdb_open_trial(&db, items, 2, rows, 2, sets, 0, numbers, 3, 64, &r) == RTDB_OK && r.rule == 9);
+    IS(rtdb_open_trial(&db, items, 2, rows, 2, sets, 0, numbers, 3, 64, &r) == RTDB_OPEN && r.rule == 9);
+    IS(rtdb_response(&db, 0, &ticks) == RTDB_NOT_ADMITTED && rtdb_blocking(&db, 7, &ticks) == RTDB_NOT_ADMITTED);
+    IS(rtdb_age(&db, 7, &ticks) == RTDB_NOT_ADMITTED && ticks == 7);
+    IS(rtdb_plan(&db, 1, 0, &time) == RTDB_OK && time.reply == RTDB_PLANNED);
+    while (answer.over.kind == RTDB_NOT_ENDED) {
+        IS(rtdb_step(&db, job, RTDB_COMPUTE, 0, 0, &answer) == RTDB_OK && answer.reply == RTDB_DONE);
+        if (failed) break;
+    }
+    IS(answer.over.kind == RTDB_LATE && rtdb_now(&db, &ticks) == RTDB_OK && ticks == 20);
+    IS(rtdb_close(&db) == RTDB_OK);
+}
+
 int main(void) {
     rtdb db = RTDB_INIT;
     rtdb_refusal r = {9, 9, 9, 9, 9};
     closed();
     refusals();
     full();
+    trial();
     IS(open_set(&db, transactions, 2, 16, &r) == RTDB_OK && r.rule == 9);
     IS(open_set(&db, transactions, 2, 16, &r) == RTDB_OPEN && r.rule == 9);
     bounds(&db);

@@ -2,7 +2,8 @@
  *
  * Jobs read and write items under the read/write priority ceiling protocol. A set of items and transactions is declared
  * in tables; `rtdb_open` compiles and admits it. From then on no job of it is late, and time goes on by the calls alone:
- * a tick is a granted step, or what `rtdb_idle` passes over. What each function says here is proved of its code, and
+ * a tick is a granted step, or what `rtdb_idle` passes over. `rtdb_open_trial` takes a set that is not admitted: then jobs
+ * may be late. What each function says here is proved of its code, and
  * so are the rules of the protocol (docs/PROVED.md).
  *
  * What a caller owes; nothing checks it:
@@ -18,7 +19,7 @@
  * No other use does harm: each number is tested, a call by a closed handle answers RTDB_CLOSED, and what a status other
  * than RTDB_OK leaves is all as it was.
  *
- * Memory is taken by `rtdb_open` alone and given back by `rtdb_close` alone. No call waits.
+ * Memory is taken by `rtdb_open` and `rtdb_open_trial` alone and given back by `rtdb_close` alone. No call waits.
  *
  * Link librtdb.a.
  */
@@ -54,7 +55,8 @@ enum {
     RTDB_NO_ROOM = 7,        /* the room is above RTDB_MOST_ROOM */
     RTDB_BAD_TABLE = 8,      /* a row or a number of the tables is bad: the refusal says which is the first */
     RTDB_NOT_COMPILED = 9,   /* the set breaks a rule: the refusal says which is the first */
-    RTDB_NOT_ADMITTED = 10,  /* a job might be late, or read values that are too old: the refusal says which */
+    RTDB_NOT_ADMITTED = 10,  /* a job might be late, or read values that are too old: the refusal says which; of the calls for
+                                the bounds: the set was not admitted */
     RTDB_NO_MEMORY = 11      /* malloc or realloc answered null */
 };
 
@@ -139,12 +141,19 @@ rtdb_status rtdb_open(rtdb *db, const rtdb_item *items, size_t item_count, const
                       size_t transaction_count, const rtdb_together *together, size_t together_count,
                       const uint32_t *numbers, size_t number_count, size_t room, rtdb_refusal *refusal);
 
+/* The same of a set that is not to be admitted: RTDB_NOT_ADMITTED does not come, jobs may be late, what they read may be too
+ * old, and there are no bounds. The rules of the protocol hold as ever. */
+rtdb_status rtdb_open_trial(rtdb *db, const rtdb_item *items, size_t item_count, const rtdb_transaction *transactions,
+                            size_t transaction_count, const rtdb_together *together, size_t together_count,
+                            const uint32_t *numbers, size_t number_count, size_t room, rtdb_refusal *refusal);
+
 /* Gives the memory back and closes the handle. Answers RTDB_OK or RTDB_CLOSED. */
 rtdb_status rtdb_close(rtdb *db);
 
 /* ---- the bounds of the admitted set ---- */
 
-/* These three read a table. RTDB_CLOSED, RTDB_NO_TRANSACTION and RTDB_NO_ITEM leave `ticks` as it was. */
+/* These three read a table. RTDB_CLOSED, RTDB_NOT_ADMITTED, RTDB_NO_TRANSACTION and RTDB_NO_ITEM, in this order, leave `ticks`
+ * as it was. */
 
 /* Each job of the transaction ends at most `ticks` after its release. */
 rtdb_status rtdb_response(rtdb *db, uint32_t transaction, uint64_t *ticks);

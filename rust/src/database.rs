@@ -1,6 +1,6 @@
 //! The database and its calls.
 use crate::declarations::{Declarations, ItemId, JobId, TxId};
-use crate::errors::{open_error, NotOfTheSet, OpenError, PlanError};
+use crate::errors::{open_error, BoundError, NotOfTheSet, OpenError, PlanError};
 use crate::ffi;
 use crate::replies::{
     entry_of, idle_of, job_of, planned_of, reply_of, Entry, IdleReply, Op, StepReply,
@@ -12,8 +12,11 @@ const PLACES: usize = 64;
 // No job is pending, or the item has no age bound.
 const NOTHING: u32 = 6;
 
-/// A database over an admitted set: no job of it is late. It may go to another thread, and is used by one at a time. It closes
-/// itself. No call but `open` takes memory, and none waits.
+// The set is not admitted.
+const NOT_ADMITTED: u32 = 10;
+
+/// A database. Over an admitted set no job of it is late. It may go to another thread, and is used by one at a time. It closes
+/// itself. No call but `open` and `open_trial` takes memory, and none waits.
 pub struct Database {
     handle: ffi::Handle,
     // Entries that were drained and not handed out yet.
@@ -39,7 +42,25 @@ impl Database {
     ///
     /// The first rule that the declarations break, or want of memory.
     pub fn open(declarations: &Declarations, room: usize) -> Result<Database, OpenError> {
-        match ffi::Handle::open(&declarations.tables(), room) {
+        Database::over(declarations, room, true)
+    }
+
+    /// Opens a database over declarations that need not be admitted: its jobs may be late, what they read may be too old, and
+    /// it has no bounds.
+    ///
+    /// # Errors
+    ///
+    /// The first rule that the declarations break, or want of memory.
+    pub fn open_trial(declarations: &Declarations, room: usize) -> Result<Database, OpenError> {
+        Database::over(declarations, room, false)
+    }
+
+    fn over(
+        declarations: &Declarations,
+        room: usize,
+        admitted: bool,
+    ) -> Result<Database, OpenError> {
+        match ffi::Handle::open(&declarations.tables(), room, admitted) {
             Ok(handle) => Ok(Database {
                 handle,
                 drained: Box::new([ffi::Entry::default(); PLACES]),
@@ -114,7 +135,8 @@ impl Database {
     ///
     /// The number names no transaction of the set.
     pub fn pending(&self, tx: TxId) -> Result<Option<JobId>, NotOfTheSet> {
-        some_or_nothing(self.handle.pending(tx.0)).map(|job| job.map(job_of))
+        let job = some_or_nothing(self.handle.pending(tx.0)).map_err(not_of_the_set)?;
+        Ok(job.map(job_of))
     }
 
     /// How many jobs of the transaction have ended.
@@ -130,27 +152,27 @@ impl Database {
     ///
     /// # Errors
     ///
-    /// The number names no transaction of the set.
-    pub fn response(&self, tx: TxId) -> Result<u64, NotOfTheSet> {
-        self.handle.response(tx.0).map_err(not_of_the_set)
+    /// The set is not admitted, or the number names no transaction of it.
+    pub fn response(&self, tx: TxId) -> Result<u64, BoundError> {
+        self.handle.response(tx.0).map_err(bound_error)
     }
 
     /// One job of a lower transaction delays a job of the transaction, by at most so many ticks.
     ///
     /// # Errors
     ///
-    /// The number names no transaction of the set.
-    pub fn blocking(&self, tx: TxId) -> Result<u64, NotOfTheSet> {
-        self.handle.blocking(tx.0).map_err(not_of_the_set)
+    /// The set is not admitted, or the number names no transaction of it.
+    pub fn blocking(&self, tx: TxId) -> Result<u64, BoundError> {
+        self.handle.blocking(tx.0).map_err(bound_error)
     }
 
     /// The age bound of an item in ticks; None of a state item.
     ///
     /// # Errors
     ///
-    /// The number names no item of the set.
-    pub fn age(&self, item: ItemId) -> Result<Option<u64>, NotOfTheSet> {
-        some_or_nothing(self.handle.age(item.0))
+    /// The set is not admitted, or the number names no item of it.
+    pub fn age(&self, item: ItemId) -> Result<Option<u64>, BoundError> {
+        some_or_nothing(self.handle.age(item.0)).map_err(bound_error)
     }
 
     /// An item's installed value and stamp.
@@ -214,10 +236,17 @@ fn not_of_the_set(_status: u32) -> NotOfTheSet {
     NotOfTheSet
 }
 
-fn some_or_nothing<T>(answer: Result<T, u32>) -> Result<Option<T>, NotOfTheSet> {
+fn bound_error(status: u32) -> BoundError {
+    match status {
+        NOT_ADMITTED => BoundError::NotAdmitted,
+        _ => BoundError::NotOfTheSet,
+    }
+}
+
+fn some_or_nothing<T>(answer: Result<T, u32>) -> Result<Option<T>, u32> {
     match answer {
         Ok(value) => Ok(Some(value)),
         Err(NOTHING) => Ok(None),
-        Err(status) => Err(not_of_the_set(status)),
+        Err(status) => Err(status),
     }
 }

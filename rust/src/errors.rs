@@ -238,6 +238,26 @@ impl fmt::Display for NotOfTheSet {
 
 impl Error for NotOfTheSet {}
 
+/// Why there is no bound.
+#[derive(Clone, Copy, PartialEq, Eq, Debug)]
+pub enum BoundError {
+    /// The set is not admitted.
+    NotAdmitted,
+    /// The number names no transaction, or no item, of the set.
+    NotOfTheSet,
+}
+
+impl fmt::Display for BoundError {
+    fn fmt(&self, f: &mut fmt::Formatter<'_>) -> fmt::Result {
+        match self {
+            BoundError::NotAdmitted => f.write_str("the set is not admitted"),
+            BoundError::NotOfTheSet => NotOfTheSet.fmt(f),
+        }
+    }
+}
+
+impl Error for BoundError {}
+
 /// Why no job is planned.
 #[derive(Clone, Copy, PartialEq, Eq, Debug)]
 pub enum PlanError {

@@ -124,6 +124,19 @@ extern "C" {
         room: usize,
         refusal: *mut Refusal,
     ) -> u32;
+    fn rtdb_open_trial(
+        db: *mut Raw,
+        items: *const Item,
+        item_count: usize,
+        transactions: *const Transaction,
+        transaction_count: usize,
+        together: *const Together,
+        together_count: usize,
+        numbers: *const u32,
+        number_count: usize,
+        room: usize,
+        refusal: *mut Refusal,
+    ) -> u32;
     fn rtdb_close(db: *mut Raw) -> u32;
     fn rtdb_plan(db: *mut Raw, transaction: u32, tick: u64, answer: *mut Time) -> u32;
     fn rtdb_plan_next(db: *mut Raw, transaction: u32, answer: *mut Time) -> u32;
@@ -166,12 +179,18 @@ pub(crate) struct Tables<'a> {
 // In each call the handle is this one's own, no other call uses it, since it is not `Sync`, and each answer is a local that has
 // a value. An empty slice has a pointer that is not null.
 impl Handle {
-    pub(crate) fn open(tables: &Tables, room: usize) -> Result<Handle, (u32, Refusal)> {
+    /// Opens a database over the tables, over a set that is admitted or over one that need not be.
+    pub(crate) fn open(
+        tables: &Tables,
+        room: usize,
+        admitted: bool,
+    ) -> Result<Handle, (u32, Refusal)> {
         let mut raw = Raw { at: null_mut() };
         let mut refusal = Refusal::default();
+        let open = if admitted { rtdb_open } else { rtdb_open_trial };
         // SAFETY: each pointer and count is that of a slice, and the others are of locals.
         let status = unsafe {
-            rtdb_open(
+            open(
                 &mut raw,
                 tables.items.as_ptr(),
                 tables.items.len(),

@@ -32,5 +32,5 @@ mod replies;
 
 pub use database::{Database, Drain, Stored};
 pub use declarations::{Declarations, ItemId, ItemKind, JobId, Times, TxId};
-pub use errors::{NotOfTheSet, OpenError, PlanError, Which};
+pub use errors::{BoundError, NotOfTheSet, OpenError, PlanError, Which};
 pub use replies::{End, Entry, IdleReply, Op, Outcome, PlanRefused, StepReply};

@@ -1,7 +1,8 @@
 //! The tank in safe Rust, refusals with their numbers, and entries that are handed out in pieces.
 use rtdb::{
-    Database, Declarations, End, Entry, IdleReply, ItemId, ItemKind, JobId, NotOfTheSet, Op,
-    OpenError, Outcome, PlanError, PlanRefused, StepReply, Stored, Times, TxId, Which,
+    BoundError, Database, Declarations, End, Entry, IdleReply, ItemId, ItemKind, JobId,
+    NotOfTheSet, Op, OpenError, Outcome, PlanError, PlanRefused, StepReply, Stored, Times, TxId,
+    Which,
 };
 
 fn times(priority: u32, period: u64, offset: u64, steps: u64) -> Times {
@@ -221,4 +222,29 @@ fn goes_to_another_thread() {
             serial: 0
         })
     );
+}
+
+#[test]
+fn a_trial_has_no_bounds() {
+    let mut d = Declarations::new();
+    let level = d.item(ItemKind::Sensor { validity: 20 }, 0);
+    let fast = d.transaction(times(2, 10, 0, 2), &[], &[level]);
+    let slow = d.transaction(times(1, 20, 0, 30), &[], &[]);
+    let refused = OpenError::NotSchedulable {
+        tx: slow,
+        demand: 34,
+    };
+    assert_eq!(Database::open(&d, 64).err(), Some(refused));
+    let mut database = Database::open_trial(&d, 64).unwrap();
+    assert_eq!(database.response(fast), Err(BoundError::NotAdmitted));
+    assert_eq!(database.age(level), Err(BoundError::NotAdmitted));
+    let job = database.plan(slow, 0).unwrap();
+    let mut over = None;
+    while over.is_none() {
+        let StepReply::Done { over: told, .. } = database.step(job, Op::Compute).unwrap() else {
+            panic!("a lone job is granted each step");
+        };
+        over = told;
+    }
+    assert_eq!((over, database.now()), (Some(End::Late), 20));
 }

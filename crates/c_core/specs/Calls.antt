@@ -1,11 +1,13 @@
 -- What the calls of a station answer beside what the core answers: 0 where the call was made, and else why not.
-use Rattle.std.specs.Prelude.{◌≡◌, ℕ, ℤ, nat_lt, if◌then◌else◌, List, length, Option, None, Some, is_some}
+use Rattle.std.specs.Prelude.{◌≡◌, ℕ, ℤ, ◌<◌, ◌≤◌, nat_lt, if◌then◌else◌, List, length, Option, None, Some, is_some}
 use Rattle.rt_base.specs.declared.ids.JobId.{JobId}
 use Rattle.rt_base.specs.declared.operation.Op.{Op}
 use Rattle.board.specs.declared.replies.StepReply.{StepReply}
 use Rattle.step_journal.specs.declared.entry.Entry.{Entry}
 use Rattle.board.specs.Stories.{step_answer}
 use Rattle.txn_set.specs.Set.{Set}
+use Rattle.item_model.specs.Kinds.{is_dated}
+use Rattle.set_admission.specs.Bounds.{age_of}
 use Rattle.lock_core.specs.Seen.{CoreSeen}
 use Rattle.c_core.specs.declared.forms.JobForm.{JobForm}
 use Rattle.c_core.specs.Forms.{op_named, job_of, form_of_job}
@@ -35,7 +37,18 @@ abbrev pub IsRunning : Option JobId → ℕ → JobForm → JobForm → Type 0
 IsRunning None status before after = (status ≡ 6) × (after ≡ before)
 IsRunning (Some job) status before after = (status ≡ 0) × (after ≡ form_of_job job)
 
+-- the same where a set was admitted, and 10 where none was
+abbrev pub bound_status : Option Set → ℕ → ℕ
+bound_status None tx = 10
+bound_status (Some set) tx = in_set set tx
+
 -- what is answered where this is the age bound: 6 where there is none
 abbrev pub IsAge : Option ℕ → ℕ → ℕ → ℕ → Type 0
 IsAge None status before after = (status ≡ 6) × (after ≡ before)
 IsAge (Some age) status before after = (status ≡ 0) × (after ≡ age)
+
+-- the age bound of an item of the admitted set: 10 where none was admitted, 5 where it is none of the set
+abbrev pub IsAgeOf : Option Set → ℕ → ℕ → ℕ → ℕ → Type 0
+IsAgeOf None item status before after = (status ≡ 10) × (after ≡ before)
+IsAgeOf (Some set) item status before after =
+    (length set.items ≤ item → (status ≡ 5) × (after ≡ before)) × (item < length set.items → IsAge (if is_dated set.items item then Some (age_of set item) else None) status before after)

@@ -4,3 +4,4 @@ pub mod Rows
 pub mod Refusals
 pub mod Laws
 pub mod Calls
+pub mod Open

@@ -49,6 +49,17 @@ WhyNotOpened items txns together ids room (refused.BadTogether row) = WhyNotComp
 WhyNotOpened items txns together ids room (refused.NotCompiled error) = WhyNotCompiled items txns together ids (refused.NotCompiled error)
 WhyNotOpened items txns together ids room refused.OutOfMemory = Unit {0}
 
+-- the same of a set that is not to be admitted
+abbrev pub WhyNotTried : List ItemRow → List TxnRow → List TogetherRow → List ℕ → (room : ℕ) → Refused → Type 0
+WhyNotTried items txns together ids room refused.NoRoom = 2 ^ 20 < room
+WhyNotTried items txns together ids room (refused.NotAdmitted error) = ⊥
+WhyNotTried items txns together ids room (refused.BadKind row) = WhyNotCompiled items txns together ids (refused.BadKind row)
+WhyNotTried items txns together ids room (refused.BadNumber place) = WhyNotCompiled items txns together ids (refused.BadNumber place)
+WhyNotTried items txns together ids room (refused.BadTxn row) = WhyNotCompiled items txns together ids (refused.BadTxn row)
+WhyNotTried items txns together ids room (refused.BadTogether row) = WhyNotCompiled items txns together ids (refused.BadTogether row)
+WhyNotTried items txns together ids room (refused.NotCompiled error) = WhyNotCompiled items txns together ids (refused.NotCompiled error)
+WhyNotTried items txns together ids room refused.OutOfMemory = Unit {0}
+
 abbrev pub number_of_which : Which → ℕ
 number_of_which which.Prio = 0
 number_of_which which.Steps = 1

@@ -6,6 +6,7 @@ mod checked;
 mod entries;
 mod forms;
 mod laws;
+mod open_core;
 mod refusals;
 mod tables;
 
@@ -16,6 +17,7 @@ pub use forms::{
     plan_next_form, step_form,
 };
 pub use laws::records_lose_nothing;
+pub use open_core::OpenCore;
 pub use refusals::{
     BAD_TABLE, NO_MEMORY, NO_ROOM, NOT_ADMITTED, NOT_COMPILED, RefusalForm, Refused, refusal_form,
 };

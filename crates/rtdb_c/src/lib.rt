@@ -5,8 +5,9 @@
 #![tactic(auto)]
 
 ghost use Rattle.std.specs.Prelude.{◌≡◌, ◌≢◌, None, MatchOption, IfOk, IfErr, IfSome, IsSomeAnd};
-ghost use Rattle.c_core.specs.Refusals.{WhyNotOpened};
-ghost use Rattle.rtdb_c.specs.Called.{Called, ToldWhy, Stepped, Planned, Idled, IsRunningOf, Peeked, IsNowOf, Opened, PlannedNext, IsPendingOf, IsEndedOf, IsResponseOf, IsBlockingOf, IsAgeOf, Drained, IsKeptOf, IsPlannedOf};
+ghost use Rattle.c_core.specs.Refusals.{WhyNotOpened, WhyNotTried};
+ghost use Rattle.c_core.specs.declared.refusals.Refused.TheVariants.{OutOfMemory as WantOfMemory};
+ghost use Rattle.rtdb_c.specs.Called.{Called, ToldWhy, ToldWhyNotTried, OpenedTrial, Stepped, Planned, Idled, IsRunningOf, Peeked, IsNowOf, Opened, PlannedNext, IsPendingOf, IsEndedOf, IsResponseOf, IsBlockingOf, IsAgeOf, Drained, IsKeptOf, IsPlannedOf};
 
 mod handle;
 
@@ -23,12 +24,11 @@ pub const CLOSED: u32 = 1;
 /// The handle is open already.
 pub const OPEN: u32 = 2;
 
-// A core over the set of these tables, in a box.
-fn boxed(alloc: Global, tables: Tables, room: usize) -> Result<Box<CheckedCore>, Refused>
-    ensures opened { IfOk result (λ b. Opened tables.entry.items.now tables.entry.txns.now tables.entry.together.now tables.entry.ids.now room b.value) }
-    ensures refused { IfErr result (WhyNotOpened tables.entry.items.now tables.entry.txns.now tables.entry.together.now tables.entry.ids.now room) }
+// A core in a box.
+fn boxed(alloc: Global, core: CheckedCore) -> Result<Box<CheckedCore>, Refused>
+    ensures boxed { IfOk result (λ b. b.value ≡ core) }
+    ensures refused { IfErr result (λ e. e ≡ WantOfMemory) }
 {
-    let core = CheckedCore::open(alloc, tables, room)?;
     match Box::new(alloc, core) {
         Ok(core) => Ok(core),
         Err(unboxed) => {
@@ -36,6 +36,22 @@ fn boxed(alloc: Global, tables: Tables, room: usize) -> Result<Box<CheckedCore>,
             Err(Refused::OutOfMemory)
         }
     }
+}
+
+// A core over the admitted set of these tables, in a box.
+fn opened(alloc: Global, tables: Tables, room: usize) -> Result<Box<CheckedCore>, Refused>
+    ensures opened { IfOk result (λ b. Opened tables.entry.items.now tables.entry.txns.now tables.entry.together.now tables.entry.ids.now room b.value) }
+    ensures refused { IfErr result (WhyNotOpened tables.entry.items.now tables.entry.txns.now tables.entry.together.now tables.entry.ids.now room) }
+{
+    boxed(alloc, CheckedCore::open(alloc, tables, room)?)
+}
+
+// The same of a set that is not to be admitted.
+fn opened_trial(alloc: Global, tables: Tables, room: usize) -> Result<Box<CheckedCore>, Refused>
+    ensures opened { IfOk result (λ b. OpenedTrial tables.entry.items.now tables.entry.txns.now tables.entry.together.now tables.entry.ids.now room b.value) }
+    ensures refused { IfErr result (WhyNotTried tables.entry.items.now tables.entry.txns.now tables.entry.together.now tables.entry.ids.now room) }
+{
+    boxed(alloc, CheckedCore::open_trial(alloc, tables, room)?)
 }
 
 /// Compiles and admits the set of these tables, and opens a database over it at the opening state, whose journal has room
@@ -67,7 +83,48 @@ pub extern "C" fn rtdb_open(
         together,
         ids,
     };
-    match boxed(alloc, tables, room) {
+    match opened(alloc, tables, room) {
+        Ok(core) => {
+            db.put(core);
+            OK
+        }
+        Err(refused) => {
+            let (status, form) = refusal_form(refused);
+            *refusal = form;
+            status
+        }
+    }
+}
+
+/// Compiles the set of these tables, and opens a database over it as `rtdb_open` does, without admitting it: nothing is
+/// promised of deadlines and ages, and the calls for the bounds answer NOT_ADMITTED. NOT_ADMITTED does not come here.
+#[unsafe(no_mangle)]
+pub extern "C" fn rtdb_open_trial(
+    alloc: Global,
+    db: &mut Handle,
+    items: &[ItemRow],
+    txns: &[TxnRow],
+    together: &[TogetherRow],
+    ids: &[u32],
+    room: usize,
+    refusal: &mut RefusalForm,
+) -> u32
+    ensures opened { result ≡ 0 → (db.old.core ≡ None) × (refusal.new ≡ refusal.old) × IsSomeAnd db.new.core (OpenedTrial items.now txns.now together.now ids.now room) }
+    ensures refused { result ≢ 0 → db.new.core ≡ db.old.core }
+    ensures open { IfSome db.old.core (λ s. (result ≡ 2) × (refusal.new ≡ refusal.old)) }
+    ensures why { db.old.core ≡ None → result ≢ 0 → ToldWhyNotTried items.now txns.now together.now ids.now room result refusal.new }
+{
+    if let Some(core) = db.take(alloc) {
+        db.put(core);
+        return OPEN;
+    }
+    let tables = Tables {
+        items,
+        txns,
+        together,
+        ids,
+    };
+    match opened_trial(alloc, tables, room) {
         Ok(core) => {
             db.put(core);
             OK
@@ -268,7 +325,8 @@ pub extern "C" fn rtdb_ended(alloc: Global, db: &mut Handle, tx: u32, count: &mu
     }
 }
 
-/// The response of the transaction, in ticks. NO_TRANSACTION where it is none of the set.
+/// The response of the transaction, in ticks. NOT_ADMITTED where the set is not, else NO_TRANSACTION where it is
+/// none of the set.
 #[unsafe(no_mangle)]
 pub extern "C" fn rtdb_response(alloc: Global, db: &mut Handle, tx: u32, ticks: &mut u64) -> u32
     ensures { Called db.old.core db.new.core ((result ≡ 1) × (ticks.new ≡ ticks.old)) (IsResponseOf tx result ticks.old ticks.new) }
@@ -283,7 +341,8 @@ pub extern "C" fn rtdb_response(alloc: Global, db: &mut Handle, tx: u32, ticks: 
     }
 }
 
-/// For how many ticks one lower transaction blocks the transaction at most. NO_TRANSACTION where it is none of the set.
+/// For how many ticks one lower transaction blocks the transaction at most. NOT_ADMITTED where the set is not, else
+/// NO_TRANSACTION where it is none of the set.
 #[unsafe(no_mangle)]
 pub extern "C" fn rtdb_blocking(alloc: Global, db: &mut Handle, tx: u32, ticks: &mut u64) -> u32
     ensures { Called db.old.core db.new.core ((result ≡ 1) × (ticks.new ≡ ticks.old)) (IsBlockingOf tx result ticks.old ticks.new) }
@@ -298,7 +357,8 @@ pub extern "C" fn rtdb_blocking(alloc: Global, db: &mut Handle, tx: u32, ticks: 
     }
 }
 
-/// The age bound of the item, in ticks. NO_ITEM where it is none of the set, NOTHING for a state item.
+/// The age bound of the item, in ticks. NOT_ADMITTED where the set is not, else NO_ITEM where it is none of the set, NOTHING
+/// for a state item.
 #[unsafe(no_mangle)]
 pub extern "C" fn rtdb_age(alloc: Global, db: &mut Handle, item: u32, ticks: &mut u64) -> u32
     ensures { Called db.old.core db.new.core ((result ≡ 1) × (ticks.new ≡ ticks.old)) (IsAgeOf item result ticks.old ticks.new) }

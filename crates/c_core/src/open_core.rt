@@ -1,0 +1,217 @@
+//! A core over an admitted set, or over one that was not admitted.
+ghost use Rattle.std.specs.Prelude.{◌≡◌, ◌+◌, ◌-◌, ◌<◌, ◌++◌, List, length, min, take, drop, vec_len, vec_capacity, Some, None, MatchOption, slice_get};
+ghost use Rattle.step_journal.specs.declared.entry.Entry.{Entry as Noted};
+ghost use Rattle.step_journal.specs.History.{state_of};
+ghost use Rattle.board.specs.Stories.{noted, plan_entry, plan_next_entry, step_entry, idle_entry, plan_answer, plan_next_answer, step_answer, idle_answer, now_of, running_of, pending_of, ended_of, planned_of};
+ghost use Rattle.history_laws.specs.Protocol.{IsFirstRefusal};
+ghost use Rattle.lock_core.specs.Stands.{Stands};
+ghost use Rattle.board.specs.Stories.{IfBlocked};
+ghost use Rattle.c_core.specs.Open.{board_of, admitted_of, KeepsBoundsOf};
+
+use admitted_core::AdmittedCore;
+use board::{Board, IdleReply, StepReply};
+use lock_core::TrialCore;
+use rt_base::{ItemId, JobId, Op, PlanRefused, Tick, TxId, Value};
+use set_admission::AdmittedSet;
+use step_journal::Entry;
+use txn_set::CompiledSet;
+
+/// A core over an admitted set, or over one that was not admitted: of that one nothing is promised of deadlines and ages.
+/// Each call is that of the core.
+#[derive(Drop)]
+pub enum OpenCore {
+    Admitted(AdmittedCore),
+    Trial(TrialCore),
+}
+
+impl OpenCore {
+    /// That each history of the core keeps the bounds of the admitted set, if it has one. It does nothing.
+    pub fn keeps_bounds(&self)
+        ensures { (story : List Noted) → Stands (board_of self.now) story → KeepsBoundsOf self.now story }
+    {
+        match self {
+            OpenCore::Admitted(core) => core.keeps_bounds(),
+            OpenCore::Trial(_) => (),
+        }
+    }
+
+    /// Plans as the core does.
+    pub fn plan(&mut self, tx: TxId, tick: Tick) -> Result<JobId, PlanRefused>
+        requires { tx.0 < length (board_of self.old).set.txns }
+        ensures fixed { ((board_of self.new).set ≡ (board_of self.old).set) × ((board_of self.new).journal.room ≡ (board_of self.old).journal.room) × ((board_of self.new).journal.first ≡ (board_of self.old).journal.first) }
+        ensures admitted { admitted_of self.new ≡ admitted_of self.old }
+        ensures answer { (story : List Noted) → Stands (board_of self.old) story → result ≡ plan_answer (board_of self.old).set story (length (board_of self.old).journal.kept) (board_of self.old).journal.room tx.0 tick }
+        ensures after { (story : List Noted) → Stands (board_of self.old) story → Stands (board_of self.new) (noted story (plan_entry tx tick result)) }
+        ensures bounds { (story : List Noted) → Stands (board_of self.new) story → KeepsBoundsOf self.new story }
+    {
+        match self {
+            OpenCore::Admitted(core) => core.plan(tx, tick),
+            OpenCore::Trial(core) => Board::plan(core, tx, tick),
+        }
+    }
+
+    /// Plans as the core does for the earliest tick.
+    pub fn plan_next(&mut self, tx: TxId) -> Result<(JobId, Tick), PlanRefused>
+        requires { tx.0 < length (board_of self.old).set.txns }
+        ensures fixed { ((board_of self.new).set ≡ (board_of self.old).set) × ((board_of self.new).journal.room ≡ (board_of self.old).journal.room) × ((board_of self.new).journal.first ≡ (board_of self.old).journal.first) }
+        ensures admitted { admitted_of self.new ≡ admitted_of self.old }
+        ensures answer { (story : List Noted) → Stands (board_of self.old) story → result ≡ plan_next_answer (board_of self.old).set story (length (board_of self.old).journal.kept) (board_of self.old).journal.room tx.0 }
+        ensures after { (story : List Noted) → Stands (board_of self.old) story → Stands (board_of self.new) (noted story (plan_next_entry tx result)) }
+        ensures bounds { (story : List Noted) → Stands (board_of self.new) story → KeepsBoundsOf self.new story }
+    {
+        match self {
+            OpenCore::Admitted(core) => core.plan_next(tx),
+            OpenCore::Trial(core) => Board::plan_next(core, tx),
+        }
+    }
+
+    /// A job asks for an operation, as of the core.
+    pub fn step(&mut self, job: JobId, op: Op) -> StepReply
+        requires { job.tx.0 < length (board_of self.old).set.txns }
+        ensures fixed { ((board_of self.new).set ≡ (board_of self.old).set) × ((board_of self.new).journal.room ≡ (board_of self.old).journal.room) × ((board_of self.new).journal.first ≡ (board_of self.old).journal.first) }
+        ensures admitted { admitted_of self.new ≡ admitted_of self.old }
+        ensures answer { (story : List Noted) → Stands (board_of self.old) story → result ≡ step_answer (board_of self.old).set story (length (board_of self.old).journal.kept) (board_of self.old).journal.room job op }
+        ensures after { (story : List Noted) → Stands (board_of self.old) story → Stands (board_of self.new) (noted story (step_entry (now_of (board_of self.old).set story) job op result)) }
+        ensures blocked_once { (story : List Noted) → Stands (board_of self.old) story → IfBlocked result (IsFirstRefusal (board_of self.old).set story job) }
+        ensures bounds { (story : List Noted) → Stands (board_of self.new) story → KeepsBoundsOf self.new story }
+    {
+        match self {
+            OpenCore::Admitted(core) => core.step(job, op),
+            OpenCore::Trial(core) => core.step(job, op),
+        }
+    }
+
+    /// The time goes on as on the core.
+    pub fn idle(&mut self) -> IdleReply
+        ensures fixed { ((board_of self.new).set ≡ (board_of self.old).set) × ((board_of self.new).journal.room ≡ (board_of self.old).journal.room) × ((board_of self.new).journal.first ≡ (board_of self.old).journal.first) }
+        ensures admitted { admitted_of self.new ≡ admitted_of self.old }
+        ensures answer { (story : List Noted) → Stands (board_of self.old) story → result ≡ idle_answer (board_of self.old).set story (length (board_of self.old).journal.kept) (board_of self.old).journal.room }
+        ensures after { (story : List Noted) → Stands (board_of self.old) story → Stands (board_of self.new) (noted story (idle_entry (now_of (board_of self.old).set story) result)) }
+        ensures bounds { (story : List Noted) → Stands (board_of self.new) story → KeepsBoundsOf self.new story }
+    {
+        match self {
+            OpenCore::Admitted(core) => core.idle(),
+            OpenCore::Trial(core) => Board::idle(core),
+        }
+    }
+
+    /// Moves the oldest kept entries to the end of `into` as the core does.
+    pub fn drain(&mut self, most: usize, into: &mut Vec<Entry>) -> usize
+        ensures count { result ≡ min most (min (length (board_of self.old).journal.kept) (vec_capacity into.old - vec_len into.old)) }
+        ensures moved { into.new.items ≡ into.old.items ++ take result (board_of self.old).journal.kept }
+        ensures left { (board_of self.new).journal.kept ≡ drop result (board_of self.old).journal.kept }
+        ensures places { vec_capacity into.new ≡ vec_capacity into.old }
+        ensures fixed { ((board_of self.new).set ≡ (board_of self.old).set) × ((board_of self.new).journal.room ≡ (board_of self.old).journal.room) × ((board_of self.new).journal.first ≡ (board_of self.old).journal.first + result) }
+        ensures admitted { admitted_of self.new ≡ admitted_of self.old }
+        ensures after { (story : List Noted) → Stands (board_of self.old) story → Stands (board_of self.new) story }
+        ensures bounds { (story : List Noted) → Stands (board_of self.new) story → KeepsBoundsOf self.new story }
+    {
+        match self {
+            OpenCore::Admitted(core) => core.drain(most, into),
+            OpenCore::Trial(core) => Board::drain(core, most, into),
+        }
+    }
+
+    /// An item's installed value and stamp.
+    pub fn peek(&self, item: ItemId) -> (Value, Tick)
+        requires { item.0 < length (board_of self.now).set.items }
+        ensures { (story : List Noted) → Stands (board_of self.now) story → slice_get (state_of (board_of self.now).set story).items item.0 ≡ Some (record { value = result.0; stamp = result.1 }) }
+    {
+        match self {
+            OpenCore::Admitted(core) => Board::peek(core, item),
+            OpenCore::Trial(core) => Board::peek(core, item),
+        }
+    }
+
+    /// The present tick.
+    pub fn now(&self) -> Tick
+        ensures { (story : List Noted) → Stands (board_of self.now) story → result ≡ now_of (board_of self.now).set story }
+    {
+        match self {
+            OpenCore::Admitted(core) => Board::now(core),
+            OpenCore::Trial(core) => Board::now(core),
+        }
+    }
+
+    /// The running job; None exactly where nothing is pending.
+    pub fn running(&self) -> Option<JobId>
+        ensures { (story : List Noted) → Stands (board_of self.now) story → result ≡ running_of (board_of self.now).set story }
+    {
+        match self {
+            OpenCore::Admitted(core) => Board::running(core),
+            OpenCore::Trial(core) => Board::running(core),
+        }
+    }
+
+    /// The transaction's pending job.
+    pub fn pending(&self, tx: TxId) -> Option<JobId>
+        requires { tx.0 < length (board_of self.now).set.txns }
+        ensures { (story : List Noted) → Stands (board_of self.now) story → result ≡ pending_of (board_of self.now).set story tx.0 }
+    {
+        match self {
+            OpenCore::Admitted(core) => Board::pending(core, tx),
+            OpenCore::Trial(core) => Board::pending(core, tx),
+        }
+    }
+
+    /// How many jobs of the transaction have ended.
+    pub fn ended(&self, tx: TxId) -> u32
+        requires { tx.0 < length (board_of self.now).set.txns }
+        ensures { (story : List Noted) → Stands (board_of self.now) story → result ≡ ended_of (board_of self.now).set story tx.0 }
+    {
+        match self {
+            OpenCore::Admitted(core) => Board::ended(core, tx),
+            OpenCore::Trial(core) => Board::ended(core, tx),
+        }
+    }
+
+    /// How many releases are planned and did not take place yet.
+    pub fn planned(&self) -> usize
+        ensures { (story : List Noted) → Stands (board_of self.now) story → result ≡ planned_of (board_of self.now).set story }
+    {
+        match self {
+            OpenCore::Admitted(core) => Board::planned(core),
+            OpenCore::Trial(core) => Board::planned(core),
+        }
+    }
+
+    /// The kept entries.
+    pub fn entries(&self) -> &[Entry]
+        ensures { result.now ≡ (board_of self.now).journal.kept }
+    {
+        match self {
+            OpenCore::Admitted(core) => Board::entries(core),
+            OpenCore::Trial(core) => Board::entries(core),
+        }
+    }
+
+    /// How many entries were drained in all.
+    pub fn first(&self) -> u64
+        ensures { result ≡ (board_of self.now).journal.first }
+    {
+        match self {
+            OpenCore::Admitted(core) => Board::first(core),
+            OpenCore::Trial(core) => Board::first(core),
+        }
+    }
+
+    /// The set of the history.
+    pub fn set(&self) -> &CompiledSet
+        ensures { result.now ≡ (board_of self.now).set }
+    {
+        match self {
+            OpenCore::Admitted(core) => Board::set(core),
+            OpenCore::Trial(core) => Board::set(core),
+        }
+    }
+
+    /// The admitted set, with its bounds; None where the set was not admitted.
+    pub fn admitted(&self) -> Option<&AdmittedSet>
+        ensures { MatchOption result (admitted_of self.now ≡ None) (λ set. admitted_of self.now ≡ Some set.now) }
+    {
+        match self {
+            OpenCore::Admitted(core) => Some(core.admitted()),
+            OpenCore::Trial(_) => None,
+        }
+    }
+}
