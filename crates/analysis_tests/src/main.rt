@@ -48,8 +48,7 @@ fn judged_text(alloc: Global, set: CompiledSet, what: &str) -> Option<String> {
     match what {
         "set" => set_text(alloc, &set),
         "copy" => set_text(alloc, &set.copy(alloc).ok()?),
-        "margin" => margin_text(alloc, &set, true),
-        "try" => margin_text(alloc, &set, false),
+        "margin" => margin_text(alloc, &set),
         "sizes" => String::from_str(alloc, "compiled").ok(),
         _ => match admit(alloc, set) {
             Ok(admitted) => {

@@ -47,13 +47,9 @@ fn margins<L: Ledger>(
     Ok((found, tried_plainly(alloc, set, &mut steps)?))
 }
 
-/// Whether a plain try finds the margin of a set; before it, where asked, the margin and what bars the next percentage.
-pub fn margin_text(alloc: Global, set: &CompiledSet, with_margin: bool) -> Option<String> {
+/// The margin of a set, what bars the next percentage, and whether a plain try finds the same.
+pub fn margin_text(alloc: Global, set: &CompiledSet) -> Option<String> {
     let (found, tried) = margins::<Brand>(alloc, set, Blank::new(1)).ok()?;
     let same = found == tried;
-    if with_margin {
-        format!(in alloc; "{found:?}, a plain try finds it {same}").ok()
-    } else {
-        format!(in alloc; "a plain try finds it {same}").ok()
-    }
+    format!(in alloc; "{found:?}, a plain try finds it {same}").ok()
 }
