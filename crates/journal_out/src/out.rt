@@ -40,7 +40,7 @@ pub struct JournalOut<'a, D: Disk, T> {
 }
 
 impl<'a, D: Disk, T: Journaled<D>> JournalOut<'a, D, T> {
-    ghost use Rattle.std.specs.Prelude.{◌≡◌, ◌≤◌, ◌++◌, [], List as Many, None, IfSome, MatchOption, vec_capacity};
+    ghost use Rattle.std.specs.Prelude.{◌≡◌, ◌≤◌, ◌<◌, ◌++◌, [], List as Many, None, length, IfSome, IsSome, MatchOption, vec_capacity};
     ghost use Rattle.step_journal.specs.declared.entry.Entry.{Entry as Noted};
     ghost use Rattle.journal_out.specs.Compared.{Agree, Begins, IsOtherRecord};
     ghost use Rattle.journal_out.specs.Outs.{LostAt, other_stops};
@@ -85,6 +85,7 @@ impl<'a, D: Disk, T: Journaled<D>> JournalOut<'a, D, T> {
         ensures other { (piece rest : Many Noted) → LostAt self.now.standing self.now.there.items self.now.kept.items piece
             → IfSome result (IsOtherRecord self.now.there.items (self.now.kept.items ++ piece ++ rest)) }
         ensures fault { result ≡ None → other_stops self.now.standing ≡ 0 }
+        ensures stopped { IsSome result → other_stops self.now.standing ≡ 1 }
     {
         match self.standing {
             Standing::Going => None,
@@ -96,8 +97,9 @@ impl<'a, D: Disk, T: Journaled<D>> JournalOut<'a, D, T> {
     /// After a whole run: the number of the first record behind those of the run, entries counted from 1; None where the
     /// disk had no more entries than the run.
     pub fn left_over(&self) -> Option<u64>
-        ensures { Agree self.now.there.items self.now.kept.items
+        ensures first { Agree self.now.there.items self.now.kept.items
             → MatchOption result (Begins self.now.there.items self.now.kept.items) (IsOtherRecord self.now.there.items self.now.kept.items) }
+        ensures behind { IsSome result → length self.now.kept.items < length self.now.there.items }
     {
         if self.kept.len() < self.there.len() {
             Some(self.kept.len() as u64 + 1)
