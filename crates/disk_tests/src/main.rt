@@ -9,9 +9,9 @@ use std::{fs, io};
 
 // A disk in memory, or over a file.
 #[derive(Drop)]
-enum Kept {
+enum Kept<'a> {
     Memory(MemDisk),
-    File(FileDisk),
+    File(FileDisk<'a>),
 }
 
 // The numbers between commas; `-` is none of them.
@@ -77,7 +77,7 @@ fn asked(alloc: Global, disk: &mut Kept, word: &str, rest: &str) -> Option<Strin
 }
 
 // A new disk: in memory, of 1,000 bytes and 10 places, of which the calls of these numbers fail; or over a file.
-fn made(rt: &HostRuntime, word: &str, rest: &str) -> Option<Kept> {
+fn made<'a>(rt: &'a HostRuntime, word: &str, rest: &'a str) -> Option<Kept<'a>> {
     if word == "memory" {
         let failing = numbers(rt.alloc(), rest)?;
         return Some(Kept::Memory(MemDisk::new(rt.alloc(), 1000, 10, failing).ok()?));
@@ -103,11 +103,15 @@ fn filed(rt: &HostRuntime, word: &str, rest: &str) -> Option<String> {
 }
 
 // Does what a line says. Some tells what is to be printed, if anything.
-fn follow(rt: &HostRuntime, disks: &mut Vec<Kept>, line: &str) -> Option<String> {
+fn follow<'a>(rt: &'a HostRuntime, disks: &mut Vec<Kept<'a>>, line: &'a str) -> Option<String> {
     let (word, rest) = line.split_once(' ').unwrap_or((line, ""));
     match word {
         "memory" | "file" => {
             disks.push(made(rt, word, rest)?).ok()?;
+            Some(String::new(rt.alloc()))
+        }
+        "close" => {
+            drop(disks.pop()?);
             Some(String::new(rt.alloc()))
         }
         "remove" | "link" | "exists" => filed(rt, word, rest),
@@ -115,15 +119,15 @@ fn follow(rt: &HostRuntime, disks: &mut Vec<Kept>, line: &str) -> Option<String>
     }
 }
 
-// Prints what comes of each line of standard input.
-fn follow_lines(rt: &HostRuntime, disks: &mut Vec<Kept>) -> io::Result<()> {
-    for line in rt.lines(rt.alloc()) {
-        let line = line?;
+// Prints what comes of each line.
+fn follow_lines(rt: &HostRuntime, lines: &[String]) -> io::Result<()> {
+    let mut disks = Vec::new(rt.alloc());
+    for line in lines {
         let line = line.as_str();
         if line.is_empty() || line.starts_with('#') {
             continue;
         }
-        match follow(rt, disks, line) {
+        match follow(rt, &mut disks, line) {
             Some(said) if said.is_empty() => {}
             Some(said) => println!(rt; "{line}: {said}")?,
             None => println!(rt; "{line}: failed")?,
@@ -133,6 +137,9 @@ fn follow_lines(rt: &HostRuntime, disks: &mut Vec<Kept>) -> io::Result<()> {
 }
 
 fn main(rt: HostRuntime) -> io::Result<()> {
-    let mut disks = Vec::new(rt.alloc());
-    follow_lines(&rt, &mut disks)
+    let mut lines = Vec::new(rt.alloc());
+    for line in rt.lines(rt.alloc()) {
+        lines.push(line?)?;
+    }
+    follow_lines(&rt, &lines)
 }

@@ -11,10 +11,11 @@ use io_edge::Failed;
 use std::fs::{File, OpenOptions};
 use std::io::{self, ErrorKind};
 use std::marker::Model;
+use std::mem;
 use std::os::unix::fs::FileExt;
 use std::path::Path;
 
-// A file, and the folder of its path. `named` tells that a sync made sure of its name in the folder.
+// A file that is locked, and the folder of its path. `named` tells that a sync made sure of its name in the folder.
 #[derive(Drop)]
 struct Opened {
     file: File,
@@ -22,16 +23,29 @@ struct Opened {
     named: bool,
 }
 
-/// A file, made where it is missing. Where it or its folder could not be opened, or there is no path, each call fails;
-/// so does each call after a sync that failed, since the system may forget what that one did not write. Contracts see
-/// how many calls failed.
+// What stands at a path.
 #[derive(Drop)]
-pub struct FileDisk {
-    opened: Option<Opened>,
+enum Place {
+    // Nothing that calls can be made on.
+    Closed,
+    // No file yet, in this folder.
+    Missing(File),
+    Here(Opened),
+}
+
+/// The file of a path. It is opened where it is there, and made by the first write where it is missing; until then it reads
+/// as empty. It is locked, so that another FileDisk on it, in whatever program, fails each call. Where it or its folder could
+/// not be opened or made, or there is no path, each call fails; so does each call after a sync that failed, since the system
+/// may forget what that one did not write. Contracts see how many calls failed.
+#[derive(Drop)]
+pub struct FileDisk<'a> {
+    rt: &'a HostRuntime,
+    path: &'a str,
+    place: Place,
     faults: u64,
 }
 
-impl Model for FileDisk {
+impl<'a> Model for FileDisk<'a> {
     ghost use Rattle.std.specs.Prelude.{ℕ, ◌-◌, ◌^◌, ◌≤◌};
 
     ghost Value = { ℕ };
@@ -49,67 +63,126 @@ fn folder_of(path: &str) -> &str {
     }
 }
 
-// A file that is missing is made, and not by way of a link.
-fn open_or_make(rt: &HostRuntime, path: &str) -> io::Result<File> {
-    match OpenOptions::new().read(true).write(true).open(rt, path) {
-        Err(e) if e.kind() == ErrorKind::NotFound => File::create_new(rt, path),
-        answer => answer,
-    }
+// Takes the lock of a file. Where another has it, the answer is an error.
+fn locked(file: File) -> io::Result<File> {
+    file.try_lock()?;
+    Ok(file)
 }
 
-impl Opened {
-    fn new(rt: &HostRuntime, path: &str) -> io::Result<Opened> {
+impl Place {
+    // A file that is missing is not made yet.
+    fn of(rt: &HostRuntime, path: &str) -> io::Result<Place> {
         let folder = File::open(rt, folder_of(path))?;
-        Ok(Opened {
-            file: open_or_make(rt, path)?,
-            folder,
-            named: false,
-        })
+        match OpenOptions::new().read(true).write(true).open(rt, path) {
+            Err(e) if e.kind() == ErrorKind::NotFound => Ok(Place::Missing(folder)),
+            Err(e) => Err(e),
+            Ok(file) => Ok(Place::Here(Opened {
+                file: locked(file)?,
+                folder,
+                named: false,
+            })),
+        }
+    }
+
+    // The file, made where it is missing, and not by way of a link.
+    fn made(&mut self, rt: &HostRuntime, path: &str) -> io::Result<&mut Opened> {
+        match mem::replace(self, Place::Closed) {
+            Place::Missing(folder) => {
+                let file = locked(File::create_new(rt, path)?)?;
+                *self = Place::Here(Opened {
+                    file,
+                    folder,
+                    named: false,
+                });
+            }
+            place => *self = place,
+        }
+        match self {
+            Place::Here(opened) => Ok(opened),
+            _ => Err(io::Error::from(ErrorKind::NotFound)),
+        }
+    }
+
+    fn read(&self, at: u64, into: &mut [u8]) -> io::Result<usize>
+        ensures { IfOk result (λ n. n ≤ length into.old) }
+    {
+        match self {
+            Place::Here(opened) => read_whole(&opened.file, at, into),
+            Place::Missing(_) => Ok(0),
+            Place::Closed => Err(io::Error::from(ErrorKind::NotFound)),
+        }
     }
 
     // Syncs the file, and the first time its folder as well.
     fn sync(&mut self) -> io::Result<()> {
-        self.file.sync_all()?;
-        if !self.named {
-            self.folder.sync_all()?;
-            self.named = true;
+        match self {
+            Place::Here(opened) => {
+                sync_whole(&opened.file)?;
+                if !opened.named {
+                    sync_whole(&opened.folder)?;
+                    opened.named = true;
+                }
+                Ok(())
+            }
+            Place::Missing(folder) => sync_whole(folder),
+            Place::Closed => Err(io::Error::from(ErrorKind::NotFound)),
         }
-        Ok(())
     }
 }
 
-impl FileDisk {
-    /// The file of this path.
-    pub fn open(rt: &HostRuntime, path: Option<&str>) -> FileDisk
-        ensures { result ≡ 0 }
-    {
-        let opened = match path {
-            Some(path) => Opened::new(rt, path).ok(),
-            None => None,
-        };
-        FileDisk { opened, faults: 0 }
+// Syncs a file, and again where a signal came between.
+fn sync_whole(file: &File) -> io::Result<()> {
+    for _ in 0..u64::MAX {
+        match file.sync_all() {
+            Err(e) if e.kind() == ErrorKind::Interrupted => {}
+            answer => return answer,
+        }
     }
+    Err(io::Error::from(ErrorKind::Interrupted))
 }
 
-// Reads until the buffer is full, or the file ends.
+// Reads until the buffer is full, or the file ends, and on where a signal came between.
 fn read_whole(file: &File, at: u64, into: &mut [u8]) -> io::Result<usize>
     ensures { IfOk result (λ n. n ≤ length into.old) }
 {
     let mut done = 0;
-    while done < into.len() {
+    for _ in 0..u64::MAX {
+        if done >= into.len() {
+            return Ok(done);
+        }
         let from = at
             .checked_add(done as u64)
             .ok_or(io::Error::from(ErrorKind::InvalidInput))?;
-        let count = file.read_at(&mut into[done..], from)?;
-        if count == 0 {
-            return Ok(done);
+        match file.read_at(&mut into[done..], from) {
+            Ok(0) => return Ok(done),
+            Ok(count) => done += count,
+            Err(e) if e.kind() == ErrorKind::Interrupted => {}
+            Err(e) => return Err(e),
         }
-        done += count;
     }
-    Ok(done)
+    Err(io::Error::from(ErrorKind::Interrupted))
 }
 
-impl Disk for FileDisk {
+impl<'a> FileDisk<'a> {
+    /// The file of this path.
+    pub fn open(rt: &'a HostRuntime, path: Option<&'a str>) -> FileDisk<'a>
+        ensures { result ≡ 0 }
+    {
+        let path = path.unwrap_or("");
+        let place = match Place::of(rt, path) {
+            Ok(place) => place,
+            Err(_) => Place::Closed,
+        };
+        FileDisk {
+            rt,
+            path,
+            place,
+            faults: 0,
+        }
+    }
+}
+
+impl<'a> Disk for FileDisk<'a> {
     ghost seen = { λ _. None };
 
     ghost may_leave = { λ _. any_image };
@@ -137,13 +210,9 @@ impl Disk for FileDisk {
         ensures fault { OnErr result (self.new ≡ counted self.old) }
         ensures none { OnOk result (self.new ≡ self.old) }
     {
-        let answer = match &self.opened {
-            Some(opened) => read_whole(&opened.file, at, into).ok(),
-            None => None,
-        };
-        match answer {
-            Some(count) => Ok(count),
-            None => Err(counted_in(&mut self.faults)),
+        match self.place.read(at, into) {
+            Ok(count) => Ok(count),
+            Err(_) => Err(counted_in(&mut self.faults)),
         }
     }
 
@@ -156,9 +225,9 @@ impl Disk for FileDisk {
         ensures fault { OnErr result (self.new ≡ counted self.old) }
         ensures none { OnOk result (self.new ≡ self.old) }
     {
-        let done = match &self.opened {
-            Some(opened) => opened.file.write_all_at(bytes, at).is_ok(),
-            None => false,
+        let done = match self.place.made(self.rt, self.path) {
+            Ok(opened) => opened.file.write_all_at(bytes, at).is_ok(),
+            Err(_) => false,
         };
         if done {
             Ok(())
@@ -177,14 +246,10 @@ impl Disk for FileDisk {
         ensures fault { OnErr result (self.new ≡ counted self.old) }
         ensures none { OnOk result (self.new ≡ self.old) }
     {
-        let done = match &mut self.opened {
-            Some(opened) => opened.sync().is_ok(),
-            None => false,
-        };
-        if done {
+        if self.place.sync().is_ok() {
             Ok(())
         } else {
-            self.opened = None;
+            self.place = Place::Closed;
             Err(counted_in(&mut self.faults))
         }
     }

@@ -1,5 +1,5 @@
 //! A log of entries on a disk.
-ghost use Rattle.std.specs.Prelude.{◌≡◌, ℕ, ◌+◌, ◌<◌, ◌≤◌, ◌^◌, ◌++◌, ◌↔◌, ◌⊎◌, [], ◌∷◌, List as Many, length, true, false, IfOk, IfErr, IfSome, IsOk, IsErrOf, IsSome, OnErr, OnOk, vec_capacity};
+ghost use Rattle.std.specs.Prelude.{◌≡◌, ℕ, ◌+◌, ◌*◌, ◌<◌, ◌≤◌, ◌^◌, ◌++◌, ◌↔◌, ◌⊎◌, [], ◌∷◌, List as Many, length, true, false, IfOk, IfErr, IfSome, IsOk, IsErrOf, IsSome, OnErr, OnOk, vec_capacity};
 ghost use Rattle.std.specs.List.{AllByRecursion};
 ghost use Rattle.io_edge.specs.Causes.{HasCause, Rose};
 ghost use Rattle.rt_base.specs.Names.{AreNames};
@@ -9,11 +9,11 @@ ghost use Rattle.step_journal.specs.declared.entry.Entry.{Entry as Noted};
 ghost use Rattle.step_journal.specs.History.{IsLegal};
 ghost use Rattle.journal_text.specs.Lines.{IsWritable, entry_line};
 ghost use Rattle.report_lines.specs.Texts.{NamesSet};
-ghost use Rattle.durable_disk.specs.Device.{LeavesOnly};
+ghost use Rattle.durable_disk.specs.Device.{LeavesOnly, WritesWithin};
 ghost use Rattle.durable_records.specs.Standing.{EachLeft};
 ghost use Rattle.durable_journal.specs.Format.{body_of as body_of_text};
 ghost use Rattle.durable_journal.specs.Log.{Fits, GoesOn, HasSome, IsBeforeOrAfter, IsLeft, IsMemoryOrFault, IsOkOrFault, StandsFor};
-ghost use Rattle.durable_journal.specs.Opened.{ClosesAt, IfFull, IsEnd, IsJudged, IsOpened, IsRefused};
+ghost use Rattle.durable_journal.specs.Opened.{ClosesAt, IfFull, IsEnd, IsJudged, IsOpened, IsRefused, Touches, TouchesAt, with_gate};
 ghost use Rattle.durable_journal.specs.Texts.{ended, unended, texts_from};
 
 use crate::format::body_of;
@@ -72,12 +72,16 @@ impl<D: Disk> Model for Log<D> {
 
 impl<D: Disk> Log<D> {
     /// Makes a journal with no entry on a disk that reads as empty. After an error the disk is handed back, and a later
-    /// `open` of it may find no header.
+    /// `open` of it may find no header. At each moment a crash leaves what it might have left before, with other bytes among
+    /// the first 257 at most.
     pub fn create(alloc: Global, disk: D) -> Result<Log<D>, (D, LogError)>
         requires { IfSome (D.seen disk) (λ file. file ≡ []) }
         ensures stands { IfOk result (λ log. (names : Noting) (set : Set) → StandsFor D.seen D.may_leave names set log []) }
         ensures goes { IfOk result (λ log. (log.stopped ≡ false) × (log.count ≡ 1)) }
         ensures told { IfOk result (λ log. IsSome (D.seen disk) ↔ IsSome (D.seen log.disk)) }
+        // Nothing is written but the header's record and two gates, at each moment of the call.
+        ensures within { IfOk result (λ log. WritesWithin D.seen D.may_leave D.moment D.left_since 0 257 disk log.disk) }
+        ensures within_err { IfErr result (λ e. WritesWithin D.seen D.may_leave D.moment D.left_since 0 257 disk e.0) }
         ensures later { IfOk result (λ log. D.faults disk ≤ D.faults log.disk) }
         ensures cause { IfErr result (λ e. IsMemoryOrFault (D.faults disk) (D.faults e.0) e.1) }
     {
@@ -115,6 +119,9 @@ impl<D: Disk> Log<D> {
             → LeavesOnly D.moment D.left_since disk r.0.disk (D.may_leave disk))) }
         ensures any_moment_err { IfErr result (λ e. IfSome (D.seen disk) (λ file. ((es : Many Noted) → texts_from names.now 1 room [] file ≡ unended es → ⊥)
             → LeavesOnly D.moment D.left_since disk e.0 (D.may_leave disk))) }
+        // Nothing is written but the gate at the end of a good journal that has none there.
+        ensures touched { IfOk result (λ r. IfSome (D.seen disk) (λ file. Touches D.seen D.may_leave D.moment D.left_since names.now set.now room file (λ now. now ≡ with_gate file) disk r.0.disk)) }
+        ensures touched_err { IfErr result (λ e. IfSome (D.seen disk) (λ file. TouchesAt D.seen D.may_leave D.moment D.left_since names.now set.now room file e.1 disk e.0)) }
         ensures told { IfOk result (λ r. IsSome (D.seen disk) ↔ IsSome (D.seen r.0.disk)) }
         ensures told_err { IfErr result (λ e. IsSome (D.seen disk) ↔ IsSome (D.seen e.0)) }
         ensures later { IfOk result (λ r. D.faults disk ≤ D.faults r.0.disk) }
@@ -191,7 +198,8 @@ impl<D: Disk> Log<D> {
         }
     }
 
-    /// Adds entries, in order, and stops at the first that is not taken. `len` tells how many were.
+    /// Adds entries, in order, and stops at the first that is not taken. `len` tells how many were. Of no entries nothing is
+    /// done.
     pub fn append_all(
         &mut self,
         names: &Names,
@@ -210,6 +218,7 @@ impl<D: Disk> Log<D> {
             → LeavesOnly D.moment D.left_since self.old.disk self.new.disk (HasSome names.now set.now before entries.now) }
         ensures goes { OnOk result (self.old.stopped ≡ false → self.new.stopped ≡ false) }
         ensures count { OnOk result (self.new.count ≡ self.old.count + length entries.now) }
+        ensures none { entries.now ≡ [] → IsOk result × (self.new ≡ self.old) }
         ensures stops { IsErrOf result LogError.DiskFault → self.new.stopped ≡ true }
         ensures no_other { self.old.stopped ≡ false → OnErr result (IsErrOf result LogError.DiskFault) }
         ensures cause { IsErrOf result LogError.DiskFault → Rose (D.faults self.old.disk) (D.faults self.new.disk) }
@@ -218,6 +227,9 @@ impl<D: Disk> Log<D> {
     {
         found_as_read();
         lines_both_ways();
+        if entries.is_empty() {
+            return Ok(());
+        }
         for entry in entries {
             self.append(names, set, *entry)?;
         }
@@ -303,6 +315,7 @@ fn close_end<D: Disk>(disk: &mut D, stop: Stop, k: u64) -> Result<(), Failed>
     ensures told { IsSome (D.seen disk.old) ↔ IsSome (D.seen disk.new) }
     ensures closed { stop ≡ Stop.Unended → OnOk result (ClosesAt (D.seen disk.old) (D.seen disk.new) (D.may_leave disk.new) k) }
     ensures same { (stop ≡ Stop.Unended → ⊥) → IsOk result × (disk.new ≡ disk.old) }
+    ensures within { WritesWithin D.seen D.may_leave D.moment D.left_since (256 * k) 1 disk.old disk.new }
     ensures cause { HasCause (D.faults disk.old) (D.faults disk.new) result }
 {
     match stop {

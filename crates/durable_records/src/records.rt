@@ -2,7 +2,7 @@
 //! write of its own.
 ghost use Rattle.std.specs.Prelude.{◌≡◌, ℕ, ◌+◌, ◌*◌, ◌<◌, ◌≤◌, ◌^◌, ◌++◌, ◌↔◌, [], ◌∷◌, List, Some, length, true, false, IfOk, IfErr, IfSome, IsErrOf, IsSome, IsTrue, OnErr, OnOk};
 ghost use Rattle.io_edge.specs.Causes.{Rose, HasCause};
-ghost use Rattle.durable_disk.specs.Device.{Elapses, LeavesOnly, NoMore};
+ghost use Rattle.durable_disk.specs.Device.{Elapses, LeavesOnly, NoMore, WritesWithin};
 ghost use Rattle.durable_records.specs.Records.{IsBeforeOrAfter, Reads, slot_at, slot_of};
 ghost use Rattle.durable_records.specs.Standing.{EachLeft, IsOkOrFault, IsSettled, IsStaged, Stands};
 ghost use Rattle.durable_records.specs.Found.{Finds};
@@ -67,6 +67,7 @@ fn stage<D: Disk>(disk: &mut D, k: u64, body: &[u8; BODY]) -> Result<(), Failed>
     ensures now { (bodies : List (List ℕ)) → k ≡ length bodies → IsSettled (D.seen disk.old) (D.may_leave disk.old) bodies → EachLeft (D.seen disk.new) (D.may_leave disk.new) (λ c. Reads c bodies) }
     ensures told { IsSome (D.seen disk.old) ↔ IsSome (D.seen disk.new) }
     ensures cause { HasCause (D.faults disk.old) (D.faults disk.new) result }
+    ensures within { WritesWithin D.seen D.may_leave D.moment D.left_since (256 * k + 1) 256 disk.old disk.new }
 {
     let bytes = before_gate(body);
     disk.write_at(WIDTH as u64 * k + 1, &bytes)?;
@@ -82,6 +83,7 @@ fn open_gate<D: Disk>(disk: &mut D, k: u64) -> Result<(), Failed>
     ensures now { (bodies : List (List ℕ)) (body : List ℕ) → k ≡ length bodies → IsStaged (D.seen disk.old) (D.may_leave disk.old) bodies body → EachLeft (D.seen disk.new) (D.may_leave disk.new) (IsBeforeOrAfter bodies body) }
     ensures told { IsSome (D.seen disk.old) ↔ IsSome (D.seen disk.new) }
     ensures cause { HasCause (D.faults disk.old) (D.faults disk.new) result }
+    ensures within { WritesWithin D.seen D.may_leave D.moment D.left_since (256 * k) 1 disk.old disk.new }
 {
     disk.write_at(WIDTH as u64 * k, &[OPEN])?;
     disk.sync()
@@ -90,6 +92,7 @@ fn open_gate<D: Disk>(disk: &mut D, k: u64) -> Result<(), Failed>
 // Writes a closed gate at the front, so that the disk has no record.
 fn blank<D: Disk>(disk: &mut D) -> Result<(), Failed>
     ensures settled { OnOk result (IsSettled (D.seen disk.new) (D.may_leave disk.new) []) }
+    ensures within { WritesWithin D.seen D.may_leave D.moment D.left_since 0 1 disk.old disk.new }
     ensures told { IsSome (D.seen disk.old) ↔ IsSome (D.seen disk.new) }
     ensures cause { HasCause (D.faults disk.old) (D.faults disk.new) result }
 {
@@ -130,6 +133,9 @@ impl<D: Disk> Records<D> {
         ensures goes { IfOk result (λ log. log.stopped ≡ false) }
         ensures count { IfOk result (λ log. log.count ≡ 1) }
         ensures told { IfOk result (λ log. IsSome (D.seen disk) ↔ IsSome (D.seen log.disk)) }
+        // Nothing is written but the two gates and the record, at each moment of the call.
+        ensures within { IfOk result (λ log. WritesWithin D.seen D.may_leave D.moment D.left_since 0 257 disk log.disk) }
+        ensures within_err { IfErr result (λ back. WritesWithin D.seen D.may_leave D.moment D.left_since 0 257 disk back) }
         ensures later { IfOk result (λ log. D.faults disk ≤ D.faults log.disk) }
         ensures cause { IfErr result (λ back. Rose (D.faults disk) (D.faults back)) }
     {
@@ -156,6 +162,8 @@ impl<D: Disk> Records<D> {
         // A crash at any moment of the call leaves the records from before it, with the new one or without.
         ensures any_moment { (bodies : List (List ℕ)) → self.old.stopped ≡ false → Stands (D.seen self.old.disk) (D.may_leave self.old.disk) self.old.count self.old.stopped bodies
             → IsSome (D.seen self.old.disk) → LeavesOnly D.moment D.left_since self.old.disk self.new.disk (IsBeforeOrAfter bodies body.now) }
+        // Nothing is written but the record with its gate and the gate behind it, at each moment of the call.
+        ensures within { WritesWithin D.seen D.may_leave D.moment D.left_since (256 * self.old.count) 257 self.old.disk self.new.disk }
         ensures goes { OnOk result (self.new.stopped ≡ false) }
         ensures count { OnOk result (self.new.count ≡ self.old.count + 1) }
         ensures same { OnErr result (self.new.count ≡ self.old.count) }

@@ -1,3 +1,4 @@
 pub mod Joined
+pub mod Fronts
 pub mod Putting
 pub mod Same

@@ -13,11 +13,11 @@ use step_journal::Entry;
 use txn_set::CompiledSet;
 
 /// What an out over a journal began with.
-pub trait Journaled {
-    ghost begun: { Begun };
+pub trait Journaled<D> {
+    ghost begun: { Begun D };
 }
 
-impl Journaled for Brand {
+impl<D> Journaled<D> for Brand {
     ghost begun = { nothing };
 }
 
@@ -39,8 +39,8 @@ pub struct JournalOut<'a, D: Disk, T> {
     ghost places: { room ≤ vec_capacity kept },
 }
 
-impl<'a, D: Disk, T: Journaled> JournalOut<'a, D, T> {
-    ghost use Rattle.std.specs.Prelude.{◌≡◌, ◌≤◌, ◌++◌, [], List as Many, None, IfSome, MatchOption, vec_capacity};
+impl<'a, D: Disk, T: Journaled<D>> JournalOut<'a, D, T> {
+    ghost use Rattle.std.specs.Prelude.{◌≡◌, ◌≤◌, ◌<◌, ◌++◌, [], List as Many, None, length, IfSome, IsSome, MatchOption, vec_capacity};
     ghost use Rattle.step_journal.specs.declared.entry.Entry.{Entry as Noted};
     ghost use Rattle.journal_out.specs.Compared.{Agree, Begins, IsOtherRecord};
     ghost use Rattle.journal_out.specs.Outs.{LostAt, other_stops};
@@ -85,6 +85,7 @@ impl<'a, D: Disk, T: Journaled> JournalOut<'a, D, T> {
         ensures other { (piece rest : Many Noted) → LostAt self.now.standing self.now.there.items self.now.kept.items piece
             → IfSome result (IsOtherRecord self.now.there.items (self.now.kept.items ++ piece ++ rest)) }
         ensures fault { result ≡ None → other_stops self.now.standing ≡ 0 }
+        ensures stopped { IsSome result → other_stops self.now.standing ≡ 1 }
     {
         match self.standing {
             Standing::Going => None,
@@ -96,8 +97,9 @@ impl<'a, D: Disk, T: Journaled> JournalOut<'a, D, T> {
     /// After a whole run: the number of the first record behind those of the run, entries counted from 1; None where the
     /// disk had no more entries than the run.
     pub fn left_over(&self) -> Option<u64>
-        ensures { Agree self.now.there.items self.now.kept.items
+        ensures first { Agree self.now.there.items self.now.kept.items
             → MatchOption result (Begins self.now.there.items self.now.kept.items) (IsOtherRecord self.now.there.items self.now.kept.items) }
+        ensures behind { IsSome result → length self.now.kept.items < length self.now.there.items }
     {
         if self.kept.len() < self.there.len() {
             Some(self.kept.len() as u64 + 1)
@@ -107,20 +109,22 @@ impl<'a, D: Disk, T: Journaled> JournalOut<'a, D, T> {
     }
 }
 
-/// What it got is kept, and its log stands for that and for what the disk has beyond it. It loses a piece at which the
-/// disk failed, of which the log may have the first entries, and one of which the disk has another entry; nothing of that
-/// is added. It can take every legal history of its set that has room. It stops where the disk counts a fault, and once
-/// for another entry.
-impl<'a, D: Disk, T: Journaled> EntryOut for JournalOut<'a, D, T> {
+/// What it got is kept, and its log stands for that and for what the disk has beyond it; a crash at each moment leaves a
+/// journal that is opened as what the disk had, with some of that behind it. It loses a piece at which the disk failed, of
+/// which the log may have the first entries, and one of which the disk has another entry; nothing of that is added, and the
+/// disk is as it was. It can take every legal history of its set that has room. It stops where the disk counts a fault, and
+/// once for another entry.
+impl<'a, D: Disk, T: Journaled<D>> EntryOut for JournalOut<'a, D, T> {
     ghost use Rattle.std.specs.Prelude.{◌≡◌, ◌+◌, ◌≤◌, length};
     ghost use Rattle.step_journal.specs.History.{IsLegal};
-    ghost use Rattle.journal_out.specs.Outs.{IsGoing, IsOf, TakenAt, LostAt, other_stops};
+    ghost use Rattle.journal_out.specs.Outs.{IsGoing, IsOf, TakenAt, LeftAt, LostAt, other_stops};
 
     ghost got = { λ out story. (out.kept.items ≡ story) ×
-        IsOf T.begun out.names.now out.set.now out.there.items out.room (D.seen out.log.disk) ×
-        TakenAt out.standing (IsGoing D.seen D.may_leave T.begun.names T.begun.set out.log T.begun.there story) };
+        IsOf D.seen T.begun out.names.now out.set.now out.there.items out.room out.log.disk ×
+        TakenAt out.standing (IsGoing D.seen D.may_leave D.moment D.left_since T.begun.names T.begun.set T.begun.disk out.log T.begun.there story) };
 
-    ghost lost = { λ out story. LostAt out.standing T.begun.there out.kept.items story };
+    ghost lost = { λ out story. LostAt out.standing T.begun.there out.kept.items story ×
+        LeftAt D.seen D.moment D.left_since T.begun.names T.begun.set T.begun.disk out.log.disk out.standing T.begun.there out.kept.items story };
 
     ghost good = { λ out story. IsLegal T.begun.set story × (length story ≤ T.begun.room) };
 

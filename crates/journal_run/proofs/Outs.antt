@@ -1,8 +1,15 @@
 -- A run whose entries go to an out over a journal.
-use Rattle.std.proofs.Common.{◌≡◌, ℕ, ◌+◌, ◌<◌, ◌≤◌, List, [], ◌++◌, take, drop, length, Option, None, Some, Bool, false, inl, inr, refl, sym, ap, subst, ◌∙◌, arith, append_assoc, append-nil, length-append}
-use Rattle.std.specs.Prelude.{is_some, IfSome}
+use Rattle.std.proofs.Common.{◌≡◌, ◌⊎◌, ⊎_elim, ℕ, ◌+◌, ◌<◌, ◌≤◌, List, [], ◌++◌, take, drop, length, Option, None, Some, Bool, false, inl, inr, refl, sym, ap, subst, ◌∙◌, arith, append_assoc, append-nil, length-append}
+use Rattle.std.specs.Prelude.{IfSome, IsSome, ◌↔◌}
 use Rattle.std.proofs.lemmas.List.{take-append-drop, length-take}
 use Rattle.std.proofs.Math.ListN.{drop_of_length-le}
+use Rattle.std.proofs.Math.Seq.{take-nil}
+use Rattle.std.proofs.lemmas.Bool.{cases_lt}
+use Rattle.durable_disk.specs.Device.{LeavesOnly}
+use Rattle.report_lines.specs.Texts.{NamesSet}
+use Rattle.durable_journal.proofs.Runs.{started, some_none, each_told}
+use Rattle.durable_journal.proofs.Crash.{weaken}
+use Rattle.journal_out.proofs.Fronts.{begins_of_agree}
 use Rattle.io_edge.specs.Causes.{Rose}
 use Rattle.rt_base.specs.Names.{AreNames}
 use Rattle.rt_base.specs.declared.name.Names.{Names}
@@ -14,35 +21,41 @@ use Rattle.sim_history.specs.Sim.{Workload, IsSim}
 use Rattle.sim_run.specs.Handed.{CanTake}
 use Rattle.sim_run.specs.Runs.{IsStopped}
 use Rattle.durable_records.specs.Standing.{RecordsSeen, EachLeft}
-use Rattle.durable_journal.specs.Log.{StandsFor, OpensAs, IsLeft}
+use Rattle.durable_journal.specs.Log.{StandsFor, OpensAs, IsLeft, HasSome}
 use Rattle.journal_out.specs.declared.standing.Standing.{Standing}
-use Rattle.journal_out.specs.declared.standing.Standing.TheVariants.{Going}
+use Rattle.journal_out.specs.declared.standing.Standing.TheVariants.{Going, Faulted, Other}
 use Rattle.journal_out.specs.Compared.{Begins, IsFirstOther, with_rest}
-use Rattle.journal_out.specs.Outs.{Begun, IsOf, IsGoing, TakenAt, LostAt}
+use Rattle.journal_out.specs.Outs.{Begun, IsOf, IsGoing, TakenAt, LeftAt, LostAt, other_stops}
 use Rattle.journal_out.proofs.Putting.{taken_at}
 use Rattle.journal_run.specs.Found.{Holds}
+use Rattle.journal_run.specs.Left.{IsFrontWith, IsRunFront}
+use Rattle.journal_run.proofs.Left.{front_with}
 use Rattle.journal_run.specs.Ran.{IsGot, IsHalted, IsKept, HasOther}
 
-abbrev pub made : Names → Set → List Entry → ℕ → Bool → Begun
-made names set there room tells = record { names = names; set = set; there = there; room = room; tells = tells }
+abbrev pub made : {D : Type 0} → Names → Set → List Entry → ℕ → D → Begun D
+made names set there room disk = record { names = names; set = set; there = there; room = room; disk = Some disk }
 
-module _ {D : Type 0} (seen : D → Option (List ℕ)) (may_leave : D → List ℕ → Type 0) (begun : Begun) where
+module _ {D : Type 0} (seen : D → Option (List ℕ)) (may_leave : D → List ℕ → Type 0) (moment : D → ℕ) (left_since : D → ℕ → List ℕ → Type 0) (begun : Begun D) where
   -- what an out with these fields got
   abbrev pub Got : Standing → Names → Set → RecordsSeen D → List Entry → List Entry → ℕ → List Entry → Type 0
   Got standing names set log there kept room story =
-      (kept ≡ story) × IsOf begun names set there room (seen log.disk) × TakenAt standing (IsGoing seen may_leave begun.names begun.set log begun.there story)
+      (kept ≡ story) × IsOf seen begun names set there room log.disk
+      × TakenAt standing (IsGoing seen may_leave moment left_since begun.names begun.set begun.disk log begun.there story)
+
+  -- and what it lost
+  abbrev pub Lost : Standing → RecordsSeen D → List Entry → List Entry → Type 0
+  Lost standing log kept piece = LostAt standing begun.there kept piece × LeftAt seen moment left_since begun.names begun.set begun.disk log.disk standing begun.there kept piece
 
   -- an out that has taken nothing
   pub none_got : (standing : Standing) (names : Names) (set : Set) (log : RecordsSeen D) (there kept : List Entry) (room : ℕ)
-      → begun ≡ record { names = names; set = set; there = there; room = room; tells = is_some (seen log.disk) }
-      → standing ≡ Going → kept ≡ [] → IsGoing seen may_leave names set log there [] → Got standing names set log there kept room []
+      → begun ≡ made names set there room log.disk
+      → standing ≡ Going → kept ≡ [] → IsGoing seen may_leave moment left_since names set (Some log.disk) log there [] → Got standing names set log there kept room []
   none_got standing names set log there kept room is going empty h =
-      let b : Begun = record { names = names; set = set; there = there; room = room; tells = is_some (seen log.disk) } in
-      let P : Begun → Type 0 = λ x. (kept ≡ []) × IsOf x names set there room (seen log.disk) × TakenAt standing (IsGoing seen may_leave x.names x.set log x.there []) in
+      let P : Begun D → Type 0 = λ x. (kept ≡ []) × IsOf seen x names set there room log.disk × TakenAt standing (IsGoing seen may_leave moment left_since x.names x.set x.disk log x.there []) in
       subst P (sym is) (
         empty,
-        record { names_are = refl; set_is = refl; there_is = refl; room_is = refl; tells_is = refl },
-        taken_at standing (IsGoing seen may_leave names set log there []) going h,
+        record { names_are = refl; set_is = refl; there_is = refl; room_is = refl; tells = (λ told. told, λ told. told) },
+        taken_at standing (IsGoing seen may_leave moment left_since names set (Some log.disk) log there []) going h,
       )
 
   -- it can take each run
@@ -64,12 +77,16 @@ module _ {D : Type 0} (seen : D → Option (List ℕ)) (may_leave : D → List �
     Got' story = Got standing' names' set' log' there' kept' room' story
 
     -- an out that stopped
-    pub got_front : (h : IsStopped w got Got' (LostAt standing' begun.there kept')) → IsHalted w standing' there' kept'
-    got_front h =
+    pub got_front : (names : Names) (there : List Entry) (room : ℕ) (disk : D) → begun ≡ made names w.set there room disk → IsStopped w got Got' (Lost standing' log' kept')
+        → IsHalted w seen may_leave moment left_since names disk log' standing' there' kept'
+    got_front names there room disk of h =
         let it = h.grown [] none in
         let is : kept' ≡ take h.passed h.history = it.0 in
         let piece : List Entry = take h.missed (drop h.passed h.history) in
         let rest : List Entry = drop h.missed (drop h.passed h.history) in
+        let there_is : begun.there ≡ there' = sym it.1.there_is in
+        let P : Begun D → Type 0 = λ x. LeftAt seen moment left_since x.names x.set x.disk log'.disk standing' there' kept' piece in
+        let Q : Begun D → Type 0 = λ x. TakenAt standing' (IsGoing seen may_leave moment left_since x.names x.set x.disk log' there' kept') in
         record {
           history = h.history;
           sim = h.sim;
@@ -77,8 +94,17 @@ module _ {D : Type 0} (seen : D → Option (List ℕ)) (may_leave : D → List �
           rest = rest;
           parts = sym (append_assoc kept' piece rest ∙ (ap (λ (l : List Entry). kept' ++ l) (take-append-drop h.missed (drop h.passed h.history))
               ∙ (ap (λ (l : List Entry). l ++ drop h.passed h.history) is ∙ take-append-drop h.passed h.history)));
-          lost = subst (λ (l : List Entry). LostAt standing' l kept' piece) (sym it.1.there_is) h.is_lost;
+          lost = subst (λ (l : List Entry). LostAt standing' l kept' piece) there_is h.is_lost.0;
+          going = subst Q of (subst (λ (l : List Entry). TakenAt standing' (IsGoing seen may_leave moment left_since begun.names begun.set begun.disk log' l kept')) there_is
+              (subst (λ (l : List Entry). TakenAt standing' (IsGoing seen may_leave moment left_since begun.names begun.set begun.disk log' begun.there l)) (sym is) it.2));
+          left = subst P of (subst (λ (l : List Entry). LeftAt seen moment left_since begun.names begun.set begun.disk log'.disk standing' l kept' piece) there_is h.is_lost.1);
         }
+
+    -- an out whose disk tells goes on so
+    pub tells_on : (disk : D) (names : Names) (there : List Entry) (room : ℕ) (story : List Entry) → begun ≡ made names w.set there room disk → Got' story → IsSome (seen disk) ↔ IsSome (seen log'.disk)
+    tells_on disk names there room story of g =
+        let P : Begun D → Type 0 = λ x. IfSome x.disk (λ d. IsSome (seen d) ↔ IsSome (seen log'.disk)) in
+        subst P of g.1.tells
 
 -- ---- what the disk holds after a whole run
 
@@ -106,12 +132,12 @@ holds_now names set seen outcomes stopped history e may left =
     let each = each_as seen (IsLeft names set stopped history) (λ c. OpensAs names set c history) outcomes (λ c. opens_as names set stopped history c e) left in
     record { reads = reads_as seen outcomes _ may each; crash = each }
 
-pub kept_run : {D : Type 0} (seen : D → Option (List ℕ)) (may_leave : D → List ℕ → Type 0) (w : Workload) (stands : List Entry → Type 0) (names : Names) (log : RecordsSeen D)
-    (there kept : List Entry) → IsGot w stands seen may_leave names log there kept → Begins there kept → IfSome (seen log.disk) (may_leave log.disk)
+pub kept_run : {D : Type 0} (seen : D → Option (List ℕ)) (may_leave : D → List ℕ → Type 0) (moment : D → ℕ) (left_since : D → ℕ → List ℕ → Type 0) (begun : D) (w : Workload) (stands : List Entry → Type 0) (names : Names) (log : RecordsSeen D)
+    (there kept : List Entry) → IsGot w stands seen may_leave moment left_since names begun log there kept → Begins there kept → IfSome (seen log.disk) (may_leave log.disk)
     → ((n : Names) (set : Set) (entries : List Entry) → AreNames n.items → AreNames n.txns → StandsFor seen may_leave n set log entries
     → EachLeft (seen log.disk) (may_leave log.disk) (IsLeft n set log.stopped entries))
     → (disk : D) → disk ≡ log.disk → IsKept w stands names (seen disk) (may_leave disk) there kept
-kept_run {D} seen may_leave w stands names log there kept got begins may crash disk is =
+kept_run {D} seen may_leave moment left_since begun w stands names log there kept got begins may crash disk is =
     let going = got.going in
     let stood : StandsFor seen may_leave names w.set log kept = subst (λ (l : List Entry). StandsFor seen may_leave names w.set log l) (whole_rest there kept begins) going.stands in
     subst (λ (d : D). IsKept w stands names (seen d) (may_leave d) there kept) (sym is)
@@ -143,3 +169,74 @@ first_is w there history kept place number sim same first is = record {
   sim = sim;
   other = record { place = place; first = subst (λ (l : List Entry). IsFirstOther there l place) same first; is = is };
 }
+
+-- ---- what is left of the disk
+
+module _ {D : Type 0} (seen : D → Option (List ℕ)) (may_leave : D → List ℕ → Type 0) (moment : D → ℕ) (left_since : D → ℕ → List ℕ → Type 0) where
+  -- a log that was opened, and an out that has taken nothing
+  pub going_first : (names : Names) (set : Set) (log : RecordsSeen D) (there : List Entry) → AreNames names.items × AreNames names.txns → NamesSet names set → log.stopped ≡ false
+      → StandsFor seen may_leave names set log there → ((c : List ℕ) → left_since log.disk (moment log.disk) c → may_leave log.disk c)
+      → ((n : Names) (q : Set) (entries : List Entry) → AreNames n.items → AreNames n.txns → StandsFor seen may_leave n q log entries → EachLeft (seen log.disk) (may_leave log.disk) (IsLeft n q log.stopped entries))
+      → IsGoing seen may_leave moment left_since names set (Some log.disk) log there []
+  going_first names set log there named one goes stands now crash = record {
+    item_names = named.0;
+    txn_names = named.1;
+    one_each = one;
+    goes = goes;
+    agrees = sym (take-nil (length there));
+    stands = stands;
+    untouched = λ fits. refl;
+    moments = λ told. started moment left_since log.disk (HasSome names set there (drop (length there) [])) (may_leave log.disk) now
+        (λ c left. some_none names set there (drop (length there) []) log.stopped c goes (each_told (seen log.disk) (may_leave log.disk) (IsLeft names set log.stopped there) told (crash names set there named.0 named.1 stands) c left));
+  }
+
+  -- the entries behind what the disk had are those of the run
+  run_front : (w : Workload) (names : Names) (there history front more : List Entry) → IsSim w history → history ≡ front ++ more → Begins there front → (c : List ℕ)
+      → HasSome names w.set there (drop (length there) front) c → IsRunFront w names there c
+  run_front w names there history front more sim parts begins c h =
+      (history, sim, subst (λ (l : List Entry). IsFrontWith names w.set there l c) (sym parts) (front_with names w.set there front more c begins h))
+
+  -- after a whole run that begins with what the disk had
+  pub whole_left : (w : Workload) (stands : List Entry → Type 0) (names : Names) (begun : D) (log : RecordsSeen D) (there kept : List Entry) → IsGot w stands seen may_leave moment left_since names begun log there kept → Begins there kept
+      → IsSome (seen begun) → LeavesOnly moment left_since begun log.disk (IsRunFront w names there)
+  whole_left w stands names begun log there kept got begins told =
+      weaken moment left_since begun log.disk (HasSome names w.set there (drop (length there) kept)) (IsRunFront w names there) (got.going.moments told)
+      (run_front w names there kept kept [] got.sim (sym (append-nil kept)) begins)
+
+  -- after one behind which the disk has more
+  pub behind_left : (w : Workload) (stands : List Entry → Type 0) (names : Names) (begun : D) (log : RecordsSeen D) (there kept : List Entry) → IsGot w stands seen may_leave moment left_since names begun log there kept → length kept < length there
+      → log.disk ≡ begun
+  behind_left w stands names begun log there kept got more = got.going.untouched (omega (arith, more))
+
+  -- after one that was halted by a fault
+  pub fault_left : (w : Workload) (names : Names) (begun : D) (log : RecordsSeen D) (standing : Standing) (there kept : List Entry) → IsHalted w seen may_leave moment left_since names begun log standing there kept → other_stops standing ≡ 0
+      → (log.disk ≡ begun) ⊎ (IsSome (seen begun) → LeavesOnly moment left_since begun log.disk (IsRunFront w names there))
+  fault_left w names begun log (Other place) there kept h none = absurd (omega (arith, none))
+  fault_left w names begun log Faulted there kept h none = inr (λ told.
+      weaken moment left_since begun log.disk (HasSome names w.set there (drop (length there) (kept ++ h.piece))) (IsRunFront w names there) (h.left told)
+      (run_front w names there h.history (kept ++ h.piece) h.rest h.sim h.parts h.lost.1))
+  fault_left w names begun log Going there kept h none = ⊎_elim
+      (λ fits. inl (h.going.untouched (omega (arith, fits))))
+      (λ longer. inr (λ told.
+      weaken moment left_since begun log.disk (HasSome names w.set there (drop (length there) kept)) (IsRunFront w names there) (h.going.moments told)
+      (run_front w names there h.history kept (h.piece ++ h.rest) h.sim (h.parts ∙ append_assoc kept h.piece h.rest) (begins_of_agree there kept h.going.agrees longer))))
+      (cases_lt (length kept) (length there))
+
+  -- after one that was halted by another entry
+  pub other_left : (w : Workload) (names : Names) (begun : D) (log : RecordsSeen D) (standing : Standing) (there kept : List Entry) → IsHalted w seen may_leave moment left_since names begun log standing there kept → other_stops standing ≡ 1
+      → log.disk ≡ begun
+  other_left w names begun log Going there kept h one = absurd (omega (arith, one))
+  other_left w names begun log Faulted there kept h one = absurd (omega (arith, one))
+  other_left w names begun log (Other place) there kept h one = h.left
+
+  -- said of the disk that the call was handed, and of the one that it hands back
+  pub moved_run : (w : Workload) (names names' : Names) (old old' new new' : D) (there there' : List Entry) → names' ≡ names → old' ≡ old → new ≡ new' → there' ≡ there
+      → (IsSome (seen old') → LeavesOnly moment left_since old' new' (IsRunFront w names' there')) → IsSome (seen old) → LeavesOnly moment left_since old new (IsRunFront w names there)
+  moved_run w names names' old old' new new' there there' n o d t h =
+      subst (λ (x : Names). IsSome (seen old) → LeavesOnly moment left_since old new (IsRunFront w x there)) n
+      (subst (λ (l : List Entry). IsSome (seen old) → LeavesOnly moment left_since old new (IsRunFront w names' l)) t
+      (subst (λ (x : D). IsSome (seen x) → LeavesOnly moment left_since x new (IsRunFront w names' there')) o
+      (subst (λ (x : D). IsSome (seen old') → LeavesOnly moment left_since old' x (IsRunFront w names' there')) (sym d) h)))
+
+pub some_is : {A : Type 0} (o : Option A) (x : A) → o ≡ Some x → IsSome o
+some_is o x is = subst (λ (q : Option _). IsSome q) (sym is) refl

@@ -1,4 +1,5 @@
 pub mod Found
+pub mod Left
 pub mod Ready
 pub mod Ran
 pub mod Replies

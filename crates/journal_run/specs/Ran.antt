@@ -1,5 +1,5 @@
 -- What a run over a log leaves.
-use Rattle.std.specs.Prelude.{◌≡◌, ℕ, List, ◌++◌, Option}
+use Rattle.std.specs.Prelude.{◌≡◌, ℕ, List, ◌++◌, Option, Some}
 use Rattle.io_edge.specs.Causes.{Rose}
 use Rattle.rt_base.specs.declared.name.Names.{Names}
 use Rattle.step_journal.specs.declared.entry.Entry.{Entry}
@@ -7,26 +7,29 @@ use Rattle.sim_history.specs.Sim.{Workload, IsSim}
 use Rattle.durable_records.specs.Standing.{RecordsSeen}
 use Rattle.journal_out.specs.declared.standing.Standing.{Standing}
 use Rattle.journal_out.specs.Compared.{Begins, IsOtherRecord}
-use Rattle.journal_out.specs.Outs.{IsGoing, LostAt}
+use Rattle.journal_out.specs.Outs.{IsGoing, LeftAt, LostAt, TakenAt}
 use Rattle.journal_run.specs.declared.over.Halt.{Halt}
 use Rattle.journal_run.specs.declared.over.Halt.TheVariants.{Other, Fault}
 use Rattle.journal_run.specs.Found.{Holds}
 
 -- a whole run, for which the board stands, and which the out has
-pub record IsGot {D : Type 0} (w : Workload) (stands : List Entry → Type 0) (seen : D → Option (List ℕ)) (may_leave : D → List ℕ → Type 0)
-    (names : Names) (log : RecordsSeen D) (there kept : List Entry) : Type 0 where
+pub record IsGot {D : Type 0} (w : Workload) (stands : List Entry → Type 0) (seen : D → Option (List ℕ)) (may_leave : D → List ℕ → Type 0) (moment : D → ℕ) (left_since : D → ℕ → List ℕ → Type 0)
+    (names : Names) (begun : D) (log : RecordsSeen D) (there kept : List Entry) : Type 0 where
   pub sim : IsSim w kept
   pub stood : stands kept
-  pub going : IsGoing seen may_leave names w.set log there kept
+  pub going : IsGoing seen may_leave moment left_since names w.set (Some begun) log there kept
 
--- a run of which the out got the first entries, and lost the next ones
-pub record IsHalted (w : Workload) (standing : Standing) (there kept : List Entry) : Type 0 where
+-- a run of which the out got the first entries, and lost the next ones, and what is left of the disk
+pub record IsHalted {D : Type 0} (w : Workload) (seen : D → Option (List ℕ)) (may_leave : D → List ℕ → Type 0) (moment : D → ℕ) (left_since : D → ℕ → List ℕ → Type 0) (names : Names)
+    (begun : D) (log : RecordsSeen D) (standing : Standing) (there kept : List Entry) : Type 0 where
   pub history : List Entry
   pub sim : IsSim w history
   pub piece : List Entry
   pub rest : List Entry
   pub parts : history ≡ kept ++ piece ++ rest
   pub lost : LostAt standing there kept piece
+  pub left : LeftAt seen moment left_since names w.set (Some begun) log.disk standing there kept piece
+  pub going : TakenAt standing (IsGoing seen may_leave moment left_since names w.set (Some begun) log there kept)
 
 -- a whole run, which begins with what the disk had, and which the disk holds
 pub record IsKept (w : Workload) (stands : List Entry → Type 0) (names : Names) (seen : Option (List ℕ)) (may_leave : List ℕ → Type 0)

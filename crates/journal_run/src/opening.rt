@@ -4,7 +4,8 @@ ghost use Rattle.io_edge.specs.Causes.{HasCause, Rose};
 ghost use Rattle.rt_base.specs.Names.{AreNames};
 ghost use Rattle.report_lines.specs.Texts.{NamesSet};
 ghost use Rattle.durable_journal.specs.Log.{StandsFor};
-ghost use Rattle.durable_journal.specs.Opened.{IfFull};
+ghost use Rattle.durable_journal.specs.Opened.{IfFull, Passes};
+ghost use Rattle.journal_run.specs.Left.{HasMade, HasRefused};
 ghost use Rattle.journal_run.specs.Found.{IsFound, RefusedAt};
 
 use durable_disk::Disk;
@@ -18,7 +19,7 @@ use txn_set::CompiledSet;
 // Whether the disk reads as empty: a read of one byte gives none.
 fn is_empty<D: Disk>(disk: &mut D) -> Result<bool, Failed>
     ensures empty { IfOk result (λ is. IfSome (D.seen disk.old) (λ file. IsTrue is ↔ (file ≡ []))) }
-    ensures seen { D.seen disk.new ≡ D.seen disk.old }
+    ensures passes { Passes D.seen D.may_leave D.moment D.left_since disk.old disk.new }
     ensures cause { HasCause (D.faults disk.old) (D.faults disk.new) result }
 {
     let mut byte = [0];
@@ -39,9 +40,13 @@ pub(crate) fn opened<D: Disk>(
     requires same { NamesSet names.now set.now }
     ensures found { IfOk result (λ r. IfSome (D.seen disk) (λ file. IsFound names.now set.now room file r.1.items)) }
     ensures refused { IfErr result (λ e. IfSome (D.seen disk) (λ file. RefusedAt names.now set.now room file e.1)) }
+    // What is done to the disk, at each moment of the call.
+    ensures made { IfOk result (λ r. IfSome (D.seen disk) (λ file. HasMade D.seen D.may_leave D.moment D.left_since names.now set.now room file disk r.0.disk)) }
+    ensures made_err { IfErr result (λ e. IfSome (D.seen disk) (λ file. HasRefused D.seen D.may_leave D.moment D.left_since names.now set.now room file e.1 disk e.0)) }
     ensures stands { IfOk result (λ r. StandsFor D.seen D.may_leave names.now set.now r.0 r.1.items) }
     ensures goes { IfOk result (λ r. r.0.stopped ≡ false) }
     ensures told { IfOk result (λ r. IsSome (D.seen disk) ↔ IsSome (D.seen r.0.disk)) }
+    ensures told_err { IfErr result (λ e. IsSome (D.seen disk) ↔ IsSome (D.seen e.0)) }
     ensures later { IfOk result (λ r. D.faults disk ≤ D.faults r.0.disk) }
     ensures full { IfErr result (λ e. IfFull e.1 (λ first. length first ≡ room)) }
     ensures goes_err { IfErr result (λ e. e.1 ≡ LogError.Stopped → ⊥) }

@@ -1,5 +1,5 @@
 //! A run whose entries go to a log.
-ghost use Rattle.std.specs.Prelude.{◌≡◌, ◌≤◌, ◌+◌, ◌↔◌, [], length, vec_capacity, false, is_some, IfOk, IfErr, IsSome, OnErr};
+ghost use Rattle.std.specs.Prelude.{◌≡◌, ◌≤◌, ◌+◌, ◌↔◌, [], length, vec_capacity, false, Some, IfOk, IfErr, IsSome, OnErr};
 ghost use Rattle.std.specs.Prelude.{List as Many};
 ghost use Rattle.io_edge.specs.Causes.{HasCause};
 ghost use Rattle.step_journal.specs.declared.entry.Entry.{Entry as Noted};
@@ -11,6 +11,7 @@ ghost use Rattle.journal_out.specs.declared.standing.Standing.TheVariants.{Going
 ghost use Rattle.journal_out.specs.Outs.{IsGoing, other_stops};
 ghost use Rattle.journal_run.specs.Ready.{CanRun, workload_in};
 ghost use Rattle.journal_run.specs.Ran.{HaltedBy, IsGot, IsHalted, IsKept};
+ghost use Rattle.journal_run.specs.Left.{LeavesRun};
 
 use crate::runner::Runner;
 use board::Board;
@@ -34,20 +35,20 @@ pub(crate) enum Halt {
 }
 
 // Runs a workload over an out that has taken nothing yet.
-fn run_out<B: Board, Y: Body, D: Disk, T: Journaled>(
+fn run_out<B: Board, Y: Body, D: Disk, T: Journaled<D>>(
     runner: &mut Runner<B, Y>,
     out: &mut JournalOut<D, T>,
 ) -> Result<(), Stopped>
     requires ready { CanRun B.stands B.set B.room Y.gives runner.old }
-    requires begun { T.begun ≡ record { names = out.old.names.now; set = B.set runner.old.board; there = out.old.there.items; room = out.old.room; tells = is_some (D.seen out.old.log.disk) } }
+    requires begun { T.begun ≡ record { names = out.old.names.now; set = B.set runner.old.board; there = out.old.there.items; room = out.old.room; disk = Some out.old.log.disk } }
     requires same { out.old.set.now ≡ B.set runner.old.board }
     requires fresh { (out.old.standing ≡ Going) × (out.old.kept.items ≡ []) }
-    requires going { IsGoing D.seen D.may_leave out.old.names.now out.old.set.now out.old.log out.old.there.items [] }
+    requires going { IsGoing D.seen D.may_leave D.moment D.left_since out.old.names.now out.old.set.now (Some out.old.log.disk) out.old.log out.old.there.items [] }
     requires places { (history : Many Noted) → IsSim (workload_in B.set Y.gives runner.old) history → length history ≤ out.old.room }
-    ensures got { IfOk result (λ _. IsGot (workload_in B.set Y.gives runner.old) (B.stands runner.new.board) D.seen D.may_leave out.old.names.now out.new.log out.new.there.items out.new.kept.items) }
-    ensures halted { OnErr result (IsHalted (workload_in B.set Y.gives runner.old) out.new.standing out.new.there.items out.new.kept.items) }
+    ensures got { IfOk result (λ _. IsGot (workload_in B.set Y.gives runner.old) (B.stands runner.new.board) D.seen D.may_leave D.moment D.left_since out.old.names.now out.old.log.disk out.new.log out.new.there.items out.new.kept.items) }
+    ensures halted { OnErr result (IsHalted (workload_in B.set Y.gives runner.old) D.seen D.may_leave D.moment D.left_since out.old.names.now out.old.log.disk out.new.log out.new.standing out.new.there.items out.new.kept.items) }
     ensures there { out.new.there.items ≡ out.old.there.items }
-    ensures tells { is_some (D.seen out.new.log.disk) ≡ is_some (D.seen out.old.log.disk) }
+    ensures told { IsSome (D.seen out.old.log.disk) ↔ IsSome (D.seen out.new.log.disk) }
     ensures cause { HasCause (D.faults out.old.log.disk) (D.faults out.new.log.disk + other_stops out.new.standing) result }
     ensures set { B.set runner.new.board ≡ B.set runner.old.board }
 {
@@ -74,10 +75,13 @@ pub(crate) fn run_log<B: Board, Y: Body, D: Disk>(
     requires places { (history : Many Noted) → IsSim (workload_in B.set Y.gives runner.old) history → length history ≤ room }
     ensures kept { IfOk result.0 (λ es. IsKept (workload_in B.set Y.gives runner.old) (B.stands runner.new.board) names.now (D.seen result.1) (D.may_leave result.1) found.1.items es.items) }
     ensures halted { IfErr result.0 (HaltedBy (workload_in B.set Y.gives runner.old) found.1.items (D.faults found.0.disk) (D.faults result.1)) }
+    // What a crash leaves at each moment of the run.
+    ensures left { LeavesRun D.seen D.moment D.left_since (workload_in B.set Y.gives runner.old) names.now found.1.items found.0.disk result.1 result.0 }
     ensures told { IsSome (D.seen found.0.disk) ↔ IsSome (D.seen result.1) }
     ensures set { B.set runner.new.board ≡ B.set runner.old.board }
 {
     let (log, there) = found;
+    log.after_crash();
     let mut out: JournalOut<D, Brand> = JournalOut::new(names, set, log, there, kept, room);
     let ran = run_out::<B, Y, D, Brand>(runner, &mut out);
     let behind = out.left_over();

@@ -1,5 +1,5 @@
 //! The run of a scenario over a journal.
-ghost use Rattle.std.specs.Prelude.{◌≡◌, ◌≤◌, ◌<◌, ◌↔◌, [], length, true, IfOk, IsSome, IsErrOf};
+ghost use Rattle.std.specs.Prelude.{◌≡◌, ◌≤◌, ◌<◌, ◌↔◌, [], length, true, IfOk, IfSome, IsSome, IsErrOf};
 ghost use Rattle.std.specs.Prelude.{List as Many};
 ghost use Rattle.io_edge.specs.Causes.{Rose};
 ghost use Rattle.step_journal.specs.declared.entry.Entry.{Entry as Noted};
@@ -15,6 +15,7 @@ ghost use Rattle.journal_run.specs.Ready.{CanRun, workload_in};
 ghost use Rattle.journal_run.specs.Plans.{HasBegun};
 ghost use Rattle.journal_run.specs.Replies.{JournalReply, Journaled, HoldsRun, LeavesDisk, bad_line};
 ghost use Rattle.journal_run.specs.Refused.{IsNamed, IsHaltReply};
+ghost use Rattle.journal_run.specs.Left.{IsKept, IsSameFile, LeavesSo};
 
 use crate::beside::number_beside;
 use crate::equip::{Begun, equipped};
@@ -114,7 +115,9 @@ fn run_over<B: Board + Drop, Y: Body + Drop, D: Disk>(
     ensures reply { (s : Shown) → HasBegun s (workload_in B.set Y.gives runner) begun → IfOk result.0 (λ r. Journaled s (D.seen disk) r.status r.text.items) }
     ensures holds { (s : Shown) → HasBegun s (workload_in B.set Y.gives runner) begun → IfOk result.0 (λ r. r.status ≡ Status.Ok → HoldsRun s (D.seen result.1) (D.may_leave result.1)) }
     ensures fault { IsErrOf result.0 RunFault.Writing → Rose (D.faults disk) (D.faults result.1) }
-    ensures told { IfOk result.0 (λ r. r.status ≡ Status.Ok → (IsSome (D.seen disk) ↔ IsSome (D.seen result.1))) }
+    ensures left { (s : Shown) → HasBegun s (workload_in B.set Y.gives runner) begun → IfSome (D.seen disk) (λ file. LeavesSo D.seen D.may_leave D.moment D.left_since (IsKept s file) file disk result.1) }
+    ensures bad { IfOk result.0 (λ r. r.status ≡ Status.BadJournal → IfSome (D.seen disk) (λ file. IfSome (D.seen result.1) (IsSameFile file))) }
+    ensures told { IsSome (D.seen disk) ↔ IsSome (D.seen result.1) }
 {
     let Begun {
         names,
@@ -171,7 +174,13 @@ pub fn run_journal<D: Disk>(
     ensures holds { IfOk result.0 (λ r. r.status ≡ Status.Ok → HoldsRun (shown scenario) (D.seen result.1) (D.may_leave result.1)) }
     // The disk's fault is told only where it counted one.
     ensures fault { IsErrOf result.0 RunFault.Writing → Rose (D.faults disk) (D.faults result.1) }
-    ensures told { IfOk result.0 (λ r. r.status ≡ Status.Ok → (IsSome (D.seen disk) ↔ IsSome (D.seen result.1))) }
+    // A disk that tells goes on telling. What it reads as then, and what a crash leaves at each moment of the call: what there was,
+    // with a gate more at its end at most; or first entries of the run that hold at least what was there; or, of an empty disk,
+    // a journal that was begun.
+    ensures told { IsSome (D.seen disk) ↔ IsSome (D.seen result.1) }
+    ensures left { IfSome (D.seen disk) (λ file. LeavesSo D.seen D.may_leave D.moment D.left_since (IsKept (shown scenario) file) file disk result.1) }
+    // A journal that is refused reads as it did, with a gate more at its end at most.
+    ensures bad { IfOk result.0 (λ r. r.status ≡ Status.BadJournal → IfSome (D.seen disk) (λ file. IfSome (D.seen result.1) (IsSameFile file))) }
     // A scenario that is refused leaves the disk as it was.
     ensures untouched { IfOk result.0 (λ r. LeavesDisk r.status → result.1 ≡ disk) }
 {

@@ -12,6 +12,7 @@ use Rattle.command_replies.specs.Replies.{Reply}
 use Rattle.durable_journal.specs.Log.{OpensAs}
 use Rattle.journal_out.specs.Compared.{Begins}
 use Rattle.journal_run.specs.Replies.{JournalReply, HoldsRun, first_eager}
+use Rattle.journal_run.specs.Left.{IsKept, LeavesSo}
 use Rattle.rtdb_command.specs.Replies.{AskedReply, usage_text, scenario_limit}
 use Rattle.rtdb_command.specs.Answers.{TakesAll, TakesNone, Judged, Told, CutShort, IsReadFrom, IsReadAdmitted, IsWithin}
 
@@ -75,6 +76,13 @@ pub record HoldsFrom (old new seen : Option (List ℕ)) (may_leave : List ℕ �
   pub read : IsReadFrom old new scenario
   pub holds : HoldsRun scenario seen may_leave
 
+-- What the run of the scenario that was read made of a disk that told this file.
+pub record KeptFrom {D : Type 0} (seen : D → Option (List ℕ)) (may_leave : D → List ℕ → Type 0) (moment : D → ℕ) (left_since : D → ℕ → List ℕ → Type 0)
+    (left left' : Option (List ℕ)) (file : List ℕ) (old new : D) : Type 0 where
+  pub scenario : Shown
+  pub read : IsReadFrom left left' scenario
+  pub kept : LeavesSo seen may_leave moment left_since (IsKept scenario file) file old new
+
 -- The disk reads as empty, or has the first entries of the run of the scenario.
 pub record HasFront (s : Shown) (file : List ℕ) : Type 0 where
   pub history : List Entry
@@ -83,7 +91,7 @@ pub record HasFront (s : Shown) (file : List ℕ) : Type 0 where
   pub begins : Begins there history
   pub has : (file ≡ []) ⊎ OpensAs s.names (set_of s) file there
 
--- the scenario is read and admitted, has no eager transaction, and its run goes on where the disk ends
+-- the scenario is read and admitted, has no eager transaction, and the disk is empty or has the first entries of its run
 pub record CanJournal (file : List ℕ) (input : List ℕ) : Type 0 where
   pub is_read : IsReadAdmitted input
   pub calm : first_eager is_read.is_read.scenario ≡ None

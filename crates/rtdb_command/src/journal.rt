@@ -1,9 +1,10 @@
 //! The call for a journal.
-ghost use Rattle.std.specs.Prelude.{◌≡◌, ◌⊎◌, ◌↔◌, true, IfOk, IfErr, IsErrOf, IsSome, IsTrue};
+ghost use Rattle.std.specs.Prelude.{◌≡◌, ◌⊎◌, ◌↔◌, true, IfOk, IfErr, IfSome, IsErrOf, IsSome, IsTrue};
 ghost use Rattle.io_edge.specs.Causes.{Rose};
 ghost use Rattle.command_replies.specs.Causes.{HasReadCause, HasWriteCause};
 ghost use Rattle.journal_run.specs.Replies.{LeavesDisk};
-ghost use Rattle.rtdb_command.specs.Journals.{is_path as is_path_of, is_journal as is_journal_of, IsAnswerFor, JournalAnswers, HoldsFrom, IsGoodFor, IsMute};
+ghost use Rattle.journal_run.specs.Left.{IsSameFile};
+ghost use Rattle.rtdb_command.specs.Journals.{is_path as is_path_of, is_journal as is_journal_of, IsAnswerFor, JournalAnswers, HoldsFrom, KeptFrom, IsGoodFor, IsMute};
 
 use crate::top::{answer_no_command, scenario_from};
 use command_replies::{Reply, Status, Unanswered};
@@ -66,7 +67,9 @@ fn journal_reply<S: Source, D: Disk>(
     ensures mute { IfErr result.0 IsMute }
     ensures read { IsErrOf result.0 Status.ReadFault → Rose (S.faults source.old) (S.faults source.new) }
     ensures fault { IsErrOf result.0 Status.DiskFault → Rose (D.faults disk) (D.faults result.1) }
-    ensures told { IfOk result.0 (λ r. r.status ≡ Status.Ok → (IsSome (D.seen disk) ↔ IsSome (D.seen result.1))) }
+    ensures told { IsSome (D.seen disk) ↔ IsSome (D.seen result.1) }
+    ensures left { IfSome (D.seen disk) (λ file. (result.1 ≡ disk) ⊎ KeptFrom D.seen D.may_leave D.moment D.left_since (S.left source.old) (S.left source.new) file disk result.1) }
+    ensures bad { IfOk result.0 (λ r. r.status ≡ Status.BadJournal → IfSome (D.seen disk) (λ file. IfSome (D.seen result.1) (IsSameFile file))) }
     ensures refused { IfOk result.0 (λ r. LeavesDisk r.status → result.1 ≡ disk) }
     ensures unread { IfErr result.0 (λ status. LeavesDisk status → result.1 ≡ disk) }
 {
@@ -101,7 +104,13 @@ pub fn rtdb_journal<S: Source, K: Sink, D: Disk>(
     ensures read { HasReadCause (S.faults source.old) (S.faults source.new) result.0 }
     ensures write { HasWriteCause (K.faults sink.old) (K.faults sink.new) result.0 }
     ensures fault { result.0 ≡ Status.DiskFault → Rose (D.faults disk) (D.faults result.1) }
-    ensures told { result.0 ≡ Status.Ok → (IsSome (D.seen disk) ↔ IsSome (D.seen result.1)) }
+    // A disk that tells goes on telling. It is as it was; or the scenario is read, and the disk reads as, and a crash at each moment
+    // of the call leaves, what there was, with a gate more at its end at most, or first entries of the run that hold at least what
+    // there was, or, of an empty disk, a journal that was begun.
+    ensures told { IsSome (D.seen disk) ↔ IsSome (D.seen result.1) }
+    ensures left { IfSome (D.seen disk) (λ file. (result.1 ≡ disk) ⊎ KeptFrom D.seen D.may_leave D.moment D.left_since (S.left source.old) (S.left source.new) file disk result.1) }
+    // A journal that is refused reads as it did, with a gate more at its end at most.
+    ensures bad { result.0 ≡ Status.BadJournal → IfSome (D.seen disk) (λ file. IfSome (D.seen result.1) (IsSameFile file)) }
     // With other words, an input that is not read or too long, or a scenario that is refused, the disk is as it was.
     ensures untouched { LeavesDisk result.0 → result.1 ≡ disk }
     // What can be answered is, unless memory runs out.

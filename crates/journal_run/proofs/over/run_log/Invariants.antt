@@ -1,4 +1,4 @@
-use Rattle.std.specs.Prelude.{is_some}
+use Rattle.std.specs.Prelude.{Some}
 use Rattle.journal_run.proofs.over.run_log.Given as goal
 
 abbrev pub ghosts-run_out : goal.ghosts-run_out
@@ -8,6 +8,6 @@ ghosts-run_out g a = record {
     set = g.B.Board.set a.runner.now.board;
     there = a.out.now.there.items;
     room = a.out.now.room;
-    tells = is_some (g.D.Disk.seen a.out.now.log.disk);
+    disk = Some a.out.now.log.disk;
   };
 }

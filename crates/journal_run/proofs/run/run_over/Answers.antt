@@ -11,6 +11,7 @@ use Rattle.command_replies.specs.declared.reply.Reply.{Reply}
 use Rattle.command_replies.proofs.Replying.{taken}
 use Rattle.scenario_run.proofs.Summaries.{refused_by}
 use Rattle.journal_run.proofs.Begun.{short, set_is_w, journaled, journaled_halted, journaled_named, halted_not_ok, if_ok_map}
+use Rattle.journal_run.proofs.Kept.{kept_refused, kept_run_over}
 use Rattle.journal_run.proofs.run.run_over.Goals as goal
 
 pub unopened-reply-requires-clause-places : goal.unopened-reply-requires-clause-places
@@ -57,10 +58,6 @@ pub returns-in-Err-ran-clause-holds : goal.returns-in-Err-ran-clause-holds
 returns-in-Err-ran-clause-holds g c = λ s b.
     if_ok_map c.halted.result (λ (r : Reply) h. λ ok. absurd (halted_not_ok c.in-Err-ran.halt r.status r.text.items h ok)) c.halted.ensures.reply
 
-pub returns-in-Err-ran-clause-told : goal.returns-in-Err-ran-clause-told
-returns-in-Err-ran-clause-told g c =
-    if_ok_map c.halted.result (λ (r : Reply) h. λ ok. absurd (halted_not_ok c.in-Err-ran.halt r.status r.text.items h ok)) c.halted.ensures.reply
-
 pub returns-in-Err-ran-clause-fault : goal.returns-in-Err-ran-clause-fault
 returns-in-Err-ran-clause-fault g c = λ is.
     let w : Workload = workload (g.B.Board.set c.args.runner.board) (map g.Y.Body.gives c.args.runner.bodies.items) c.args.runner.ticks.items in
@@ -69,3 +66,22 @@ returns-in-Err-ran-clause-fault g c = λ is.
     let by : HaltedBy w c.in-Ok.found.1.items before now c.in-Err-ran.halt = refused_by _ _ _ c.in-Err-ran.is c.run_log-ran.ensures.halted in
     let rose : Rose before now = subst (HaltedBy w c.in-Ok.found.1.items before now) (c.halted.ensures.fault is) by in
     omega (arith, rose, c.in-Ok.ensures.later)
+
+pub returns-in-Err-clause-left : goal.returns-in-Err-clause-left
+returns-in-Err-clause-left g c = λ s b.
+    let d = g.D.Disk in
+    kept_refused d.seen d.may_leave d.moment d.left_since s _ _ _ _ _ _ _ _ b c.in-Err.error c.args.disk c.in-Err.disk c.in-Err.ensures.made_err
+
+pub returns-in-Ok-ran-clause-left : goal.returns-in-Ok-ran-clause-left
+returns-in-Ok-ran-clause-left g c = λ s b.
+    let d = g.D.Disk in
+    let new = c.run_log-ran.result.1 in
+    kept_run_over d.seen d.may_leave d.moment d.left_since s _ _ _ _ _ _ _ _ b c.in-Ok.found.1.items c.run_log-ran.result.0 c.args.disk c.in-Ok.found.0.disk new
+    (λ f t le left. g.met.D.Disk.counts_now new t f le left) (g.met.D.Disk.seen_may_stay new) c.in-Ok.ensures.told.0 c.in-Ok.ensures.found c.in-Ok.ensures.made c.run_log-ran.ensures.left
+
+pub returns-in-Err-ran-clause-left : goal.returns-in-Err-ran-clause-left
+returns-in-Err-ran-clause-left g c = λ s b.
+    let d = g.D.Disk in
+    let new = c.run_log-ran.result.1 in
+    kept_run_over d.seen d.may_leave d.moment d.left_since s _ _ _ _ _ _ _ _ b c.in-Ok.found.1.items c.run_log-ran.result.0 c.args.disk c.in-Ok.found.0.disk new
+    (λ f t le left. g.met.D.Disk.counts_now new t f le left) (g.met.D.Disk.seen_may_stay new) c.in-Ok.ensures.told.0 c.in-Ok.ensures.found c.in-Ok.ensures.made c.run_log-ran.ensures.left

@@ -85,3 +85,14 @@ append-requires-clause-legal g c =
       c.loop-entry.invariant.stands given.0 given.2 given.1,
       legal_next set given.0 es i _ (take_more es i _ within) given.2,
     )
+
+pub returns-then-is_empty-clause-any_moment : goal.returns-then-is_empty-clause-any_moment
+returns-then-is_empty-clause-any_moment g c before legal goes s told =
+    let d = g.D.Disk in
+    let names = c.args.names.now in
+    let set = c.args.set.now in
+    let log = c.args.self.now in
+    started d.moment d.left_since log.disk (HasSome names set before c.args.entries.now) (d.may_leave log.disk) (g.met.D.Disk.only_now log.disk)
+    (λ image left. some_none names set before c.args.entries.now log.stopped image goes
+    (each_told (d.seen log.disk) (d.may_leave log.disk) (IsLeft names set log.stopped before) told
+    (is_left c.lines_both_ways.ensures c.found_as_read.ensures.found names c.requires.names.0 c.requires.names.1 set (d.seen log.disk) (d.may_leave log.disk) log.count log.stopped before s) image left))
