@@ -95,7 +95,8 @@ pub fn answer_prefixes<R: Threads + Wait + Sync>(
     Some(true)
 }
 
-/// Fails each call of the sink in turn, until none fails: whether each leaves a front of the wanted text.
+/// Fails each call of the sink in turn, until none fails: whether each leaves a front of the wanted text, and then the whole is
+/// said.
 pub fn answer_faults<R: Threads + Wait + Sync>(
     rt: &R,
     alloc: Global,
@@ -106,8 +107,7 @@ pub fn answer_faults<R: Threads + Wait + Sync>(
         case.write_faults = vec![in alloc; call as u64].ok()?;
         let status = answer(rt, alloc, case)?;
         if status == Status::Ok {
-            let calls = case.piece.saturating_mul(call);
-            return Some(wanted.len() <= calls);
+            return Some(case.said.as_slice() == wanted);
         }
         if status != Status::WriteFault || !wanted.starts_with(&case.said) {
             return Some(false);

@@ -44,9 +44,9 @@ impl Case {
         match self {
             Case::New => "a new journal has the whole run",
             Case::Again => "the same again adds nothing",
-            Case::Crash => "stopped at each call, and run again",
+            Case::Crash => "stopped at each call, torn anywhere, and run again",
             Case::CrashTwice =>
-                "stopped within an append, and again at each call, and run a third time",
+                "stopped within an append, and again at each call of the next run, and run a third time",
             Case::Changed => "a changed record is named",
             Case::Fault => "a fault at the first call is told",
             Case::Longer => "entries behind those of the run are named",
@@ -109,7 +109,7 @@ fn run_beside(base: &Base, disk: MemDisk) -> Option<(Ran, bool)> {
     }
 }
 
-// A second run writes nothing: it would fail, for all calls behind those of the first but the reads and a sync are none.
+// A second run leaves what a read gives as it was.
 fn again(base: &Base) -> Option<bool> {
     let (ran, same) = run_beside(base, base.after_run()?)?;
     let whole = ran.is_whole(base);
@@ -117,27 +117,56 @@ fn again(base: &Base) -> Option<bool> {
     Some(whole && same)
 }
 
-// Whether this call of a run fails, and a run over what a crash leaves then, with so much of what was not synced, is whole.
+// The calls that make the journal: a read, and six that write its header.
+const MAKING: u64 = 7;
+
+// Whether a run over what a crash leaves is whole, or names the header of a journal that was left half made.
+fn is_taken_up(base: &Base, call: u64, disk: MemDisk) -> Option<bool> {
+    if MAKING <= call || disk.bytes().is_empty() {
+        return is_whole(base, disk);
+    }
+    let ran = base.run(disk)?;
+    let taken_up = ran.is_whole(base) || is_named(base, &ran, 0)?;
+    drop(ran);
+    Some(taken_up)
+}
+
+// Whether this call of a run fails, and what a crash leaves then, with so much of what was not synced, is taken up.
 fn recovers(base: &Base, call: u64, kept: usize) -> Option<bool> {
     let Ran {
         status,
         text,
         mut disk,
     } = base.run(base.disk(&[call])?)?;
+    let told = status == Status::DiskFault && text.is_empty();
     drop(text);
-    if status != Status::DiskFault {
+    if !told {
         drop(disk);
         return Some(false);
     }
     disk.crash(kept);
-    is_whole(base, disk)
+    is_taken_up(base, call, disk)
 }
 
-// Each call behind those that make the journal fails in turn, and the crash leaves more or less of what was not synced.
+// How much of what was written and not synced is kept, from the first byte of the record on that a call may write: nothing, a part
+// of its length, of its text, of its zeros, all of it, and the next gate.
+const TEARS: [usize; 10] = [0, 1, 2, 3, 7, 16, 40, 255, 256, 257];
+
+// The byte at which the record stands that a call of a run writes: the header's, or that of an entry, of four calls each.
+fn record_of(call: u64) -> usize {
+    let appends = call.saturating_sub(MAKING) as usize / 4;
+    if call < MAKING {
+        0
+    } else {
+        appends.saturating_add(1).saturating_mul(256)
+    }
+}
+
+// Each call of a run fails in turn, and the crash leaves more or less of what was not synced.
 fn crash(base: &Base) -> Option<bool> {
-    for call in 7..CALLS {
-        for kept in (0..9_000usize).step_by(509) {
-            if !recovers(base, call, kept)? {
+    for call in 0..CALLS {
+        for tear in TEARS {
+            if !recovers(base, call, record_of(call).saturating_add(tear))? {
                 return Some(false);
             }
         }
@@ -145,36 +174,37 @@ fn crash(base: &Base) -> Option<bool> {
     Some(true)
 }
 
-// Where a run was stopped by the disk, the next one, over what a crash leaves.
-fn run_on(base: &Base, ran: Ran, kept: usize) -> Option<Ran> {
-    if ran.status != Status::DiskFault {
-        return Some(ran);
-    }
+// What a run leaves that was stopped by the disk, after a crash; None where it was not stopped.
+fn stopped(ran: Ran, kept: usize) -> Option<MemDisk> {
     let Ran {
-        status: _,
+        status,
         text,
         mut disk,
     } = ran;
     drop(text);
+    if status != Status::DiskFault {
+        drop(disk);
+        return None;
+    }
     disk.crash(kept);
-    base.run(disk)
+    Some(disk)
 }
 
-// Whether the last of at most three runs is whole, of which these calls stop the first two.
+// Whether these calls stop a run and then the next one, and a third one is whole.
 fn recovers_twice(base: &Base, first: u64, second: u64, kept: usize) -> Option<bool> {
-    let ran = base.run(base.disk(&[first, second])?)?;
-    let ran = run_on(base, ran, kept)?;
-    let ran = run_on(base, ran, kept)?;
-    let whole = ran.is_whole(base);
-    drop(ran);
-    Some(whole)
+    let disk = stopped(base.run(base.disk(&[first, second])?)?, kept)?;
+    let disk = stopped(base.run(disk)?, kept)?;
+    is_whole(base, disk)
 }
 
-// Stopped within the third append, and then at each call of the second run, if that has so many.
+// The calls of the appends that are left after the third one.
+const LEFT: u64 = 4 * 29;
+
+// Stopped within the third append, and then at each call that the second run makes at least.
 fn crash_twice(base: &Base) -> Option<bool> {
     for first in 15u64..19 {
-        for second in first + 1..first + CALLS + 10 {
-            for kept in [0, 769, 1_024, 1_025, 10_000] {
+        for second in first + 1..first + LEFT + 1 {
+            for kept in [0, 769, 770, 773, 800, 1_024, 1_025, 10_000] {
                 if !recovers_twice(base, first, second, kept)? {
                     return Some(false);
                 }

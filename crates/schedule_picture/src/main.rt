@@ -2,31 +2,19 @@
 #![tactic(auto)]
 
 use io_edge::{StdSink, StdSource};
-use picture_command::{Status, Word, draw_report};
-use std::alloc::Global;
+use picture_command::{Status, draw_report};
+use process_edge::{exit_code, words_of};
+use rt_base::OutOfMemory;
 use std::env;
-use std::env::Env;
 use std::process::ExitCode;
 
-// The words after the program's name. Where one is no text they are the empty word alone.
-fn words_of<R: Env + Alloc<A = Global>>(rt: &R) -> Option<Vec<Word>> {
-    let mut words = Vec::new(rt.alloc());
-    let Ok(args) = env::args(rt) else {
-        words.push(Word::new(rt.alloc(), "").ok()?).ok()?;
-        return Some(words);
-    };
-    for arg in args.skip(1) {
-        words.push(Word::new(rt.alloc(), arg.as_str()).ok()?).ok()?;
-    }
-    Some(words)
-}
-
 fn main(rt: HostRuntime) -> ExitCode {
-    let Some(words) = words_of(&rt) else {
-        return ExitCode::from(Status::OutOfMemory as u8);
+    let words = match words_of(rt.alloc(), env::args(&rt)) {
+        Ok(words) => words,
+        Err(OutOfMemory) => return exit_code(Status::OutOfMemory),
     };
     let mut source = StdSource::new(rt.stdin());
     let mut sink = StdSink::new(rt.stdout());
     let status = draw_report(rt.alloc(), &words, &mut source, &mut sink);
-    ExitCode::from(status as u8)
+    exit_code(status)
 }

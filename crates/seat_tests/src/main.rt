@@ -128,7 +128,16 @@ fn judged(
     Some((legal, once))
 }
 
-// Whether what was drained and what was kept is one legal history, whatever the schedule was.
+// How many jobs of each transaction committed, as each seat was told.
+fn committed(kept: &[Vec<Entry>; 3]) -> [usize; 3] {
+    let [sampled, controlled, logged] = kept;
+    let (samples, _) = counts(sampled.as_slice(), 0, End::Committed);
+    let (controls, _) = counts(controlled.as_slice(), 1, End::Committed);
+    let (logs, _) = counts(logged.as_slice(), 2, End::Committed);
+    [samples, controls, logs]
+}
+
+// Whether what was drained and what was kept is one legal history, whatever the schedule was, and how many jobs committed.
 fn told_each<B: Board + Drop>(
     alloc: Global,
     set: &CompiledSet,
@@ -143,9 +152,12 @@ fn told_each<B: Board + Drop>(
     let history = history_of(drained, &board);
     drop(board);
     let judged = judged(alloc, set, history, &kept);
+    let committed = committed(&kept);
     drop(kept);
     let (legal, once) = judged?;
-    format!(in alloc; "drained {all_drained}, legal {legal}, told once {once:?}").ok()
+    format!(in alloc;
+        "drained {all_drained}, legal {legal}, told once {once:?}, committed {committed:?}"
+    ).ok()
 }
 
 // What a run of workers on a new plant answers, and the entries that its out took.

@@ -1,5 +1,5 @@
 //! What each seat does on a thread of its own: a sampler, a controller and a logger run their scripts, and the operator
-//! drains. Each makes so many tries at most, so that it ends whatever the others do.
+//! drains. Each goes on until its jobs are over, and makes so many tries at most, so that it ends whatever the others do.
 ghost use Rattle.std.specs.Prelude.{◌≡◌, Some, None, IfSome};
 ghost use Rattle.shared_plant.specs.Seats.{IsOf};
 ghost use Rattle.rt_base.specs.declared.ids.TxId.{TxId as Transaction};
@@ -18,7 +18,10 @@ const TEMP: ItemId = ItemId(0);
 
 const VALVE: ItemId = ItemId(1);
 
-const TRIES: u32 = 100_000;
+// Far more than a caller needs, even where another's thread starts late.
+const TRIES: u32 = 1 << 24;
+
+const DRAINS: u32 = 10_000;
 
 /// The releases of the sampler, the controller and the logger.
 pub const PLANS: [(u32, Tick); 7] = [(0, 0), (0, 10), (0, 20), (0, 30), (1, 0), (1, 20), (2, 0)];
@@ -138,6 +141,15 @@ fn try_once<B: Board>(plant: &Plant<B>, caller: &mut Caller<B>, tx: TxId, now: P
     noted(&mut caller.kept, job, op, reply, now)
 }
 
+// How many jobs of a transaction `PLANS` has.
+fn jobs_of(tx: TxId) -> u32 {
+    match tx.0 {
+        0 => 4,
+        1 => 2,
+        _ => 1,
+    }
+}
+
 fn make_steps<B: Board>(plant: &Plant<B>, caller: &mut Caller<B>, tx: TxId)
     requires { IsOf plant.now caller.old.seat × ((tx : Transaction) × (caller.old.seat.tx ≡ Some tx)) }
     ensures { (caller.new.seat.plant ≡ caller.old.seat.plant) × (caller.new.seat.tx ≡ caller.old.seat.tx) }
@@ -148,6 +160,9 @@ fn make_steps<B: Board>(plant: &Plant<B>, caller: &mut Caller<B>, tx: TxId)
         read: 0,
     };
     for _ in 0..TRIES {
+        if now.serial >= jobs_of(tx) {
+            return;
+        }
         now = try_once(plant, caller, tx, now);
     }
 }
@@ -156,7 +171,7 @@ fn drain_often<B: Board>(plant: &Plant<B>, caller: &mut Caller<B>)
     requires { IsOf plant.now caller.old.seat × (caller.old.seat.tx ≡ None) }
     ensures { (caller.new.seat.plant ≡ caller.old.seat.plant) × (caller.new.seat.tx ≡ caller.old.seat.tx) }
 {
-    for _ in 0..TRIES / 10 {
+    for _ in 0..DRAINS {
         drained(plant, &mut caller.seat, 3, &mut caller.kept);
         thread::yield_now();
     }

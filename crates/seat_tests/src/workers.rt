@@ -232,14 +232,17 @@ fn control_of(alloc: Global, name: &str) -> Result<Script, OutOfMemory> {
 
 fn logger_of(alloc: Global, name: &str) -> Result<Script, OutOfMemory> {
     match name {
-        "overrun" | "hostile" => script(alloc, vec![in alloc; ScriptOp::Compute(100)]?),
+        "overrun" | "hostile" => script(
+            alloc,
+            vec![in alloc; ScriptOp::Read(TEMP), ScriptOp::Compute(100)]?,
+        ),
         "never" => script(
             alloc,
             vec![in alloc; ScriptOp::Read(TEMP), ScriptOp::Read(VALVE)]?,
         ),
         "quit" => script(
             alloc,
-            vec![in alloc; ScriptOp::Read(TEMP), ScriptOp::Read(VALVE), ScriptOp::Quit]?,
+            vec![in alloc; ScriptOp::Read(TEMP), ScriptOp::Compute(4), ScriptOp::Quit]?,
         ),
         _ => logging(alloc),
     }

@@ -1,0 +1,9 @@
+//! What the system hands to a program and what it gets back: the words that the program was called with, and the status
+//! that it ends with.
+#![tactic(auto)]
+
+mod status;
+mod words;
+
+pub use status::exit_code;
+pub use words::words_of;
