@@ -1,5 +1,5 @@
 //! The cases.
-use crate::over_disk::{Base, CALLS, Ran};
+use crate::over_disk::{BODIES_END, Base, CALLS, MAKING, Ran};
 use durable_disk::MemDisk;
 use rtdb_command::Status;
 use std::alloc::Global;
@@ -46,7 +46,7 @@ impl Case {
             Case::Again => "the same again adds nothing",
             Case::Crash => "stopped at each call, and run again",
             Case::CrashTwice =>
-                "stopped within an append, and again at each call, and run a third time",
+                "stopped within a piece, and again at each call, and run a third time",
             Case::Changed => "a changed record is named",
             Case::Fault => "a fault at the first call is told",
             Case::Longer => "entries behind those of the run are named",
@@ -133,16 +133,17 @@ fn recovers(base: &Base, call: u64, kept: usize) -> Option<bool> {
     is_whole(base, disk)
 }
 
-// Each call behind those that make the journal fails in turn, and the crash leaves more or less of what was not synced.
+// Each call behind those that make the journal fails in turn, and the crash leaves more or less of what was not synced. There
+// is no call behind these.
 fn crash(base: &Base) -> Option<bool> {
-    for call in 7..CALLS {
+    for call in MAKING..CALLS {
         for kept in (0..9_000usize).step_by(509) {
             if !recovers(base, call, kept)? {
                 return Some(false);
             }
         }
     }
-    Some(true)
+    is_whole(base, base.disk(&[CALLS])?)
 }
 
 // Where a run was stopped by the disk, the next one, over what a crash leaves.
@@ -170,10 +171,12 @@ fn recovers_twice(base: &Base, first: u64, second: u64, kept: usize) -> Option<b
     Some(whole)
 }
 
-// Stopped within the third append, and then at each call of the second run, if that has so many.
+// Stopped at the third body, at the sync behind the bodies, at the third gate or at the last sync, and then at each call of the
+// second run, if that has so many.
 fn crash_twice(base: &Base) -> Option<bool> {
-    for first in 15u64..19 {
-        for second in first + 1..first + CALLS + 10 {
+    for first in [MAKING + 2, BODIES_END, BODIES_END + 3, CALLS - 1] {
+        for behind in 1..CALLS + 10 {
+            let second = first.saturating_add(behind);
             for kept in [0, 769, 1_024, 1_025, 10_000] {
                 if !recovers_twice(base, first, second, kept)? {
                     return Some(false);
