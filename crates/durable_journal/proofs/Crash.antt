@@ -32,7 +32,7 @@ pub legal_front : (set : Set) (s : State) (xs ys : List Entry) → IsLegalFrom s
 legal_front set s [] ys legal = tt
 legal_front set s (x ∷ xs) ys legal = (legal.0, legal_front set (state_after set s x) xs ys legal.1)
 
-fit_front : (names : Names) (xs ys : List Entry) → AllByRecursion (Fits names) (xs ++ ys) → AllByRecursion (Fits names) xs
+pub fit_front : (names : Names) (xs ys : List Entry) → AllByRecursion (Fits names) (xs ++ ys) → AllByRecursion (Fits names) xs
 fit_front names [] ys fit = tt
 fit_front names (x ∷ xs) ys fit = (fit.0, fit_front names xs ys fit.1)
 
@@ -41,7 +41,7 @@ fit_push names [] e fit one = (one, tt)
 fit_push names (x ∷ xs) e fit one = (fit.0, fit_push names xs e fit.1 one)
 
 module _ (lines : LinesBothWays) (found : FoundAsRead) (names : Names) (items : AreNames names.items) (txns : AreNames names.txns) (set : Set) where
-  opens : (image : List ℕ) (es : List Entry) → AllByRecursion (Fits names) es → IsLegal set es → Reads image (bodies_of names es) → OpensAs names set image es
+  pub opens : (image : List ℕ) (es : List Entry) → AllByRecursion (Fits names) es → IsLegal set es → Reads image (bodies_of names es) → OpensAs names set image es
   opens image es fit legal r = record {
     legal = legal;
     reads = reads_as names (lines names items txns) image es fit ((found image (bodies_of names es)).0 r);

@@ -1,6 +1,6 @@
 //! A log of entries on a disk.
 ghost use Rattle.std.specs.Prelude.{◌≡◌, ℕ, ◌+◌, ◌*◌, ◌<◌, ◌≤◌, ◌^◌, ◌++◌, ◌↔◌, ◌⊎◌, [], ◌∷◌, List as Many, length, true, false, IfOk, IfErr, IfSome, IsOk, IsErrOf, IsSome, OnErr, OnOk, vec_capacity};
-ghost use Rattle.std.specs.List.{AllByRecursion};
+ghost use Rattle.std.specs.List.{All, AllByRecursion};
 ghost use Rattle.io_edge.specs.Causes.{HasCause, Rose};
 ghost use Rattle.rt_base.specs.Names.{AreNames};
 ghost use Rattle.rt_base.specs.declared.name.Names.{Names as Noting};
@@ -10,8 +10,9 @@ ghost use Rattle.step_journal.specs.History.{IsLegal};
 ghost use Rattle.journal_text.specs.Lines.{IsWritable, entry_line};
 ghost use Rattle.report_lines.specs.Texts.{NamesSet};
 ghost use Rattle.durable_disk.specs.Device.{LeavesOnly, WritesWithin};
-ghost use Rattle.durable_records.specs.Standing.{EachLeft};
-ghost use Rattle.durable_journal.specs.Format.{body_of as body_of_text};
+ghost use Rattle.durable_records.specs.Records.{HasFirst, Reads};
+ghost use Rattle.durable_records.specs.Standing.{EachLeft, IsStaging, Stands};
+ghost use Rattle.durable_journal.specs.Format.{body_of as body_of_text, entry_bodies};
 ghost use Rattle.durable_journal.specs.Log.{Fits, GoesOn, HasSome, IsBeforeOrAfter, IsLeft, IsMemoryOrFault, IsOkOrFault, StandsFor};
 ghost use Rattle.durable_journal.specs.Opened.{ClosesAt, IfFull, IsEnd, IsJudged, IsOpened, IsRefused, Touches, TouchesAt, with_gate};
 ghost use Rattle.durable_journal.specs.Texts.{ended, unended, texts_from};
@@ -198,8 +199,10 @@ impl<D: Disk> Log<D> {
         }
     }
 
-    /// Adds entries, in order, and stops at the first that is not taken. `len` tells how many were. Of no entries nothing is
-    /// done.
+    /// Adds entries as one piece: their records' bodies in order, each with a closed gate behind it, by a call of the disk each;
+    /// a sync; their gates in order, by a call each; a sync. After Ok each crash leaves a disk that is read with all of them.
+    /// After `DiskFault` the log has stopped, and a crash leaves the entries before, with some of these in order. Of no entries
+    /// nothing is done. It takes no memory.
     pub fn append_all(
         &mut self,
         names: &Names,
@@ -227,13 +230,86 @@ impl<D: Disk> Log<D> {
     {
         found_as_read();
         lines_both_ways();
+        legal_has_lines();
+        counting();
+        set.is_compiled();
         if entries.is_empty() {
             return Ok(());
         }
-        for entry in entries {
-            self.append(names, set, *entry)?;
+        self.stage_all(names, entries)?;
+        self.open_all(entries.len() as u64)
+    }
+
+    // Writes the body of an entry's record behind so many others that were written so, and does not sync.
+    fn stage_entry(&mut self, names: &Names, ahead: u64, entry: &Entry) -> Result<(), LogError>
+        requires writable { IsWritable names.now entry.now }
+        requires room { self.old.count + ahead < 2 ^ 48 }
+        ensures staged { OnOk result ((bodies more : Many (Many ℕ)) → self.old.count ≡ length bodies → ahead ≡ length more → IsStaging (D.seen self.old.disk) (D.may_leave self.old.disk) bodies more
+            → IsStaging (D.seen self.new.disk) (D.may_leave self.new.disk) bodies (more ++ body_of_text (entry_line names.now entry.now) ∷ [])) }
+        ensures any_moment { (bodies : Many (Many ℕ)) → self.old.count ≡ length bodies → EachLeft (D.seen self.old.disk) (D.may_leave self.old.disk) (λ c. Reads c bodies) → IsSome (D.seen self.old.disk)
+            → LeavesOnly D.moment D.left_since self.old.disk self.new.disk (λ c. Reads c bodies) }
+        ensures fits { Fits names.now entry.now }
+        ensures count { self.new.count ≡ self.old.count }
+        ensures goes { OnOk result (self.new.stopped ≡ false) }
+        ensures stops { IsErrOf result LogError.DiskFault → self.new.stopped ≡ true }
+        ensures stopped { IsErrOf result LogError.Stopped ↔ (self.old.stopped ≡ true) }
+        ensures no_other { OnErr result (IsErrOf result LogError.DiskFault ⊎ IsErrOf result LogError.Stopped) }
+        ensures cause { IsErrOf result LogError.DiskFault → Rose (D.faults self.old.disk) (D.faults self.new.disk) }
+        ensures later { D.faults self.old.disk ≤ D.faults self.new.disk }
+        ensures told { IsSome (D.seen self.old.disk) ↔ IsSome (D.seen self.new.disk) }
+    {
+        let body = body_in(&mut self.line, &mut self.numerals, names, entry);
+        match self.records.stage_next(ahead, &body) {
+            Ok(()) => Ok(()),
+            Err(RecordFault::DiskFault) => Err(LogError::DiskFault),
+            Err(RecordFault::Stopped) => Err(LogError::Stopped),
+        }
+    }
+
+    // Writes the bodies of entries' records behind the log's, and does not sync.
+    fn stage_all(&mut self, names: &Names, entries: &[Entry]) -> Result<(), LogError>
+        requires writable { All (IsWritable names.now) entries.now }
+        requires room { self.old.count + length entries.now ≤ 2 ^ 48 }
+        ensures staged { OnOk result ((bodies : Many (Many ℕ)) → self.old.count ≡ length bodies → IsStaging (D.seen self.old.disk) (D.may_leave self.old.disk) bodies []
+            → IsStaging (D.seen self.new.disk) (D.may_leave self.new.disk) bodies (entry_bodies names.now entries.now)) }
+        ensures any_moment { (bodies : Many (Many ℕ)) → self.old.count ≡ length bodies → IsStaging (D.seen self.old.disk) (D.may_leave self.old.disk) bodies [] → IsSome (D.seen self.old.disk)
+            → LeavesOnly D.moment D.left_since self.old.disk self.new.disk (λ c. Reads c bodies) }
+        ensures fit { OnOk result (AllByRecursion (Fits names.now) entries.now) }
+        ensures count { self.new.count ≡ self.old.count }
+        ensures same { OnOk result (self.new.stopped ≡ self.old.stopped) }
+        ensures stops { IsErrOf result LogError.DiskFault → self.new.stopped ≡ true }
+        ensures no_other { self.old.stopped ≡ false → OnErr result (IsErrOf result LogError.DiskFault) }
+        ensures cause { IsErrOf result LogError.DiskFault → Rose (D.faults self.old.disk) (D.faults self.new.disk) }
+        ensures later { D.faults self.old.disk ≤ D.faults self.new.disk }
+        ensures told { IsSome (D.seen self.old.disk) ↔ IsSome (D.seen self.new.disk) }
+    {
+        for (i, entry) in entries.iter().enumerate() {
+            self.stage_entry(names, i as u64, entry)?;
         }
         Ok(())
+    }
+
+    // Adds the n entries whose records' bodies were written behind the log's.
+    fn open_all(&mut self, n: u64) -> Result<(), LogError>
+        requires { self.old.count + n < 2 ^ 48 }
+        ensures stands { OnOk result ((bodies more : Many (Many ℕ)) → self.old.count ≡ length bodies → n ≡ length more → IsStaging (D.seen self.old.disk) (D.may_leave self.old.disk) bodies more
+            → Stands (D.seen self.new.disk) (D.may_leave self.new.disk) self.new.count self.new.stopped (bodies ++ more)) }
+        ensures any_moment { (bodies more : Many (Many ℕ)) → self.old.count ≡ length bodies → n ≡ length more → IsStaging (D.seen self.old.disk) (D.may_leave self.old.disk) bodies more → IsSome (D.seen self.old.disk)
+            → LeavesOnly D.moment D.left_since self.old.disk self.new.disk (HasFirst bodies more) }
+        ensures count { OnOk result (self.new.count ≡ self.old.count + n) }
+        ensures goes { OnOk result (self.new.stopped ≡ false) }
+        ensures stops { IsErrOf result LogError.DiskFault → self.new.stopped ≡ true }
+        ensures stopped { IsErrOf result LogError.Stopped ↔ (self.old.stopped ≡ true) }
+        ensures no_other { OnErr result (IsErrOf result LogError.DiskFault ⊎ IsErrOf result LogError.Stopped) }
+        ensures cause { IsErrOf result LogError.DiskFault → Rose (D.faults self.old.disk) (D.faults self.new.disk) }
+        ensures later { D.faults self.old.disk ≤ D.faults self.new.disk }
+        ensures told { IsSome (D.seen self.old.disk) ↔ IsSome (D.seen self.new.disk) }
+    {
+        match self.records.open_staged(n) {
+            Ok(()) => Ok(()),
+            Err(RecordFault::DiskFault) => Err(LogError::DiskFault),
+            Err(RecordFault::Stopped) => Err(LogError::Stopped),
+        }
     }
 
     /// What a crash now leaves: the entries that the log stands for, and where it has stopped maybe all of them but the last.

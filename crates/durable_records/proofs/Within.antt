@@ -1,8 +1,8 @@
 -- What calls of a disk leave of it that write within a range of bytes.
-use Rattle.std.proofs.Common.{◌≡◌, inl, inr, ⊎_elim, ℕ, ◌+◌, ◌<◌, ◌≤◌, List, [], length, Option, Some, None, Result, Ok, Err, refl, sym, ◌∙◌, subst, arith}
+use Rattle.std.proofs.Common.{◌≡◌, inl, inr, ⊎_elim, ℕ, ◌+◌, ◌<◌, ◌≤◌, List, length, Option, Some, None, Result, Ok, Err, refl, sym, ◌∙◌, subst, arith}
 use Rattle.std.proofs.lemmas.Bool.{cases_lt}
 use Rattle.durable_disk.specs.Images.{Torn}
-use Rattle.durable_disk.specs.Device.{AfterWrite, BothTold, Follows, NoMore, Elapses, LeavesOnly, WritesWithin}
+use Rattle.durable_disk.specs.Device.{AfterWrite, BothTold, Follows, NoMore, Elapses, WritesWithin}
 use Rattle.durable_disk.proofs.Writes.{torn_none, torn_whole}
 
 -- some of a write in a part of a range is some of one in the range

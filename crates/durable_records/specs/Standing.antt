@@ -1,8 +1,8 @@
 -- That a log stands for a list of records on its disk.
-use Rattle.std.specs.Prelude.{◌≡◌, ◌⊎◌, ℕ, ◌+◌, take, List, length, ⊤, Option, Some, None, Bool, true, false, Result, Ok, Err}
+use Rattle.std.specs.Prelude.{◌≡◌, ◌⊎◌, ℕ, ◌+◌, ◌++◌, take, List, length, ⊤, Option, Some, None, IfSome, Bool, true, false, Result, Ok, Err}
 use Rattle.durable_records.specs.declared.records.RecordFault.{RecordFault}
 use Rattle.durable_records.specs.declared.records.RecordFault.TheVariants.{DiskFault, Stopped}
-use Rattle.durable_records.specs.Records.{Reads, HasStaged}
+use Rattle.durable_records.specs.Records.{Reads, HasStaged, HasBodies}
 
 -- What a log of records is: its disk, the number of its records, and whether it has stopped.
 pub record RecordsSeen (D : Type 0) : Type 0 where
@@ -37,3 +37,8 @@ abbrev pub Stands : Option (List ℕ) → (List ℕ → Type 0) → ℕ → Bool
 Stands seen outcomes count false bodies = (count ≡ length bodies) × IsSettled seen outcomes bodies
 Stands seen outcomes count true bodies =
     (count + 1 ≡ length bodies) × EachLeft seen outcomes (λ c. Reads c bodies ⊎ Reads c (take count bodies))
+
+-- where the disk tells, the bodies of more records stand behind these, and each image that a crash may leave has these alone
+abbrev pub IsStaging : Option (List ℕ) → (List ℕ → Type 0) → List (List ℕ) → List (List ℕ) → Type 0
+IsStaging seen outcomes bodies more =
+    IfSome seen (λ file. HasBodies file (bodies ++ more) (length bodies)) × EachLeft seen outcomes (λ c. Reads c bodies)

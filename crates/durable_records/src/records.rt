@@ -3,8 +3,8 @@
 ghost use Rattle.std.specs.Prelude.{◌≡◌, ℕ, ◌+◌, ◌*◌, ◌<◌, ◌≤◌, ◌^◌, ◌++◌, ◌↔◌, [], ◌∷◌, List, Some, length, true, false, IfOk, IfErr, IfSome, IsErrOf, IsSome, IsTrue, OnErr, OnOk};
 ghost use Rattle.io_edge.specs.Causes.{Rose, HasCause};
 ghost use Rattle.durable_disk.specs.Device.{Elapses, LeavesOnly, NoMore, WritesWithin};
-ghost use Rattle.durable_records.specs.Records.{IsBeforeOrAfter, Reads, slot_at, slot_of};
-ghost use Rattle.durable_records.specs.Standing.{EachLeft, IsOkOrFault, IsSettled, IsStaged, Stands};
+ghost use Rattle.durable_records.specs.Records.{HasBodies, HasFirst, IsBeforeOrAfter, Reads, slot_at, slot_of};
+ghost use Rattle.durable_records.specs.Standing.{EachLeft, IsOkOrFault, IsSettled, IsStaged, IsStaging, Stands};
 ghost use Rattle.durable_records.specs.Found.{Finds};
 
 use durable_disk::Disk;
@@ -86,6 +86,52 @@ fn open_gate<D: Disk>(disk: &mut D, k: u64) -> Result<(), Failed>
     ensures within { WritesWithin D.seen D.may_leave D.moment D.left_since (256 * k) 1 disk.old disk.new }
 {
     disk.write_at(WIDTH as u64 * k, &[OPEN])?;
+    disk.sync()
+}
+
+// Writes the body of record k, and behind it a closed gate, and does not sync.
+fn put_body<D: Disk>(disk: &mut D, k: u64, body: &[u8; BODY]) -> Result<(), Failed>
+    requires { k < 2 ^ 48 }
+    ensures put { (all : List (List ℕ)) (opened : ℕ) → k ≡ length all → opened ≤ k → IfSome (D.seen disk.old) (λ file. HasBodies file all opened)
+        → OnOk result (IfSome (D.seen disk.new) (λ file. HasBodies file (all ++ body.now ∷ []) opened)) }
+    ensures any_moment { (bodies : List (List ℕ)) → length bodies ≤ k → EachLeft (D.seen disk.old) (D.may_leave disk.old) (λ c. Reads c bodies) → IsSome (D.seen disk.old)
+        → LeavesOnly D.moment D.left_since disk.old disk.new (λ c. Reads c bodies) }
+    ensures now { (bodies : List (List ℕ)) → length bodies ≤ k → EachLeft (D.seen disk.old) (D.may_leave disk.old) (λ c. Reads c bodies) → EachLeft (D.seen disk.new) (D.may_leave disk.new) (λ c. Reads c bodies) }
+    ensures told { IsSome (D.seen disk.old) ↔ IsSome (D.seen disk.new) }
+    ensures cause { HasCause (D.faults disk.old) (D.faults disk.new) result }
+{
+    let record = before_gate(body);
+    disk.write_at(WIDTH as u64 * k + 1, &record)
+}
+
+// Writes the open gates of n records from record k on, in order, and does not sync.
+fn write_gates<D: Disk>(disk: &mut D, k: u64, n: u64) -> Result<(), Failed>
+    requires { k + n < 2 ^ 48 }
+    ensures opened { OnOk result ((all : List (List ℕ)) → k + n ≡ length all → IfSome (D.seen disk.old) (λ file. HasBodies file all k) → IfSome (D.seen disk.new) (λ file. HasBodies file all (k + n))) }
+    ensures any_moment { (all : List (List ℕ)) → k + n ≡ length all → EachLeft (D.seen disk.old) (D.may_leave disk.old) (λ c. HasBodies c all k) → IsSome (D.seen disk.old)
+        → LeavesOnly D.moment D.left_since disk.old disk.new (λ c. HasBodies c all k) }
+    ensures now { (all : List (List ℕ)) → k + n ≡ length all → EachLeft (D.seen disk.old) (D.may_leave disk.old) (λ c. HasBodies c all k) → EachLeft (D.seen disk.new) (D.may_leave disk.new) (λ c. HasBodies c all k) }
+    ensures told { IsSome (D.seen disk.old) ↔ IsSome (D.seen disk.new) }
+    ensures cause { HasCause (D.faults disk.old) (D.faults disk.new) result }
+{
+    for i in 0..n {
+        disk.write_at(WIDTH as u64 * (k + i), &[OPEN])?;
+    }
+    Ok(())
+}
+
+// Makes durable the bodies of n records from record k on, which were written, and then their open gates.
+fn open_gates<D: Disk>(disk: &mut D, k: u64, n: u64) -> Result<(), Failed>
+    requires { k + n < 2 ^ 48 }
+    ensures settled { OnOk result ((bodies more : List (List ℕ)) → k ≡ length bodies → n ≡ length more → IsStaging (D.seen disk.old) (D.may_leave disk.old) bodies more
+        → IsSettled (D.seen disk.new) (D.may_leave disk.new) (bodies ++ more)) }
+    ensures any_moment { (bodies more : List (List ℕ)) → k ≡ length bodies → n ≡ length more → IsStaging (D.seen disk.old) (D.may_leave disk.old) bodies more → IsSome (D.seen disk.old)
+        → LeavesOnly D.moment D.left_since disk.old disk.new (HasFirst bodies more) }
+    ensures told { IsSome (D.seen disk.old) ↔ IsSome (D.seen disk.new) }
+    ensures cause { HasCause (D.faults disk.old) (D.faults disk.new) result }
+{
+    disk.sync()?;
+    write_gates(disk, k, n)?;
     disk.sync()
 }
 
@@ -186,6 +232,65 @@ impl<D: Disk> Records<D> {
             return Err(RecordFault::DiskFault);
         };
         self.count += 1;
+        Ok(())
+    }
+
+    /// Writes the body of a record behind those that were staged before it, which are `ahead`, and behind it a closed gate, by
+    /// one call of the disk. It does not sync, and the record is none of the log's before `open_staged`: a crash leaves the
+    /// log's records. After `DiskFault` the log has stopped.
+    pub fn stage_next(&mut self, ahead: u64, body: &[u8; BODY]) -> Result<(), RecordFault>
+        requires { self.old.count + ahead < 2 ^ 48 }
+        ensures staged { OnOk result ((bodies more : List (List ℕ)) → self.old.count ≡ length bodies → ahead ≡ length more → IsStaging (D.seen self.old.disk) (D.may_leave self.old.disk) bodies more
+            → IsStaging (D.seen self.new.disk) (D.may_leave self.new.disk) bodies (more ++ body.now ∷ [])) }
+        // A crash at any moment of the call leaves the log's records.
+        ensures any_moment { (bodies : List (List ℕ)) → self.old.count ≡ length bodies → EachLeft (D.seen self.old.disk) (D.may_leave self.old.disk) (λ c. Reads c bodies) → IsSome (D.seen self.old.disk)
+            → LeavesOnly D.moment D.left_since self.old.disk self.new.disk (λ c. Reads c bodies) }
+        ensures count { self.new.count ≡ self.old.count }
+        ensures goes { OnOk result (self.new.stopped ≡ false) }
+        ensures stops { IsErrOf result RecordFault.DiskFault → self.new.stopped ≡ true }
+        ensures stopped { IsErrOf result RecordFault.Stopped ↔ (self.old.stopped ≡ true) }
+        ensures unchanged { IsErrOf result RecordFault.Stopped → self.new ≡ self.old }
+        ensures cause { IsErrOf result RecordFault.DiskFault → Rose (D.faults self.old.disk) (D.faults self.new.disk) }
+        ensures later { D.faults self.old.disk ≤ D.faults self.new.disk }
+        ensures told { IsSome (D.seen self.old.disk) ↔ IsSome (D.seen self.new.disk) }
+    {
+        if self.stopped {
+            return Err(RecordFault::Stopped);
+        }
+        let Ok(()) = put_body(&mut self.disk, self.count + ahead, body) else {
+            self.stopped = true;
+            return Err(RecordFault::DiskFault);
+        };
+        Ok(())
+    }
+
+    /// Adds the n records that were staged: a sync, the gates in order, by a call of the disk each, and a sync. After Ok each
+    /// crash leaves a disk that has them. After `DiskFault` the log has stopped.
+    pub fn open_staged(&mut self, n: u64) -> Result<(), RecordFault>
+        requires { self.old.count + n < 2 ^ 48 }
+        ensures stands { OnOk result ((bodies more : List (List ℕ)) → self.old.count ≡ length bodies → n ≡ length more → IsStaging (D.seen self.old.disk) (D.may_leave self.old.disk) bodies more
+            → Stands (D.seen self.new.disk) (D.may_leave self.new.disk) self.new.count self.new.stopped (bodies ++ more)) }
+        // A crash at any moment of the call leaves the log's records, and the first of those that were staged, in order.
+        ensures any_moment { (bodies more : List (List ℕ)) → self.old.count ≡ length bodies → n ≡ length more → IsStaging (D.seen self.old.disk) (D.may_leave self.old.disk) bodies more → IsSome (D.seen self.old.disk)
+            → LeavesOnly D.moment D.left_since self.old.disk self.new.disk (HasFirst bodies more) }
+        ensures count { OnOk result (self.new.count ≡ self.old.count + n) }
+        ensures same { OnErr result (self.new.count ≡ self.old.count) }
+        ensures goes { OnOk result (self.new.stopped ≡ false) }
+        ensures stops { IsErrOf result RecordFault.DiskFault → self.new.stopped ≡ true }
+        ensures stopped { IsErrOf result RecordFault.Stopped ↔ (self.old.stopped ≡ true) }
+        ensures unchanged { IsErrOf result RecordFault.Stopped → self.new ≡ self.old }
+        ensures cause { IsErrOf result RecordFault.DiskFault → Rose (D.faults self.old.disk) (D.faults self.new.disk) }
+        ensures later { D.faults self.old.disk ≤ D.faults self.new.disk }
+        ensures told { IsSome (D.seen self.old.disk) ↔ IsSome (D.seen self.new.disk) }
+    {
+        if self.stopped {
+            return Err(RecordFault::Stopped);
+        }
+        let Ok(()) = open_gates(&mut self.disk, self.count, n) else {
+            self.stopped = true;
+            return Err(RecordFault::DiskFault);
+        };
+        self.count += n;
         Ok(())
     }
 }

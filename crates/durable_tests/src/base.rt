@@ -165,12 +165,57 @@ fn longer(
     }
 }
 
+/// How entries are handed to a log: each by an `append`, or all as one piece.
+#[derive(Clone, Copy)]
+pub enum Handed {
+    Each,
+    Piece,
+}
+
+// Adds entries, each by an append, up to the first that is not taken.
+fn append_each<D: Disk>(
+    log: &mut Log<D>,
+    names: &Names,
+    set: &CompiledSet,
+    found: &[Entry],
+    rest: &[Entry],
+) -> Result<(), LogError>
+    requires names { AreNames names.now.items × AreNames names.now.txns }
+    requires same { NamesSet names.now set.now }
+    requires legal { IsLegal set.now (found.now ++ rest.now) }
+    requires stands { StandsFor D.seen D.may_leave names.now set.now log.old found.now }
+{
+    for entry in rest {
+        log.append(names, set, *entry)?;
+    }
+    Ok(())
+}
+
+// Adds entries behind those that were found.
+fn add<D: Disk>(
+    log: &mut Log<D>,
+    story: &Story,
+    found: &[Entry],
+    rest: &[Entry],
+    handed: Handed,
+) -> Result<(), LogError>
+    requires story { IsStory story.now.names story.now.set story.now.entries.items }
+    requires legal { IsLegal story.now.set (found.now ++ rest.now) }
+    requires stands { StandsFor D.seen D.may_leave story.now.names story.now.set log.old found.now }
+{
+    match handed {
+        Handed::Each => append_each(log, &story.names, &story.set, found, rest),
+        Handed::Piece => log.append_all(&story.names, &story.set, rest),
+    }
+}
+
 // Adds the entries behind as many as were found.
 fn add_rest<D: Disk>(
     alloc: Global,
     story: &Story,
     log: Log<D>,
     found: &[Entry],
+    handed: Handed,
 ) -> (D, usize, u64, Option<LogError>)
     requires story { IsStory story.now.names story.now.set story.now.entries.items }
     requires found { StandsFor D.seen D.may_leave story.now.names story.now.set log found.now }
@@ -179,7 +224,7 @@ fn add_rest<D: Disk>(
     let known = found.len().min(story.entries.len());
     let rest = &story.entries[known..];
     let error = match longer(alloc, &story.set, found, rest) {
-        Ok(()) => log.append_all(&story.names, &story.set, rest).err(),
+        Ok(()) => add(&mut log, story, found, rest, handed).err(),
         Err(_) => Some(LogError::OutOfMemory),
     };
     let taken = log.len();
@@ -192,29 +237,30 @@ fn run_on<D: Disk>(
     story: &Story,
     disk: D,
     is_new: bool,
+    handed: Handed,
 ) -> (D, usize, u64, Option<LogError>)
     requires story { IsStory story.now.names story.now.set story.now.entries.items }
     requires new { IsTrue is_new → IfSome (D.seen disk) (λ file. file ≡ []) }
 {
     if is_new {
         return match Log::create(alloc, disk) {
-            Ok(log) => add_rest(alloc, story, log, &[]),
+            Ok(log) => add_rest(alloc, story, log, &[], handed),
             Err((disk, error)) => (disk, 0, 0, Some(error)),
         };
     }
     let room = story.entries.len();
     match Log::open(alloc, disk, &story.names, &story.set, room) {
-        Ok((log, found)) => add_rest(alloc, story, log, &found),
+        Ok((log, found)) => add_rest(alloc, story, log, &found, handed),
         Err((disk, error)) => (disk, 0, 0, Some(error)),
     }
 }
 
 /// A run of the journal on a disk.
-pub fn run(alloc: Global, story: &Story, disk: MemDisk) -> Ran
+pub fn run(alloc: Global, story: &Story, disk: MemDisk, handed: Handed) -> Ran
     requires { IsStory story.now.names story.now.set story.now.entries.items }
 {
     let is_new = disk.bytes().is_empty();
-    let (disk, found, taken, error) = run_on(alloc, story, disk, is_new);
+    let (disk, found, taken, error) = run_on(alloc, story, disk, is_new, handed);
     Ran {
         disk,
         found,
@@ -248,4 +294,24 @@ pub fn bytes_of(alloc: Global, lines: &[&str]) -> Result<Vec<u8>, Fail> {
     }
     bytes.push(0)?;
     Ok(bytes)
+}
+
+/// The texts of the records of the first five entries, the header's first.
+pub const LINES: [&str; 6] = [
+    "rtdb journal 1",
+    "plan sample 0",
+    "plan sample 10",
+    "plan sample 20",
+    "plan sample 30",
+    "plan control 0",
+];
+
+/// Whether a call of the disk failed.
+pub fn is_fault(error: &Option<LogError>) -> bool {
+    matches!(error, Some(LogError::DiskFault))
+}
+
+/// Whether the journal has all five entries, and its disk these bytes.
+pub fn is_whole(ran: &Ran, bytes: &[u8]) -> bool {
+    ran.error.is_none() && ran.taken == 5 && ran.disk.bytes() == bytes
 }

@@ -1,29 +1,12 @@
-//! A journal that is stopped by a call of its disk that fails, and taken up again.
+//! A journal that is stopped within an append by a call of its disk that fails, and taken up again.
 ghost use Rattle.std.specs.Prelude.{◌≤◌};
 ghost use Rattle.durable_tests.specs.Story.{IsStory};
 
-use crate::base::{RUN, Ran, Story, bytes_of, disk, run, story_of};
-use durable_journal::LogError;
+use crate::base::{
+    Handed, LINES, RUN, Ran, Story, bytes_of, disk, is_fault, is_whole, run, story_of,
+};
 use std::alloc::Global;
 use std::test::Fail;
-
-const LINES: [&str; 6] = [
-    "rtdb journal 1",
-    "plan sample 0",
-    "plan sample 10",
-    "plan sample 20",
-    "plan sample 30",
-    "plan control 0",
-];
-
-fn is_fault(error: &Option<LogError>) -> bool {
-    matches!(error, Some(LogError::DiskFault))
-}
-
-// Whether the journal has all entries, and its disk these bytes.
-fn is_whole(ran: &Ran, bytes: &[u8]) -> bool {
-    ran.error.is_none() && ran.taken == 5 && ran.disk.bytes() == bytes
-}
 
 // Whether a run whose disk fails at this call, and then crashes, leaves a journal that the next run makes whole.
 fn is_made_whole(
@@ -42,11 +25,11 @@ fn is_made_whole(
         taken,
         error,
         ..
-    } = run(alloc, story, disk);
+    } = run(alloc, story, disk, Handed::Each);
     let stopped = is_fault(&error) && taken == (call - 6) / 4;
     drop(error);
     disk.crash(kept);
-    let again = run(alloc, story, disk);
+    let again = run(alloc, story, disk, Handed::Each);
     let found = again.found as u64;
     let more = found.saturating_sub(taken);
     let whole = is_whole(&again, bytes);
@@ -105,7 +88,7 @@ fn stop_twice(
         mut disk,
         error,
         ..
-    } = run(alloc, story, disk);
+    } = run(alloc, story, disk, Handed::Each);
     drop(error);
     disk.crash(2000usize.saturating_sub(kept));
     let Ran {
@@ -113,7 +96,7 @@ fn stop_twice(
         taken,
         error,
         ..
-    } = run(alloc, story, disk);
+    } = run(alloc, story, disk, Handed::Each);
     let stopped = error.is_some();
     drop(error);
     if !stopped {
@@ -121,7 +104,7 @@ fn stop_twice(
         return Ok(Stood::NotStopped);
     }
     disk.crash(kept);
-    let again = run(alloc, story, disk);
+    let again = run(alloc, story, disk, Handed::Each);
     let whole = is_whole(&again, bytes) && again.found as u64 >= taken.max(2);
     drop(again);
     Ok(if whole { Stood::Whole } else { Stood::NotWhole })
@@ -171,7 +154,12 @@ fn told_on(
 ) -> Result<(bool, u64), Fail>
     requires { IsStory story.now.names story.now.set story.now.entries.items }
 {
-    let ran = run(alloc, story, disk(alloc, room, places, failing)?);
+    let ran = run(
+        alloc,
+        story,
+        disk(alloc, room, places, failing)?,
+        Handed::Each,
+    );
     let told = (is_fault(&ran.error), ran.taken);
     drop(ran);
     Ok(told)
@@ -181,9 +169,9 @@ fn told_on(
 fn is_fault_again(alloc: Global, story: &Story, call: u64) -> Result<bool, Fail>
     requires { IsStory story.now.names story.now.set story.now.entries.items }
 {
-    let Ran { disk, error, .. } = run(alloc, story, disk(alloc, 2000, 100, &[call])?);
+    let Ran { disk, error, .. } = run(alloc, story, disk(alloc, 2000, 100, &[call])?, Handed::Each);
     drop(error);
-    let ran = run(alloc, story, disk);
+    let ran = run(alloc, story, disk, Handed::Each);
     let told = is_fault(&ran.error);
     drop(ran);
     Ok(told)

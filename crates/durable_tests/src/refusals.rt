@@ -1,7 +1,7 @@
 //! Journals that are refused, and a log that has stopped.
 ghost use Rattle.durable_tests.specs.Story.{IsStory};
 
-use crate::base::{RUN, Ran, Story, disk, run, story_of};
+use crate::base::{Handed, RUN, Ran, Story, disk, run, story_of};
 use durable_disk::{Disk, MemDisk};
 use durable_journal::{Log, LogError};
 use std::alloc::Global;
@@ -90,7 +90,7 @@ fn answer_of(alloc: Global, story: &Story, room: usize, disk: MemDisk) -> Answer
 fn disk_of(alloc: Global, story: &Story) -> Result<MemDisk, Fail>
     requires { IsStory story.now.names story.now.set story.now.entries.items }
 {
-    let Ran { disk, error, .. } = run(alloc, story, disk(alloc, 2000, 100, &[])?);
+    let Ran { disk, error, .. } = run(alloc, story, disk(alloc, 2000, 100, &[])?, Handed::Piece);
     drop(error);
     Ok(disk)
 }

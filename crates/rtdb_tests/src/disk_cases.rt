@@ -1,5 +1,5 @@
 //! The cases.
-use crate::over_disk::{Base, CALLS, Ran};
+use crate::over_disk::{BODIES_END, Base, CALLS, MAKING, Ran};
 use durable_disk::MemDisk;
 use rtdb_command::Status;
 use std::alloc::Global;
@@ -46,7 +46,7 @@ impl Case {
             Case::Again => "the same again adds nothing",
             Case::Crash => "stopped at each call, torn anywhere, and run again",
             Case::CrashTwice =>
-                "stopped within an append, and again at each call of the next run, and run a third time",
+                "stopped within a piece, and again at each call of the next run, and run a third time",
             Case::Changed => "a changed record is named",
             Case::Fault => "a fault at the first call is told",
             Case::Longer => "entries behind those of the run are named",
@@ -117,9 +117,6 @@ fn again(base: &Base) -> Option<bool> {
     Some(whole && same)
 }
 
-// The calls that make the journal: a read, and six that write its header.
-const MAKING: u64 = 7;
-
 // Whether a run over what a crash leaves is whole, or names the header of a journal that was left half made.
 fn is_taken_up(base: &Base, call: u64, disk: MemDisk) -> Option<bool> {
     if MAKING <= call || disk.bytes().is_empty() {
@@ -152,17 +149,21 @@ fn recovers(base: &Base, call: u64, kept: usize) -> Option<bool> {
 // of its length, of its text, of its zeros, all of it, and the next gate.
 const TEARS: [usize; 10] = [0, 1, 2, 3, 7, 16, 40, 255, 256, 257];
 
-// The byte at which the record stands that a call of a run writes: the header's, or that of an entry, of four calls each.
+// The byte at which the record stands that a call of a run writes: the header's, or that of an entry, whose body or gate it is.
 fn record_of(call: u64) -> usize {
-    let appends = call.saturating_sub(MAKING) as usize / 4;
+    let entry = if call <= BODIES_END {
+        call.saturating_sub(MAKING)
+    } else {
+        call.saturating_sub(BODIES_END + 1)
+    };
     if call < MAKING {
         0
     } else {
-        appends.saturating_add(1).saturating_mul(256)
+        (entry as usize).saturating_add(1).saturating_mul(256)
     }
 }
 
-// Each call of a run fails in turn, and the crash leaves more or less of what was not synced.
+// Each call of a run fails in turn, and the crash leaves more or less of what was not synced. There is no call behind these.
 fn crash(base: &Base) -> Option<bool> {
     for call in 0..CALLS {
         for tear in TEARS {
@@ -171,7 +172,7 @@ fn crash(base: &Base) -> Option<bool> {
             }
         }
     }
-    Some(true)
+    is_whole(base, base.disk(&[CALLS])?)
 }
 
 // What a run leaves that was stopped by the disk, after a crash; None where it was not stopped.
@@ -197,13 +198,20 @@ fn recovers_twice(base: &Base, first: u64, second: u64, kept: usize) -> Option<b
     is_whole(base, disk)
 }
 
-// The calls of the appends that are left after the third one.
-const LEFT: u64 = 4 * 29;
+// Where a run is stopped the first time, and the calls that the next one makes at least: at the third body, at the sync behind the
+// bodies, where it has all entries to add; at the third gate, and at the last sync, where it has to read them at least.
+const STOPS: [(u64, u64); 4] = [
+    (MAKING + 2, 70),
+    (BODIES_END, 70),
+    (BODIES_END + 3, 36),
+    (CALLS - 1, 36),
+];
 
-// Stopped within the third append, and then at each call that the second run makes at least.
+// Stopped within a piece, and then at each call that the second run makes at least.
 fn crash_twice(base: &Base) -> Option<bool> {
-    for first in 15u64..19 {
-        for second in first + 1..first + LEFT + 1 {
+    for (first, calls) in STOPS {
+        for behind in 0..calls {
+            let second = first.saturating_add(behind).saturating_add(1);
             for kept in [0, 769, 770, 773, 800, 1_024, 1_025, 10_000] {
                 if !recovers_twice(base, first, second, kept)? {
                     return Some(false);

@@ -7,8 +7,14 @@ use std::alloc::Global;
 /// How many bytes BASE's journal has: the header's record, 32 entries, and a closed gate.
 pub const BYTES: usize = 256 * 33 + 1;
 
-/// How many calls its first run makes: a read, six that make the journal, and four for each entry.
-pub const CALLS: u64 = 1 + 6 + 4 * 32;
+/// How many calls make its journal: a read, and six of the header.
+pub const MAKING: u64 = 1 + 6;
+
+/// The call behind the bodies of its entries, which are one piece: a sync.
+pub const BODIES_END: u64 = MAKING + 32;
+
+/// How many calls its first run makes: behind that sync a gate for each entry, and a sync.
+pub const CALLS: u64 = BODIES_END + 1 + 32 + 1;
 
 /// A scenario, and the report of its run.
 #[derive(Drop)]

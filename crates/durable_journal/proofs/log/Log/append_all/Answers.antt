@@ -1,90 +1,80 @@
-use Rattle.std.proofs.Common.{◌<◌, ◌++◌, length, take, arith, sym, subst}
-use Rattle.std.proofs.lemmas.List.{take_more, take_all, append-nil}
-use Rattle.durable_journal.specs.Log.{HasSome, Stood, IsLeft, IsBeforeOrAfter}
-use Rattle.durable_journal.proofs.Crash.{is_left}
-use Rattle.durable_journal.proofs.Runs.{grown, legal_next, some_next, some_none, each_told, started, run_on}
+use Rattle.std.proofs.Common.{◌≡◌, ◌+◌, ◌++◌, ◌∙◌, List, ℕ, length, get_or, arith, ap, sym, subst, length-append}
+use Rattle.std.proofs.lemmas.List.{get_or-append_right}
+use Rattle.step_journal.specs.declared.entry.Entry.{Entry}
+use Rattle.journal_text.specs.Lines.{IsWritable}
+use Rattle.durable_records.specs.Records.{HasFirst, Reads}
+use Rattle.durable_records.specs.Standing.{Stands}
+use Rattle.durable_records.proofs.Calls.{at_rest}
+use Rattle.durable_journal.specs.Format.{bodies_of, entry_bodies}
+use Rattle.durable_journal.specs.Log.{HasSome, IsLeft}
+use Rattle.durable_journal.proofs.Crash.{is_left, weaken}
+use Rattle.durable_journal.proofs.Runs.{some_none, each_told, started, run_on}
+use Rattle.durable_journal.proofs.Pieces.{bodies_append, fit_append, length-bodies, none_opens, nothing_staged, on_ok_going, some_opens}
 use Rattle.durable_journal.proofs.log.Log.append_all.Goals as goal
 
-pub loop-entry-init : goal.loop-entry-init
-loop-entry-init g c =
-    let d = g.D.Disk in
+pub stage_all-requires-clause-writable : goal.stage_all-requires-clause-writable
+stage_all-requires-clause-writable g c k e within =
     let names = c.args.names.now in
-    let set = c.args.set.now in
-    let log = c.args.self.now in
     let es = c.args.entries.now in
-    record {
-      count = omega arith;
-      goes = λ goes. goes;
-      told = (λ told. told, λ told. told);
-      later = omega arith;
-      stands = λ before legal s. subst (λ l. Stood names set (d.seen log.disk) (d.may_leave log.disk) log.count log.stopped l) (sym (append-nil before)) s;
-      moments = λ before legal goes s told. started d.moment d.left_since log.disk (HasSome names set before es) (d.may_leave log.disk) (g.met.D.Disk.only_now log.disk)
-          (λ image left. some_none names set before es log.stopped image goes
-          (each_told (d.seen log.disk) (d.may_leave log.disk) (IsLeft names set log.stopped before) told
-          (is_left c.lines_both_ways.ensures c.found_as_read.ensures.found names c.requires.names.0 c.requires.names.1 set (d.seen log.disk) (d.may_leave log.disk) log.count log.stopped before s) image left));
-    }
+    let given = c.requires.legal in
+    let front : List Entry = given.0 in
+    let all = c.legal_has_lines.ensures names c.args.set.now (front ++ es) c.requires.same c.is_compiled.ensures given.2 in
+    let here : get_or (front ++ es) (length front + k) e ≡ get_or es k e =
+    get_or-append_right front es (length front) (length front + k) e (omega arith) (omega arith) ∙ ap (λ (i : ℕ). get_or es i e) (omega arith) in
+    subst (λ x. IsWritable names x) here (all (length front + k) e (omega (arith, within, length-append front es)))
 
-pub returns-in_err-append-clause-any_moment : goal.returns-in_err-append-clause-any_moment
-returns-in_err-append-clause-any_moment g c before legal goes s told =
+pub returns-in_err-stage_all-clause-any_moment : goal.returns-in_err-stage_all-clause-any_moment
+returns-in_err-stage_all-clause-any_moment g c before legal goes s told =
     let d = g.D.Disk in
     let names = c.args.names.now in
     let set = c.args.set.now in
     let old = c.args.self.now in
-    let mid = c.loop-entry.self in
-    let new = c.append.new.self in
     let es = c.args.entries.now in
-    let i = c.loop-entry.entry-index in
-    let within : i < length es = omega (arith, c.loop-entry-test.true) in
-    let so_far = c.loop-entry.invariant in
-    run_on d.moment d.left_since old.disk mid.disk new.disk (HasSome names set before es) (IsBeforeOrAfter names set (before ++ take i es) _)
-    (so_far.moments before legal goes s told)
-    (c.append.ensures.any_moment (before ++ take i es) (legal_next set before es i _ (take_more es i _ within) legal) (so_far.goes goes) (so_far.stands before legal s) (so_far.told.0 told))
-    (λ image opens. some_next set before es i _ (take_more es i _ within) names image within opens)
+    let bodies = bodies_of names before in
+    let rest = at_rest (d.seen old.disk) (d.may_leave old.disk) old.count old.stopped bodies goes s.records in
+    weaken d.moment d.left_since old.disk c.stage_all.new.self.disk (λ f. Reads f bodies) (HasSome names set before es)
+    (c.stage_all.ensures.any_moment bodies rest.0 (nothing_staged (d.seen old.disk) (d.may_leave old.disk) bodies rest.1) told)
+    (λ image r. none_opens c.lines_both_ways.ensures c.found_as_read.ensures.found names c.requires.names.0 c.requires.names.1 set before es s.fit legal image r)
 
-pub loop-entry-preserved : goal.loop-entry-preserved
-loop-entry-preserved g c =
+pub returns-clause-any_moment : goal.returns-clause-any_moment
+returns-clause-any_moment g c before legal goes s told =
     let d = g.D.Disk in
     let names = c.args.names.now in
     let set = c.args.set.now in
     let old = c.args.self.now in
-    let mid = c.loop-entry.self in
-    let new = c.append.new.self in
+    let mid = c.stage_all.new.self in
     let es = c.args.entries.now in
-    let i = c.loop-entry.entry-index in
-    let within : i < length es = omega (arith, c.loop-entry-test.true) in
-    let so_far = c.loop-entry.invariant in
-    record {
-      count = omega (arith, so_far.count, c.in_ok-append.ensures.count);
-      goes = λ goes. c.in_ok-append.ensures.goes;
-      told = (λ told. c.append.ensures.told.0 (so_far.told.0 told), λ told. so_far.told.1 (c.append.ensures.told.1 told));
-      later = omega (arith, so_far.later, c.append.ensures.later);
-      stands = λ before legal s. subst (λ l. Stood names set (d.seen new.disk) (d.may_leave new.disk) new.count new.stopped l) (grown set before es i _ (take_more es i _ within))
-          (c.in_ok-append.ensures.stands tt (before ++ take i es) (legal_next set before es i _ (take_more es i _ within) legal) (so_far.stands before legal s));
-      moments = λ before legal goes s told. run_on d.moment d.left_since old.disk mid.disk new.disk (HasSome names set before es) (IsBeforeOrAfter names set (before ++ take i es) _)
-          (so_far.moments before legal goes s told)
-          (c.append.ensures.any_moment (before ++ take i es) (legal_next set before es i _ (take_more es i _ within) legal) (so_far.goes goes) (so_far.stands before legal s) (so_far.told.0 told))
-          (λ image opens. some_next set before es i _ (take_more es i _ within) names image within opens);
-    }
+    let bodies = bodies_of names before in
+    let more = entry_bodies names es in
+    let rest = at_rest (d.seen old.disk) (d.may_leave old.disk) old.count old.stopped bodies goes s.records in
+    let staging = nothing_staged (d.seen old.disk) (d.may_leave old.disk) bodies rest.1 in
+    let first = weaken d.moment d.left_since old.disk mid.disk (λ f. Reads f bodies) (HasSome names set before es)
+    (c.stage_all.ensures.any_moment bodies rest.0 staging told)
+    (λ image r. none_opens c.lines_both_ways.ensures c.found_as_read.ensures.found names c.requires.names.0 c.requires.names.1 set before es s.fit legal image r) in
+    run_on d.moment d.left_since old.disk mid.disk c.open_all.new.self.disk (HasSome names set before es) (HasFirst bodies more) first
+    (c.open_all.ensures.any_moment bodies more (c.stage_all.ensures.count ∙ rest.0) (omega (arith, length-bodies names es)) (c.in_ok-stage_all.ensures.staged bodies rest.0 staging) (c.stage_all.ensures.told.0 told))
+    (λ image some. some_opens c.lines_both_ways.ensures c.found_as_read.ensures.found names c.requires.names.0 c.requires.names.1 set before es s.fit legal image c.in_ok-stage_all.ensures.fit some)
 
 pub returns-clause-stands : goal.returns-clause-stands
-returns-clause-stands g c before legal s =
+returns-clause-stands g c =
     let d = g.D.Disk in
-    let now = c.loop-entry.self in
+    let names = c.args.names.now in
+    let old = c.args.self.now in
+    let mid = c.stage_all.new.self in
+    let new = c.open_all.new.self in
     let es = c.args.entries.now in
-    subst (λ l. Stood c.args.names.now c.args.set.now (d.seen now.disk) (d.may_leave now.disk) now.count now.stopped (before ++ l)) (take_all c.loop-entry.entry-index es c.loop-entry-test.false)
-    (c.loop-entry.invariant.stands before legal s)
-
-pub append-requires-clause-legal : goal.append-requires-clause-legal
-append-requires-clause-legal g c =
-    let set = c.args.set.now in
-    let es = c.args.entries.now in
-    let i = c.loop-entry.entry-index in
-    let within : i < length es = omega (arith, c.loop-entry-test.true) in
-    let given = c.requires.legal in (
-      given.0 ++ take i es,
-      c.loop-entry.invariant.stands given.0 given.2 given.1,
-      legal_next set given.0 es i _ (take_more es i _ within) given.2,
-    )
+    on_ok_going c.open_all.result mid.stopped c.open_all.ensures.stopped c.open_all.ensures.stands c.open_all.ensures.count (λ going stands count before legal s.
+    let bodies = bodies_of names before in
+    let more = entry_bodies names es in
+    let rest = at_rest (d.seen old.disk) (d.may_leave old.disk) old.count old.stopped bodies (sym c.in_ok-stage_all.ensures.same ∙ going) s.records in
+    let staging = nothing_staged (d.seen old.disk) (d.may_leave old.disk) bodies rest.1 in
+    record {
+      legal = legal;
+      fit = fit_append names before es s.fit c.in_ok-stage_all.ensures.fit;
+      headed = omega (arith, s.headed, count, c.stage_all.ensures.count);
+      records = subst (λ (l : List (List ℕ)). Stands (d.seen new.disk) (d.may_leave new.disk) new.count new.stopped l) (bodies_append names before es)
+          (stands bodies more (c.stage_all.ensures.count ∙ rest.0) (omega (arith, length-bodies names es)) (c.in_ok-stage_all.ensures.staged bodies rest.0 staging));
+    })
 
 pub returns-then-is_empty-clause-any_moment : goal.returns-then-is_empty-clause-any_moment
 returns-then-is_empty-clause-any_moment g c before legal goes s told =

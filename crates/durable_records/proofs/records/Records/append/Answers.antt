@@ -1,4 +1,4 @@
-use Rattle.std.proofs.Common.{◌≡◌, ℕ, List, ◌++◌, ◌∷◌, [], true, subst}
+use Rattle.std.proofs.Common.{ℕ, List, ◌++◌, ◌∷◌, [], true, subst}
 use Rattle.std.specs.Prelude.{⊤}
 use Rattle.durable_records.specs.Standing.{RecordsSeen, Stands}
 use Rattle.durable_records.proofs.Calls.{at_rest, may_be_left}
