@@ -21,6 +21,14 @@ fn main(rt: HostRuntime) -> ExitCode {
     let mut source = StdSource::new(rt.stdin());
     let mut sink = StdSink::new(rt.stdout());
     let disk = FileDisk::open(&rt, journal_path(&words));
-    let (status, _) = answer(&rt, rt.alloc(), &words, &mut source, &mut sink, disk, &NoGate);
+    let (status, _) = answer(
+        &rt,
+        rt.alloc(),
+        &words,
+        &mut source,
+        &mut sink,
+        disk,
+        &NoGate,
+    );
     exit_code(status)
 }

@@ -89,9 +89,12 @@ returns-in_default-append_all-clause-lost g c =
     let known : c.some_from-known.result.now ≡ take (length e) (drop (length kept) there) = search rules in
     let new = c.append_all.new.self in
     let some : 0 < length e = search rules in (
-      (some, begins_back d.seen d.may_leave d.moment d.left_since begun names set there out.room out.log.disk fine.1.1 (kept ++ e)
-          (put_begins d.seen d.may_leave d.moment d.left_since names set begun.disk out.log there kept e c.some_from-known.result.now going legal known c.in_default.ensures
-          (λ none. not_ok c.append_all.result _ c.in_default-append_all.is (c.append_all.ensures.none none).0))),
+      (
+        some,
+        begins_back d.seen d.may_leave d.moment d.left_since begun names set there out.room out.log.disk fine.1.1 (kept ++ e)
+            (put_begins d.seen d.may_leave d.moment d.left_since names set begun.disk out.log there kept e c.some_from-known.result.now going legal known c.in_default.ensures
+            (λ none. not_ok c.append_all.result _ c.in_default-append_all.is (c.append_all.ensures.none none).0)),
+      ),
       leaves_back d.seen d.may_leave d.moment d.left_since begun names set there out.room out.log.disk fine.1.1 new.disk (kept ++ e)
           (put_leaves d.seen d.may_leave d.moment d.left_since names set begun.disk out.log there kept e c.some_from-known.result.now going legal known c.in_default.ensures new.disk fine.1.1.tells c.append_all.ensures.any_moment),
     )
