@@ -88,8 +88,8 @@ fn calls_behind(found: u64) -> u64 {
     found.saturating_add(3).saturating_add(piece)
 }
 
-// Whether a run that is stopped at the first of these calls, and then one that is stopped at the second, if it comes to that,
-// leave a journal that the next run makes whole, and the second was stopped exactly where it comes to that call.
+// Whether after a run that is stopped at the first of these calls the second run is stopped at the second, and the third one
+// makes the journal whole; where the second run does not come to that call, whether it makes it whole itself.
 fn stops_twice(
     alloc: Global,
     story: &Story,
@@ -110,20 +110,26 @@ fn stops_twice(
     let kept_first = 2000usize.saturating_sub(kept);
     let left = left_of(first, kept_first);
     disk.crash(kept_first);
+    let ran = run(alloc, story, disk, Handed::Piece);
+    let comes_to_it = second.saturating_sub(first) <= calls_behind(left);
+    if !comes_to_it {
+        let whole = is_whole(&ran, bytes);
+        drop(ran);
+        return Ok(whole);
+    }
     let Ran {
         mut disk,
         found,
         error,
         ..
-    } = run(alloc, story, disk, Handed::Piece);
+    } = ran;
     let stopped = is_fault(&error);
     drop(error);
     disk.crash(kept);
     let again = run(alloc, story, disk, Handed::Piece);
     let whole = is_whole(&again, bytes) && again.found >= found;
     drop(again);
-    let comes_to_it = second.saturating_sub(first) <= calls_behind(left);
-    Ok(whole && stopped == comes_to_it)
+    Ok(stopped && whole)
 }
 
 // The first two calls, and how many bytes are kept, with which it does not come out so, if there are such.
