@@ -84,7 +84,7 @@ form_of_rule (rule.TooManySets count) = (9, bare_refusal 17 count 0 0)
 form_of_rule (rule.BadTogether place) = (9, bare_refusal 18 place 0 0)
 
 abbrev pub form_of_admission : AdmitError → ℕ × RefusalForm
-form_of_admission (admission.NotSchedulable tx asked) = (10, bare_refusal 20 tx.0 asked 0)
+form_of_admission (admission.NotSchedulable tx demand) = (10, bare_refusal 20 tx.0 demand 0)
 form_of_admission (admission.TooOld tx item age) = (10, bare_refusal 21 tx.0 item.0 age)
 form_of_admission admission.OutOfMemory = (11, bare_refusal 0 0 0 0)
 form_of_admission (admission.TooApart tx place age) = (10, bare_refusal 22 tx.0 place age)
