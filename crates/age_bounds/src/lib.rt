@@ -1,5 +1,5 @@
-//! Age bounds: how old, in ticks, the value of a sensor or derived item may be when it is read, along the items that it
-//! is derived from.
+//! Age bounds: how old, in ticks, the value of a sensor or derived item may be at the end of the job that read it, along the
+//! items that it is derived from.
 #![tactic(auto)]
 
 ghost use Rattle.std.specs.Prelude.{◌≡◌, ◌<◌, ◌≤◌, ◌^◌, length, IfOk};

@@ -1,5 +1,5 @@
-//! A sampler, a controller and a logger on an admitted core: whatever is planned, nobody is late, and what is read is
-//! young enough.
+//! A sampler, a controller and a logger on an admitted core: whatever is planned, nobody is late; and what is read is young
+//! enough if the sampler is released exactly at its offset and each period after it.
 ghost use Rattle.std.specs.Prelude.{◌<◌};
 
 use admitted_core::AdmittedCore;

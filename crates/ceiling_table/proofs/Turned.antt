@@ -1,6 +1,6 @@
 -- A list read from its end: a place more and a place less.
-use Rattle.std.proofs.Common.{◌≡◌, ℕ, suc, ◌+◌, List, [], ◌∷◌, ◌++◌, length, take, drop, reverse, ap, sym, ◌∙◌, append_assoc, arith}
-use Rattle.std.proofs.lemmas.List.{reverse-append, length-reverse, length-drop, take-append-drop, take_at, drop_at}
+use Rattle.std.proofs.Common.{◌≡◌, ℕ, suc, ◌+◌, List, [], ◌∷◌, ◌++◌, length, take, drop, set, reverse, ap, sym, ◌∙◌, append_assoc, arith}
+use Rattle.std.proofs.lemmas.List.{reverse-append, length-reverse, length-drop, take-append-drop, take-set, drop-set, take_at, drop_at}
 use Rattle.std.specs.List.{insert, remove}
 
 module _ {X : Type 0} where
@@ -33,3 +33,12 @@ module _ {X : Type 0} where
       reverse-append (take j xs) (drop (suc j) xs)
       ∙ ap (λ (ys : List X). ys ++ reverse (take j xs)) (turned_front xs (suc j) k (omega (arith, e)))
       ∙ ap (λ (ys : List X). take k (reverse xs) ++ ys) (turned_back xs j (suc k) e)
+
+  pub set_turned : (xs : List X) (j k : ℕ) (x : X) → suc k + j ≡ length xs → reverse (set xs j x) ≡ take k (reverse xs) ++ x ∷ drop (suc k) (reverse xs)
+  set_turned xs j k x e =
+      ap reverse (sym (take-append-drop j (set xs j x)) ∙ (ap (λ (ys : List X). ys ++ drop j (set xs j x)) (take-set xs j x) ∙ ap (λ (ys : List X). take j xs ++ ys) (drop-set xs j x (omega (arith, e)))))
+      ∙ (reverse-append (take j xs) (x ∷ drop (j + 1) xs)
+      ∙ (ap (λ (ys : List X). ys ++ reverse (take j xs)) (one_turned x (drop (j + 1) xs))
+      ∙ (append_assoc (reverse (drop (j + 1) xs)) (x ∷ []) (reverse (take j xs))
+      ∙ (ap (λ (ys : List X). ys ++ x ∷ reverse (take j xs)) (turned_front xs (j + 1) k (omega (arith, e)))
+      ∙ ap (λ (ys : List X). take k (reverse xs) ++ x ∷ ys) (turned_back xs j (suc k) e)))))

@@ -1,5 +1,5 @@
 //! The rows of holders, kept with the first one last.
-ghost use Rattle.std.specs.Prelude.{◌≡◌, ◌+◌, ◌<◌, ◌≤◌, [], length, slice_index_or, IfOk};
+ghost use Rattle.std.specs.Prelude.{◌≡◌, ◌+◌, ◌<◌, ◌≤◌, [], ◌∷◌, length, drop, slice_index_or, IfOk};
 ghost use Rattle.std.specs.List.{insert, remove};
 
 use crate::Above;
@@ -50,6 +50,16 @@ impl Holders {
         ensures one_look { steps.new ≡ steps.old + 1 }
     {
         self.turned.at(self.turned.len() - 1 - place, steps)
+    }
+
+    /// Puts a row in the place of the first one. It moves no row.
+    pub fn set_first(&mut self, row: Above)
+        requires { 0 < length self.old.items }
+        ensures items { self.new.items ≡ row ∷ drop 1 self.old.items }
+        ensures room { self.new.room ≡ self.old.room }
+    {
+        let at = self.turned.len() - 1;
+        self.turned.set(at, row);
     }
 
     /// Puts a row before the one at this place, or at the end. It moves the rows before it, and takes no memory.

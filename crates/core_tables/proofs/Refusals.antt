@@ -29,7 +29,7 @@ use Rattle.core_tables.specs.Seen.{TablesSeen}
 use Rattle.core_tables.specs.Tables.{AreTables}
 use Rattle.core_tables.specs.Legal.{IsLegalState, IsGranted, Refuses}
 use Rattle.core_tables.specs.Changes.{denied, access_by}
-use Rattle.core_tables.specs.Asks.{asked_by, turned_by, refused_by, first_of, blocked_by}
+use Rattle.core_tables.specs.Asks.{asked_by, turned_by, runs_now, waiting_for, waits_by, refused_by, first_of, blocked_by}
 use Rattle.core_tables.proofs.Facts.{known}
 use Rattle.core_tables.proofs.Cancels.{row_named}
 
@@ -273,19 +273,44 @@ asked_item set t s tx op head o a legal lt r none denies =
     (has_item set r.row op legal.compiled (omega (arith, r.own, lt)) (sym (denies r.row r.here r.is) ∙ none))
 
 -- the running job is the one that asks
-pub asked_refused : (set : Set) (t : TablesSeen) (s : State) (kept room : ℕ) (job runs : JobId) (op : Op) (o : Option StepReply) → AreTables set t s → IsLegalState set s → is_some (job_row t.pending.rows job) ≡ true
+
+asked_some : (set : Set) (t : TablesSeen) (s : State) (kept room : ℕ) (job runs : JobId) (op : Op) (o : Option StepReply) → AreTables set t s → IsLegalState set s
     → Some runs ≡ option_map (λ (r : Row). r.job) (running set t.pending.rows) → same_job runs job ≡ true → ((row : Row) → row_of s.rows job.tx.0 ≡ Some row → row.job ≡ job → o ≡ asked_by set s kept room op row)
     → o ≡ refused_by set s kept room job op
-asked_refused set t s kept room job runs op o a legal there run same asked =
+asked_some set t s kept room job runs op o a legal run same asked =
     let named = row_named (running set t.pending.rows) runs run in
     let row : Row = named.0 in
     let here : running set s.rows ≡ Some row = ap (running set) (sym a.rows.rows) ∙ named.1 in
     let is : runs ≡ job = same_job_is runs job same in
     let own : row.job ≡ job = named.2 ∙ is in
     let pends : row_of s.rows job.tx.0 ≡ Some row = subst (λ (j : JobId). row_of s.rows j.tx.0 ≡ Some row) own ((known set s legal).here row here) in
+    let there : job_row s.rows job ≡ Some row = subst (λ (j : JobId). job_row s.rows j ≡ Some row) own (job_row_here s.rows row ((known set s legal).here row here)) in
     let same_row : same_job row.job job ≡ true = ap (λ (j : JobId). same_job j job) named.2 ∙ same in
     asked row pends own
     ∙ (ap (λ (b : Bool). cond b (asked_by set s kept room op row) (Some (reply.NotYet row.job))) (sym same_row)
     ∙ (ap (turned_by set s kept room job op) (sym here)
-    ∙ ap (λ (b : Bool). cond b (turned_by set s kept room job op (running set s.rows)) (Some (reply.NoJob (ended_number s.ended job.tx.0) (last_end s.ended job.tx.0))))
-    (sym (ap (λ (l : List (Option Row)). is_some (job_row l job)) (sym a.rows.rows) ∙ there))))
+    ∙ ap (λ (r : Option Row). cond (is_some r) (turned_by set s kept room job op (running set s.rows)) (Some (reply.NoJob (ended_number s.ended job.tx.0) (last_end s.ended job.tx.0)))) (sym there)))
+
+pub asked_refused : (set : Set) (t : TablesSeen) (s : State) (kept room : ℕ) (job : JobId) (runs : Option JobId) (op : Op) (o : Option StepReply) → AreTables set t s → IsLegalState set s
+    → runs ≡ option_map (λ (r : Row). r.job) (running set t.pending.rows) → runs_now runs job ≡ true → ((row : Row) → row_of s.rows job.tx.0 ≡ Some row → row.job ≡ job → o ≡ asked_by set s kept room op row)
+    → o ≡ refused_by set s kept room job op
+asked_refused set t s kept room job None op o a legal run same asked = absurd cc
+asked_refused set t s kept room job (Some runs) op o a legal run same asked = asked_some set t s kept room job runs op o a legal run same asked
+
+-- another runs, or none
+
+turned_away : (set : Set) (s : State) (kept room : ℕ) (job : JobId) (op : Op) (o : Option Row) → runs_now (option_map (λ (r : Row). r.job) o) job ≡ false → Some (waiting_for job (option_map (λ (r : Row). r.job) o)) ≡ turned_by set s kept room job op o
+turned_away set s kept room job op None e = refl
+turned_away set s kept room job op (Some row) e = sym (ap (λ (b : Bool). cond b (asked_by set s kept room op row) (Some (reply.NotYet row.job))) e)
+
+away_at : (b : Bool) (other none : StepReply) (turned : Option StepReply) → Some other ≡ turned → Some (cond b other none) ≡ cond b turned (Some none)
+away_at true other none turned e = e
+away_at false other none turned e = refl
+
+pub waits_refused : (set : Set) (t : TablesSeen) (s : State) (kept room : ℕ) (job : JobId) (runs : Option JobId) (op : Op) (said : StepReply) → AreTables set t s
+    → runs ≡ option_map (λ (r : Row). r.job) (running set t.pending.rows) → runs_now runs job ≡ false → said ≡ waits_by s job runs → Some said ≡ refused_by set s kept room job op
+waits_refused set t s kept room job runs op said a run other e =
+    let here : runs ≡ option_map (λ (r : Row). r.job) (running set s.rows) = run ∙ ap (λ (l : List (Option Row)). option_map (λ (r : Row). r.job) (running set l)) a.rows.rows in
+    let away : Some (waiting_for job runs) ≡ turned_by set s kept room job op (running set s.rows) =
+    ap (λ (o : Option JobId). Some (waiting_for job o)) here ∙ turned_away set s kept room job op (running set s.rows) (ap (λ (o : Option JobId). runs_now o job) (sym here) ∙ other) in
+    ap Some e ∙ away_at (is_some (job_row s.rows job)) (waiting_for job runs) (reply.NoJob (ended_number s.ended job.tx.0) (last_end s.ended job.tx.0)) (turned_by set s kept room job op (running set s.rows)) away

@@ -1,5 +1,5 @@
 -- The refusal that an operation meets, as the code finds it.
-use Rattle.std.specs.Prelude.{ℕ, nat_le, if◌then◌else◌, Option, None, Some, is_some}
+use Rattle.std.specs.Prelude.{ℕ, nat_le, Bool, false, if◌then◌else◌, Option, None, Some, is_some}
 use Rattle.std.specs.Option.{option_map}
 use Rattle.rt_base.specs.declared.ids.JobId.{JobId}
 use Rattle.rt_base.specs.declared.operation.Op.{Op}
@@ -31,6 +31,20 @@ abbrev pub turned_by : Set → State → (kept room : ℕ) → JobId → Op → 
 turned_by set s kept room job op None = Some (reply.NotYet job)
 turned_by set s kept room job op (Some row) =
     if same_job row.job job then asked_by set s kept room op row else Some (reply.NotYet row.job)
+
+-- whether this job is the running one
+abbrev pub runs_now : Option JobId → JobId → Bool
+runs_now None job = false
+runs_now (Some running) job = same_job running job
+
+abbrev pub waiting_for : JobId → Option JobId → StepReply
+waiting_for job None = reply.NotYet job
+waiting_for job (Some running) = reply.NotYet running
+
+-- of a job that does not run, by the running job
+abbrev pub waits_by : State → JobId → Option JobId → StepReply
+waits_by s job running =
+    if is_some (job_row s.rows job) then waiting_for job running else reply.NoJob (ended_number s.ended job.tx.0) (last_end s.ended job.tx.0)
 
 abbrev pub refused_by : Set → State → (kept room : ℕ) → JobId → Op → Option StepReply
 refused_by set s kept room job op =

@@ -9,7 +9,7 @@ ghost use Rattle.pending_jobs.specs.Rows.{AreFactsOf, head_of, above_of};
 ghost use Rattle.core_tables.specs.Tables.{AreTables};
 ghost use Rattle.core_tables.specs.Legal.{IsLegalState, Stand, IsGranted, Refuses};
 ghost use Rattle.core_tables.specs.Changes.{denied as denied_by, access_by};
-ghost use Rattle.core_tables.specs.Asks.{blocked_by, asked_by, refused_by, idle_by};
+ghost use Rattle.core_tables.specs.Asks.{blocked_by, asked_by, runs_now, waiting_for, waits_by, refused_by, idle_by};
 
 use crate::tables::CoreTables;
 use crate::tally::Tally;
@@ -22,6 +22,25 @@ fn same_job(a: JobId, b: JobId) -> bool
     ensures { result ≡ same a b }
 {
     a.tx.0 == b.tx.0 && a.serial == b.serial
+}
+
+/// Whether this job is the running one.
+fn runs(running: Option<JobId>, job: JobId) -> bool
+    ensures { result ≡ runs_now running job }
+{
+    match running {
+        Some(running) => same_job(running, job),
+        None => false,
+    }
+}
+
+fn not_yet(job: JobId, running: Option<JobId>) -> StepReply
+    ensures { result ≡ waiting_for job running }
+{
+    match running {
+        Some(running) => StepReply::NotYet { running },
+        None => StepReply::NotYet { running: job },
+    }
 }
 
 /// Whether the item is among these, which stand in rising order. A binary search.
@@ -118,9 +137,9 @@ fn idle_answer(kept: usize, room: usize, next: Option<Tick>, running: Option<Job
 impl CoreTables {
     /// The refusal that an operation meets, of a board that keeps so many entries and has room for so many: NoJob, NotYet,
     /// Undeclared, TooEarly, Unwritten, Full or Blocked, the first that holds. None exactly where the operation is granted and
-    /// there is room. It changes nothing. It touches a bounded number of table rows: the tally and the pending job of the
-    /// transaction, the running job, the lock; and the job's own declared items, by a binary search, or for a commit each
-    /// declared write.
+    /// there is room. It changes nothing. It touches a bounded number of table rows: the running job, the pending job of the
+    /// transaction, the lock, and its tally where the job does not run; and the job's own declared items, by a binary search,
+    /// or for a commit each declared write.
     #[inline(always)]
     pub fn refusal(
         &self,
@@ -157,17 +176,28 @@ impl CoreTables {
         requires stand { Stand set.now self.now }
         ensures { (s : State) → AreTables set.now self.now s → IsLegalState set.now s → result ≡ refused_by set.now s kept room job op }
     {
-        if !self.pending.is_pending(job) {
-            return Some(no_job(self.tally(job.tx)));
+        let running = self.pending.running();
+        if runs(running, job) {
+            return self.asked(set, job, op, kept, room);
         }
-        match self.pending.running() {
-            None => Some(StepReply::NotYet { running: job }),
-            Some(running) if same_job(running, job) => self.asked(set, job, op, kept, room),
-            Some(running) => Some(StepReply::NotYet { running }),
-        }
+        Some(self.out_of_turn(job, running))
     }
 
-    /// The same, of a pending job.
+    /// The answer to a job that does not run: NoJob where it is not pending, else NotYet.
+    #[inline(never)]
+    fn out_of_turn(&self, job: JobId, running: Option<JobId>) -> StepReply
+        requires tallies { job.tx.0 < length self.now.tallies }
+        requires rows { job.tx.0 < length self.now.pending.rows }
+        requires stand { (set : Set) × Stand set self.now }
+        ensures { (set : Set) (s : State) → AreTables set self.now s → result ≡ waits_by s job running }
+    {
+        if !self.pending.is_pending(job) {
+            return no_job(self.tally(job.tx));
+        }
+        not_yet(job, running)
+    }
+
+    /// The same, of the running job.
     #[inline(always)]
     fn asked(
         &self,

@@ -1,4 +1,4 @@
-//! Entries on a disk, so that a stopped run is taken up again.
+//! Entries on a disk, with which a run that is started again is compared.
 #![tactic(auto)]
 
 ghost use Rattle.durable_journal.specs.Laws.{OpenedAgain};

@@ -1,7 +1,7 @@
 -- What each call makes of the tables, over plain variables.
-use Rattle.std.proofs.Common.{◌≡◌, ◌≢◌, ℕ, zero, suc, ◌+◌, ◌^◌, ◌<◌, ◌==◌, true, false, cond, List, [], ◌∷◌, length, map, Option, None, Some, get_or, set, refl, ap, sym, ◌∙◌, subst, inl, arith}
-use Rattle.std.proofs.lemmas.Bool.{eq-eqb}
-use Rattle.std.proofs.lemmas.List.{get_or_read, length-set}
+use Rattle.std.proofs.Common.{◌≡◌, ◌≢◌, ℕ, zero, suc, ◌+◌, ◌^◌, ◌<◌, ◌==◌, true, false, cond, List, [], ◌∷◌, length, map, Option, None, Some, get_or, set, refl, ap, sym, ◌∙◌, subst, inl, inr, arith}
+use Rattle.std.proofs.lemmas.Bool.{cases_eq, eq-eqb}
+use Rattle.std.proofs.lemmas.List.{get_or_read, length-set, get_or-set_same, get_or-set_other}
 use Rattle.std.specs.Prelude.{is_some, MatchOption, eqb}
 use Rattle.std.specs.Option.{option_map, option_eq}
 use Rattle.rt_base.specs.declared.ids.JobId.{JobId}
@@ -23,7 +23,7 @@ use Rattle.pending_jobs.specs.declared.head.Head.{Head}
 use Rattle.pending_jobs.specs.Rows.{Facts, Accesses, PendingSeen, head_of, rows_stepped, rows_waiting, rows_ended}
 use Rattle.pending_jobs.specs.Waiting.{MayWait}
 use Rattle.pending_jobs.specs.Deadlines.{deadline_of, IsLeastDeadline}
-use Rattle.pending_jobs.specs.Tables.{no_job, head_at, waited_job, row_by, rows_by, access_of, job_after, op_locked_at, head_with, AreHeadRanks, IsLeast, AreRanks, IsLeastOfHeads, Agree, IsTable, earlier_of}
+use Rattle.pending_jobs.specs.Tables.{no_job, head_at, waited_job, row_by, rows_by, access_of, job_after, op_locked_at, head_with, AreHeadRanks, IsLeast, AreRanks, IsLeastOfHeads, Agree, IsRunningJob, IsTable, earlier_of}
 use Rattle.pending_jobs.proofs.RankSets.{With, Without}
 use Rattle.pending_jobs.proofs.RowsBy.{rows_length, rows_at, head_here, Fits, fits, rows_released, rows_after_step, rows_after_wait, rows_after_end}
 use Rattle.pending_jobs.proofs.Agrees.{some_is, not_waiting, not_waited, agree_released}
@@ -95,7 +95,7 @@ next_is deadlines rows None none = at (pending rows) refl where
   at (x ∷ xs) e = absurd (let p = pending_in rows x (subst (In x) (sym e) (inl refl)) in let no : row_of rows p.0 ≡ None = none p.0 in let yes = p.1 in cc (no, yes))
 next_is deadlines rows (Some m) l = l
 
-module _ (heads : List (Option Head)) (works : List Job) (held : Locks) (waiting : Waiting) (deadlines : List ℕ) (ranks : RankSet) (least : Option ℕ) (t : IsTable heads works held waiting deadlines ranks least) where
+module _ (heads : List (Option Head)) (works : List Job) (held : Locks) (waiting : Waiting) (deadlines : List ℕ) (ranks : RankSet) (least : Option ℕ) (runs : Option JobId) (t : IsTable heads works held waiting deadlines ranks least runs) where
   abbrev rows : List (Option Row)
   rows = rows_by heads works waiting.on
 
@@ -129,18 +129,25 @@ module _ (heads : List (Option Head)) (works : List Job) (held : Locks) (waiting
         let same : access_of w ≡ access_of (get_or works job.tx.0 no_job) = ap access_of clear ∙ ap access_of (get_or_read works job.tx.0 old in_works read no_job) in
         seen_as _ _ _ _ (facts_by (seen heads works held waiting deadlines).facts _ _ (accesses_kept works job.tx.0 w same)) released_is
 
-    pub release_table : IsTable (set heads job.tx.0 new_head) (set works job.tx.0 w) held waiting deadlines ranks' (Some next)
-    release_table =
+    release_agree : Agree (rows_by (set heads job.tx.0 new_head) (set works job.tx.0 w) waiting.on) held waiting deadlines ranks' (Some next)
+    release_agree =
         let size : length deadlines ≡ length heads = omega (arith, t.agree.deadlines_size, t.heads_size) in
         let is_d : d ≡ get_or deadlines job.tx.0 0 = get_or_read deadlines job.tx.0 d (omega (arith, count, lt, size)) read_d 0 in
         let is_next : next ≡ earlier_of (tick + get_or deadlines job.tx.0 0) least = earlier ∙ ap (λ (m : ℕ). earlier_of (tick + m) least) is_d in
         let a = agree_released rows held waiting deadlines ranks least t.agree job tick rank ranks' lt free small (omega (arith, low, ap length t.agree.prios)) is more in
-        record {
-          heads_size = length-set heads job.tx.0 new_head ∙ t.heads_size;
-          works_size = length-set works job.tx.0 w ∙ t.works_size;
-          agree = subst (λ (n : ℕ). Agree (rows_by (set heads job.tx.0 new_head) (set works job.tx.0 w) waiting.on) held waiting deadlines ranks' (Some n)) (sym is_next)
-              (subst (λ (r : List (Option Row)). Agree r held waiting deadlines ranks' (Some (earlier_of (tick + get_or deadlines job.tx.0 0) least))) (sym released_is) a);
-        }
+        subst (λ (n : ℕ). Agree (rows_by (set heads job.tx.0 new_head) (set works job.tx.0 w) waiting.on) held waiting deadlines ranks' (Some n)) (sym is_next)
+        (subst (λ (r : List (Option Row)). Agree r held waiting deadlines ranks' (Some (earlier_of (tick + get_or deadlines job.tx.0 0) least))) (sym released_is) a)
+
+    pub release_ranks : AreHeadRanks (set heads job.tx.0 new_head) waiting.order ranks'
+    release_ranks = head_ranks (set heads job.tx.0 new_head) (set works job.tx.0 w) waiting.on waiting.order ranks' release_agree.ranks
+
+    pub release_table : (runs' : Option JobId) → IsRunningJob (set heads job.tx.0 new_head) waiting ranks' runs' → IsTable (set heads job.tx.0 new_head) (set works job.tx.0 w) held waiting deadlines ranks' (Some next) runs'
+    release_table runs' is_run = record {
+      heads_size = length-set heads job.tx.0 new_head ∙ t.heads_size;
+      works_size = length-set works job.tx.0 w ∙ t.works_size;
+      agree = release_agree;
+      running = is_run;
+    }
 
   -- of a pending job
 
@@ -199,7 +206,20 @@ module _ (heads : List (Option Head)) (works : List Job) (held : Locks) (waiting
           ∙ facts_by (seen heads works held waiting deadlines).facts _ _ (accesses_kept works tx w same)))
           (stepped_is ∙ ap (rows_stepped rows items op) (the_row r h))
 
-      pub step_table : IsTable (set heads tx stepped_head) (set works tx w) held' waiting deadlines ranks least
+      same_job_at : (n : ℕ) → option_map (λ h. h.job) (head_at (set heads tx stepped_head) n) ≡ option_map (λ h. h.job) (head_at heads n)
+      same_job_at n =
+          elim (cases_eq n tx) [
+            | inl e ↦ ap (λ (k : ℕ). option_map (λ (h : Head). h.job) (head_at (set heads tx stepped_head) k)) e
+                ∙ (ap (option_map (λ (h : Head). h.job)) (get_or-set_same heads tx stepped_head None in_heads)
+                ∙ (ap (option_map (λ (h : Head). h.job)) (sym here) ∙ ap (λ (k : ℕ). option_map (λ (h : Head). h.job) (head_at heads k)) (sym e)))
+            | inr ne ↦ ap (option_map (λ (h : Head). h.job)) (get_or-set_other heads tx n stepped_head None ne)
+          ]
+
+      still_runs : IsRunningJob heads waiting ranks runs → IsRunningJob (set heads tx stepped_head) waiting ranks runs
+      still_runs (inl none) = inl none
+      still_runs (inr one) = inr (record { tx = one.tx; dispatched = one.dispatched; is = one.is ∙ sym (same_job_at one.tx.0) })
+
+      pub step_table : IsTable (set heads tx stepped_head) (set works tx w) held' waiting deadlines ranks least runs
       step_table =
           let prios : length held'.prios ≡ length held.prios = ap length changes.prios in
           record {
@@ -207,6 +227,7 @@ module _ (heads : List (Option Head)) (works : List Job) (held : Locks) (waiting
             works_size = omega (arith, prios, length-set works tx w, t.works_size);
             agree = subst (λ (q : List (Option Row)). Agree q held' waiting deadlines ranks least) (sym stepped_is)
                 (agree_stepped rows held waiting deadlines ranks least t.agree tx row row_is held' items op low changes named);
+            running = still_runs t.running;
           }
 
     -- an end
@@ -236,23 +257,24 @@ module _ (heads : List (Option Head)) (works : List Job) (held : Locks) (waiting
           ∙ ap (λ (p : List ℕ). record { ceilings = held.ceilings; prios = p; deadlines = deadlines; accesses = map access_of works }) locks.prios)
           (ended_is ∙ ap (rows_ended rows) (the_row r h))
 
-      end_with : (o : Option ℕ) → IsLeast deadlines rows_left o → IsTable (set heads tx None) works held' waiting' deadlines ranks' o
-      end_with o l =
+      end_with : (o : Option ℕ) (runs' : Option JobId) → IsLeast deadlines rows_left o → IsRunningJob (set heads tx None) waiting' ranks' runs' → IsTable (set heads tx None) works held' waiting' deadlines ranks' o runs'
+      end_with o runs' l is_run =
           let prios : length held'.prios ≡ length held.prios = ap length locks.prios in
           record {
             heads_size = omega (arith, prios, length-set heads tx None, t.heads_size);
             works_size = omega (arith, prios, t.works_size);
             agree = subst (λ (q : List (Option Row)). Agree q held' waiting' deadlines ranks' o) left_is
                 (agree_ended rows held waiting deadlines ranks least t.agree tx row row_is held' waiting' ranks' rank locks changes low_was is_was without o (subst (λ (q : List (Option Row)). IsLeast deadlines q o) (sym left_is) l));
+            running = is_run;
           }
 
       -- where the least deadline is another's
-      pub end_table_kept : (d : ℕ) → d ≡ get_or deadlines tx d → least ≢ Some (head.release + d) → IsTable (set heads tx None) works held' waiting' deadlines ranks' least
-      end_table_kept d read ne =
+      pub end_table_kept : (d : ℕ) (runs' : Option JobId) → d ≡ get_or deadlines tx d → least ≢ Some (head.release + d) → IsRunningJob (set heads tx None) waiting' ranks' runs' → IsTable (set heads tx None) works held' waiting' deadlines ranks' least runs'
+      end_table_kept d runs' read ne is_run =
           let is_d : d ≡ get_or deadlines tx 0 = get_or_read deadlines tx d (omega (arith, in_heads, t.heads_size, t.agree.deadlines_size)) read 0 in
           let due : head.release + d ≡ deadline_of deadlines row = ap (λ (m : ℕ). head.release + m) is_d ∙ ap (λ (m : ℕ). head.release + get_or deadlines m 0) (sym named) in
-          end_with least (subst (λ (q : List (Option Row)). IsLeast deadlines q least) left_is
-          (least_stays rows held waiting deadlines ranks least t.agree tx row row_is held' waiting' ranks' rank locks changes low_was is_was without least t.agree.least (λ e. ne (e ∙ ap Some (sym due)))))
+          end_with least runs' (subst (λ (q : List (Option Row)). IsLeast deadlines q least) left_is
+          (least_stays rows held waiting deadlines ranks least t.agree tx row row_is held' waiting' ranks' rank locks changes low_was is_was without least t.agree.least (λ e. ne (e ∙ ap Some (sym due))))) is_run
 
       -- what the loop over the ranks wants, and what it gives
 
@@ -273,11 +295,11 @@ module _ (heads : List (Option Head)) (works : List Job) (held : Locks) (waiting
           subst (λ (q : List (Option Row)). (n : ℕ) (r : Row) → row_of q n ≡ Some r → r.job.tx.0 ≡ n) left_is
           (end_named rows held waiting deadlines ranks least t.agree tx row row_is held' waiting' ranks' rank locks changes low_was is_was without)
 
-      pub end_table_new : (o : Option ℕ) → MatchOption o ((r : ℕ) → r < length (set heads tx None) → head_with (set heads tx None) waiting'.order r ≡ None) (IsLeastOfHeads (set heads tx None) deadlines waiting'.order)
-          → IsTable (set heads tx None) works held' waiting' deadlines ranks' o
-      end_table_new o l =
-          end_with o (least_of_rows (set heads tx None) works waiting'.on deadlines held.prios waiting'.order (length-set heads tx None ∙ t.heads_size)
-          (subst (IsOrder held.prios) (sym changes.order) t.agree.order) left_named o l)
+      pub end_table_new : (o : Option ℕ) (runs' : Option JobId) → MatchOption o ((r : ℕ) → r < length (set heads tx None) → head_with (set heads tx None) waiting'.order r ≡ None) (IsLeastOfHeads (set heads tx None) deadlines waiting'.order)
+          → IsRunningJob (set heads tx None) waiting' ranks' runs' → IsTable (set heads tx None) works held' waiting' deadlines ranks' o runs'
+      end_table_new o runs' l is_run =
+          end_with o runs' (least_of_rows (set heads tx None) works waiting'.on deadlines held.prios waiting'.order (length-set heads tx None ∙ t.heads_size)
+          (subst (IsOrder held.prios) (sym changes.order) t.agree.order) left_named o l) is_run
 
   -- a wait
 
@@ -330,10 +352,14 @@ module _ (heads : List (Option Head)) (works : List Job) (held : Locks) (waiting
       pub wait_seen : (r : Row) → row_of rows tx ≡ Some r → seen heads works held waiting' deadlines ≡ record (seen heads works held waiting deadlines) { rows = rows_waiting rows r on }
       wait_seen r h = seen_as _ _ _ _ refl (waited_is r h)
 
-      pub wait_table : IsTable heads works held waiting' deadlines ranks least
-      wait_table = record {
+      pub wait_ranks : AreHeadRanks heads waiting'.order ranks
+      wait_ranks = subst (λ (o : List TxId). AreHeadRanks heads o ranks) (sym changes.order) table_ranks
+
+      pub wait_table : (runs' : Option JobId) → IsRunningJob heads waiting' ranks runs' → IsTable heads works held waiting' deadlines ranks least runs'
+      wait_table runs' is_run = record {
         heads_size = t.heads_size;
         works_size = t.works_size;
         agree = subst (λ (q : List (Option Row)). Agree q held waiting' deadlines ranks least) (sym (waited_is may.waiter may.pending))
             (agree_waiting rows held waiting deadlines ranks least t.agree tx may.waiter may.pending waiting' on changes wait_free wait_on_free wait_nobody may.differ (ap is_some may.here) (t.agree.named tx may.waiter may.pending));
+        running = is_run;
       }

@@ -54,7 +54,7 @@ module _ (set : Set) (heads : List (Option Head)) (works : List Job) (held : Loc
         | inr ge ↦ (let past : (txn_of set tx).deadline ≡ 0 = ap (λ (t : TxnDecl). t.deadline) (get_or_past set.txns tx no_txn ge) in omega (arith, is, past))
       ]
 
-  pub opening_table : IsTable heads works held waiting deadlines ranks None
+  pub opening_table : IsTable heads works held waiting deadlines ranks None None
   opening_table = record {
     heads_size = heads_size set heads works waiting.on empty ∙ sym prios_size;
     works_size = ap length works_are ∙ (length-map set.txns opening_job ∙ sym prios_size);
@@ -76,6 +76,7 @@ module _ (set : Set) (heads : List (Option Head)) (works : List Job) (held : Loc
       };
       least = λ tx. none_here set heads works waiting.on empty tx;
     };
+    running = inl (record { nobody = none; is = refl });
   }
 
   pub opening_are_rows : length held.ceilings ≡ length set.items → ((item : ℕ) → item < length set.items → HasCeilings set item (get_or held.ceilings item no_ceilings))

@@ -28,7 +28,7 @@ use Rattle.history_laws.proofs.Invariant.{in_range}
 use Rattle.history_laws.proofs.Calendar.{times_at}
 use Rattle.pending_jobs.specs.declared.head.Head.{Head}
 use Rattle.pending_jobs.specs.Rows.{AreFactsOf, AreRows}
-use Rattle.pending_jobs.specs.Tables.{head_at, rows_by, access_of, IsFirstDue, NotDue, IsTable}
+use Rattle.pending_jobs.specs.Tables.{head_at, rows_by, access_of, IsFirstDue, NotDue, IsRunningJob, IsTable}
 use Rattle.pending_jobs.proofs.RowsBy.{job_at, fits}
 use Rattle.pending_jobs.proofs.Highs.{due_is, running_is, running_none}
 use Rattle.pending_jobs.proofs.Blockers.{blocker_some}
@@ -49,7 +49,7 @@ pub holder_low : (held : Locks) (tx : ℕ) (above : AboveRow) → held_refusal h
 unfolding held_refusal
 holder_low held tx above h = holder_at held tx above (blocker (held_prio held) (held_ceiling held) (held_prio held tx) (other_holders held tx)) refl h
 
-module _ (heads : List (Option Head)) (works : List Job) (held : Locks) (waiting : Waiting) (deadlines : List ℕ) (ranks : RankSet) (least : Option ℕ) (t : IsTable heads works held waiting deadlines ranks least) where
+module _ (heads : List (Option Head)) (works : List Job) (held : Locks) (waiting : Waiting) (deadlines : List ℕ) (ranks : RankSet) (least : Option ℕ) (runs : Option JobId) (t : IsTable heads works held waiting deadlines ranks least runs) where
   abbrev rows : List (Option Row)
   rows = rows_by heads works waiting.on
 
@@ -65,15 +65,22 @@ module _ (heads : List (Option Head)) (works : List Job) (held : Locks) (waiting
   module _ (set : Set) (f : AreFactsOf set (seen heads works held waiting deadlines).facts) where
     -- the running job
 
-    pub no_running : ((rank : ℕ) → has_rank ranks rank ≡ false) → None ≡ option_map (λ r. r.job) (running set rows)
+    no_running : ((rank : ℕ) → has_rank ranks rank ≡ false) → None ≡ option_map (λ r. r.job) (running set rows)
     no_running none =
         sym (ap (option_map (λ (r : Row). r.job)) (running_none heads works waiting.on deadlines held.prios waiting.order t.heads_size t.agree.order t.agree.named set held.ceilings (map access_of works) f t.agree.waits ranks t.agree.ranks none))
 
-    pub the_running : (tx : TxId) → IsRunning ranks waiting tx → option_map (λ h. h.job) (head_at heads tx.0) ≡ option_map (λ r. r.job) (running set rows)
+    the_running : (tx : TxId) → IsRunning ranks waiting tx → option_map (λ h. h.job) (head_at heads tx.0) ≡ option_map (λ r. r.job) (running set rows)
     the_running tx is =
         let own : IsRunning ranks (record { prios = held.prios; order = waiting.order; on = waiting.on }) tx = subst (λ (p : List ℕ). IsRunning ranks (record { prios = p; order = waiting.order; on = waiting.on }) tx) t.agree.prios is in
         sym (job_at heads works waiting.on tx.0)
         ∙ sym (ap (option_map (λ (r : Row). r.job)) (running_is heads works waiting.on deadlines held.prios waiting.order t.heads_size t.agree.order t.agree.named set held.ceilings (map access_of works) f t.agree.waits ranks t.agree.ranks tx own))
+
+    runs_at : IsRunningJob heads waiting ranks runs → runs ≡ option_map (λ r. r.job) (running set rows)
+    runs_at (inl none) = none.is ∙ no_running none.nobody
+    runs_at (inr one) = one.is ∙ the_running one.tx one.dispatched
+
+    pub runs_is : runs ≡ option_map (λ r. r.job) (running set rows)
+    runs_is = runs_at t.running
 
     -- the due job
 
@@ -140,16 +147,16 @@ module _ (heads : List (Option Head)) (works : List Job) (held : Locks) (waiting
 pub of_state : (set : Set) (s : State) (all : List (Option Row)) (row : Row) (op : Op) → all ≡ s.rows → option_and_then (λ r. refusal set all r) (given (needs_lock row.work op) row) ≡ lock_refusal set s row op
 of_state set s all row op e = ap (λ (q : List (Option Row)). option_and_then (λ (r : Row). refusal set q r) (given (needs_lock row.work op) row)) e
 
-module _ (heads : List (Option Head)) (works : List Job) (held : Locks) (waiting : Waiting) (deadlines : List ℕ) (ranks : RankSet) (least : Option ℕ) (t : IsTable heads works held waiting deadlines ranks least)
+module _ (heads : List (Option Head)) (works : List Job) (held : Locks) (waiting : Waiting) (deadlines : List ℕ) (ranks : RankSet) (least : Option ℕ) (runs : Option JobId) (t : IsTable heads works held waiting deadlines ranks least runs)
     (set : Set) (s : State) (tx : ℕ) (row : Row) (op : Op) (are : AreRows set (seen heads works held waiting deadlines) s.rows) (here : row_of s.rows tx ≡ Some row) (item : HasItem (length held.ceilings) op) where
   own : row_of (rows_by heads works waiting.on) tx ≡ Some row
   own = ap (λ (q : List (Option Row)). row_of q tx) are.rows ∙ here
 
   pub answer_granted : held_refusal held tx ≡ None → None ≡ lock_refusal set s row op
-  answer_granted e = sym (sym (of_state set s (rows_by heads works waiting.on) row op are.rows) ∙ granted heads works held waiting deadlines ranks least t set are.facts tx row op own item e)
+  answer_granted e = sym (sym (of_state set s (rows_by heads works waiting.on) row op are.rows) ∙ granted heads works held waiting deadlines ranks least runs t set are.facts tx row op own item e)
 
   pub answer_has_head : (above : AboveRow) → held_refusal held tx ≡ Some above → head_at heads above.holder.0 ≢ None
-  answer_has_head = has_head heads works held waiting deadlines ranks least t set are.facts tx row op own item
+  answer_has_head = has_head heads works held waiting deadlines ranks least runs t set are.facts tx row op own item
 
   pub answer_named : (above : AboveRow) (head : Head) → held_needs held tx op ≡ true → held_refusal held tx ≡ Some above → head_at heads above.holder.0 ≡ Some head → Some (record { holder = head.job; ceiling = above.ceiling }) ≡ lock_refusal set s row op
-  answer_named above head needs h at = named_so heads works held waiting deadlines ranks least t set are.facts tx row op own item above head needs h at ∙ of_state set s (rows_by heads works waiting.on) row op are.rows
+  answer_named above head needs h at = named_so heads works held waiting deadlines ranks least runs t set are.facts tx row op own item above head needs h at ∙ of_state set s (rows_by heads works waiting.on) row op are.rows

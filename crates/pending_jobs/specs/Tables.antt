@@ -1,5 +1,5 @@
 -- The tables of the pending rows, and that they agree with one another.
-use Rattle.std.specs.Prelude.{◌≡◌, ℕ, ◌+◌, ◌^◌, ◌<◌, ◌≤◌, true, false, ◌||◌, if◌then◌else◌, List, [], length, map, min, slice_index_or, Option, None, Some, is_some, MatchOption}
+use Rattle.std.specs.Prelude.{◌≡◌, ◌⊎◌, ℕ, ◌+◌, ◌^◌, ◌<◌, ◌≤◌, true, false, ◌||◌, if◌then◌else◌, List, [], length, map, min, slice_index_or, Option, None, Some, is_some, MatchOption}
 use Rattle.std.specs.List.{range_with_len}
 use Rattle.std.specs.Option.{option_map}
 use Rattle.rt_base.specs.declared.ids.JobId.{JobId}
@@ -12,6 +12,7 @@ use Rattle.ceiling_table.specs.Held.{Locks, lock_at, locked_at}
 use Rattle.rt_base.specs.declared.operation.Op.{Op}
 use Rattle.rt_base.specs.declared.operation.Op.TheVariants.{Read, Write, Compute, Commit, Quit}
 use Rattle.inherit_prio.specs.Waits.{Waiting, IsOrder, on_of, tx_of}
+use Rattle.dispatch_core.specs.Dispatch.{IsRunning}
 use Rattle.strict_commit.specs.Jobs.{Job}
 use Rattle.txn_set.specs.declared.decl.TxnDecl.{TxnDecl}
 use Rattle.item_model.specs.Work.{Work, no_work, has_read, has_written, work_after}
@@ -85,11 +86,26 @@ pub record Agree (rows : List (Option Row)) (held : Locks) (waiting : Waiting) (
   pub ranks : AreRanks rows waiting.order pending
   pub least : IsLeast deadlines rows soonest
 
+-- nothing is pending, and no job runs
+pub record NoneRuns (ranks : RankSet) (runs : Option JobId) : Type 0 where
+  pub nobody : (rank : ℕ) → has_rank ranks rank ≡ false
+  pub is : runs ≡ None
+
+-- the job that runs is the pending one of the transaction that is dispatched
+pub record OneRuns (heads : List (Option Head)) (waiting : Waiting) (ranks : RankSet) (runs : Option JobId) : Type 0 where
+  pub tx : TxId
+  pub dispatched : IsRunning ranks waiting tx
+  pub is : runs ≡ option_map (λ h. h.job) (head_at heads tx.0)
+
+abbrev pub IsRunningJob : List (Option Head) → Waiting → RankSet → Option JobId → Type 0
+IsRunningJob heads waiting ranks runs = NoneRuns ranks runs ⊎ OneRuns heads waiting ranks runs
+
 -- the tables of pending rows: what they keep to
-pub record IsTable (heads : List (Option Head)) (works : List Job) (held : Locks) (waiting : Waiting) (deadlines : List ℕ) (ranks : RankSet) (least : Option ℕ) : Type 0 where
+pub record IsTable (heads : List (Option Head)) (works : List Job) (held : Locks) (waiting : Waiting) (deadlines : List ℕ) (ranks : RankSet) (least : Option ℕ) (runs : Option JobId) : Type 0 where
   pub heads_size : length heads ≡ length held.prios
   pub works_size : length works ≡ length held.prios
   pub agree : Agree (rows_by heads works waiting.on) held waiting deadlines ranks least
+  pub running : IsRunningJob heads waiting ranks runs
 
 -- nothing read and nothing written by a job of a transaction
 abbrev pub opening_job : TxnDecl → Job

@@ -17,7 +17,7 @@ ghost use Rattle.pending_jobs.specs.Tables.{access_of, op_locked_at, job_after};
 
 use crate::head::{Blocker, Head};
 use crate::openings::{deadlines_of, locks_of, rows_of};
-use crate::ranks::{earlier, first_due, least_deadline, refused, running_tx};
+use crate::ranks::{earlier, first_due, least_deadline, refused, running_job};
 use ceiling_table::Held;
 use inherit_prio::Waits;
 use item_model::Items;
@@ -29,8 +29,8 @@ use strict_commit::Work;
 use txn_set::CompiledSet;
 
 /// The pending jobs of a compiled set, which contracts see as the rows of a state: by transaction the head and the work, the
-/// locks, who waits on whom, the ranks of those that are pending, and the least of their deadlines. No call after `new` takes
-/// memory.
+/// locks, who waits on whom, the ranks of those that are pending, the least of their deadlines, and the job that runs. No
+/// call after `new` takes memory.
 #[derive(Drop)]
 pub struct Pending {
     heads: Vec<Option<Head>>,
@@ -40,6 +40,7 @@ pub struct Pending {
     deadlines: Vec<Tick>,
     ranks: RankSet,
     least: Option<Tick>,
+    runs: Option<JobId>,
 }
 
 impl Model for Pending {
@@ -51,7 +52,7 @@ impl Model for Pending {
 
     ghost view = { λ p. record { facts = record { ceilings = p.held.ceilings; prios = p.held.prios; deadlines = p.deadlines.items; accesses = map access_of p.works.items }; rows = rows_by p.heads.items p.works.items p.waits.on } };
 
-    ghost invariant = { λ p. IsTable p.heads.items p.works.items p.held p.waits p.deadlines.items p.ranks p.least };
+    ghost invariant = { λ p. IsTable p.heads.items p.works.items p.held p.waits p.deadlines.items p.ranks p.least p.runs };
 }
 
 impl Pending {
@@ -71,6 +72,7 @@ impl Pending {
             deadlines,
             ranks: RankSet::empty(),
             least: None,
+            runs: None,
         })
     }
 
@@ -109,14 +111,12 @@ impl Pending {
     }
 
     /// The running job: the highest pending one, or the one on which it waits, which then has its priority (Sha, Rajkumar,
-    /// Son, Chang 1991). None exactly where nothing is pending. At most three looks, and one look-up.
+    /// Son, Chang 1991). None exactly where nothing is pending. It is kept, so that no table is touched.
     #[inline(always)]
     pub fn running(&self) -> Option<JobId>
         ensures { (set : Set) → AreFactsOf set self.now.facts → result ≡ option_map (λ r. r.job) (running_row set self.now.rows) }
     {
-        let tx = running_tx::<Brand>(self.ranks, &self.waits, Blank::new(1))?;
-        let head = self.heads[tx.0 as usize]?;
-        Some(head.job)
+        self.runs
     }
 
     /// Why an operation of a pending job does not get the lock that it needs, by the lock rule; None exactly where it gets the
@@ -138,7 +138,8 @@ impl Pending {
         })
     }
 
-    /// A job is released: it is pending, has used no step and holds nothing. It touches the rows of its transaction alone.
+    /// A job is released: it is pending, has used no step and holds nothing. It touches the rows of its transaction, and looks
+    /// for the running job by at most three looks and one look-up.
     pub fn release(&mut self, job: JobId, tick: Tick)
         requires tx { job.tx.0 < length self.old.rows }
         requires free { row_of self.old.rows job.tx.0 ≡ None }
@@ -154,15 +155,18 @@ impl Pending {
         });
         self.ranks = self.ranks.with(self.waits.rank(job.tx));
         self.least = Some(earlier(tick + self.deadlines[at], self.least));
+        self.runs = running_job(self.heads.as_slice(), self.ranks, &self.waits);
     }
 
-    /// The pending job of a transaction waits on another job. It touches the rows of the two transactions alone.
+    /// The pending job of a transaction waits on another job. It touches the rows of the two transactions, and looks for the
+    /// running job by at most three looks and one look-up.
     pub fn wait(&mut self, tx: TxId, on: JobId)
         requires tx { tx.0 < length self.old.rows }
         requires may { MayWait self.old.rows tx.0 on }
         ensures { (row : RowSeen) → row_of self.old.rows tx.0 ≡ Some row → self.new ≡ record self.old { rows = rows_waiting self.old.rows row on } }
     {
         self.waits.block(tx, on.tx);
+        self.runs = running_job(self.heads.as_slice(), self.ranks, &self.waits);
     }
 
     /// The pending job of a transaction takes a granted step: it is counted, what it read or wrote is noted, and it holds the
@@ -190,7 +194,8 @@ impl Pending {
     }
 
     /// The pending job of a transaction ends: it holds nothing and waits on nobody, and nobody waits on it. It goes over the
-    /// items and those that waited on it, and over the pending ranks where no other's deadline was earlier.
+    /// items and those that waited on it, and over the pending ranks where no other's deadline was earlier. It looks for the
+    /// running job by at most three looks and one look-up.
     pub fn end(&mut self, tx: TxId)
         requires { tx.0 < length self.old.rows }
         ensures { (row : RowSeen) → row_of self.old.rows tx.0 ≡ Some row → self.new ≡ record self.old { rows = rows_ended self.old.rows row } }
@@ -203,6 +208,7 @@ impl Pending {
         self.held.release_all(tx);
         self.waits.free(tx);
         self.ranks = self.ranks.without(self.waits.rank(tx));
+        self.runs = running_job(self.heads.as_slice(), self.ranks, &self.waits);
         if self.least == Some(head.release + self.deadlines[at]) {
             self.least = least_deadline::<Brand>(
                 self.heads.as_slice(),

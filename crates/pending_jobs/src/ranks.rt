@@ -5,13 +5,14 @@ ghost use Rattle.inherit_prio.specs.Waits.{IsOrder};
 ghost use Rattle.ceiling_table.specs.Held.{refusal};
 ghost use Rattle.dispatch_core.specs.Dispatch.{IsRunning};
 ghost use Rattle.pending_jobs.specs.declared.head.Head.{Head as HeadSeen};
-ghost use Rattle.pending_jobs.specs.Tables.{head_at, head_with, AreHeadRanks, IsFirstDue, NotDue, IsLeastOfHeads, earlier_of};
+ghost use Rattle.pending_jobs.specs.Tables.{head_at, head_with, AreHeadRanks, IsFirstDue, NotDue, IsLeastOfHeads, IsRunningJob, earlier_of};
 
 use crate::head::Head;
 use ceiling_table::{Above, Held};
 use dispatch_core::dispatched;
 use inherit_prio::Waits;
 use rt_base::{JobId, RankSet, Steps, Tick, TxId};
+use std::marker::Brand;
 use std::sync::ledger::{Blank, Ledger};
 
 /// The earlier of two ticks, of which one may be missing.
@@ -35,6 +36,18 @@ pub fn running_tx<L: Ledger>(ranks: RankSet, waits: &Waits, blank: Blank) -> Opt
 {
     let mut steps = Steps::<L>::start(blank);
     dispatched(ranks, waits, &mut steps)
+}
+
+/// The running job, looked for. At most three looks, and one look-up.
+#[inline(always)]
+pub fn running_job(heads: &[Option<Head>], ranks: RankSet, waits: &Waits) -> Option<JobId>
+    requires prios { length waits.now.prios ≡ length heads.now }
+    requires ranks { AreHeadRanks heads.now waits.now.order ranks }
+    ensures { IsRunningJob heads.now waits.now ranks result }
+{
+    let tx = running_tx::<Brand>(ranks, waits, Blank::new(1))?;
+    let head = heads[tx.0 as usize]?;
+    Some(head.job)
 }
 
 /// Why a transaction gets no new lock.

@@ -1,5 +1,5 @@
-//! Admission: whether each transaction of a set meets its deadline, and reads nothing that may be too old or too far
-//! apart.
+//! Admission: whether each transaction of a set meets its deadline, and the age bounds of what it reads keep the validities
+//! and the intervals.
 #![tactic(auto)]
 
 ghost use Rattle.set_admission.specs.Laws.{FallingPriority, RowsOfSet, AdmittedUnlessRefused, AdmittedKeepsBounds};

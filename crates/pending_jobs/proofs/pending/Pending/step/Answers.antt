@@ -21,7 +21,7 @@ overflow_add-head c =
 
 pub invariant_of-self : goal.invariant_of-self
 invariant_of-self c =
-    step_table _ _ _ _ _ _ _ c.self.invariant c.args.tx.0 c.in-Some.head
+    step_table _ _ _ _ _ _ _ _ c.self.invariant c.args.tx.0 c.in-Some.head
     (head_now c.self.inside.heads.items c.self.inside.works.items c.self.inside.waits.on c.args.tx.0 c.in-Some.head c.index.result.now (subst (λ (p : PendingSeen). c.args.tx.0 < length p.rows) (sym c.self.view_is) c.requires.tx) c.index.ensures c.in-Some.is)
     c.lock.new.held c.args.items.now c.args.op c.index_mut.result.now c.note.new.work
     (subst (λ (p : PendingSeen). HasItem (length p.facts.ceilings) c.args.op) (sym c.self.view_is) c.requires.item) c.lock.ensures c.index_mut.ensures.value c.note.ensures
@@ -29,7 +29,7 @@ invariant_of-self c =
 pub returns : goal.returns
 returns c row h =
     rw (← c.self.view_is)
-    (step_seen _ _ _ _ _ _ _ c.self.invariant c.args.tx.0 c.in-Some.head
+    (step_seen _ _ _ _ _ _ _ _ c.self.invariant c.args.tx.0 c.in-Some.head
     (head_now c.self.inside.heads.items c.self.inside.works.items c.self.inside.waits.on c.args.tx.0 c.in-Some.head c.index.result.now (subst (λ (p : PendingSeen). c.args.tx.0 < length p.rows) (sym c.self.view_is) c.requires.tx) c.index.ensures c.in-Some.is)
     c.lock.new.held c.args.items.now c.args.op c.index_mut.result.now c.note.new.work
     (subst (λ (p : PendingSeen). HasItem (length p.facts.ceilings) c.args.op) (sym c.self.view_is) c.requires.item) c.lock.ensures c.index_mut.ensures.value c.note.ensures
