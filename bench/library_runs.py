@@ -1,11 +1,13 @@
-"""What bench/library runs: each program in C of embed/, plain, with the sanitizers of the compiler and under valgrind; and the runs
-of examples/ again from C.
+"""What bench/library runs: each program in C of embed/, plain, with the sanitizers of the compiler and under valgrind; the runs of
+examples/ again from C; and the real tanks of both languages.
 
 Each function is told the folder of the library, a room for files, and the calls that check and run."""
 
 import os
 import re
 import shutil
+import subprocess
+import sys
 from pathlib import Path
 
 TOP = Path(__file__).resolve().parent.parent
@@ -16,7 +18,13 @@ VALGRIND = ["valgrind", "-q", "--error-exitcode=99", "--leak-check=full", "--err
 
 # What a program is linked with besides, and its words.
 LINKED = {"growths": ["-Wl,--wrap=malloc,--wrap=realloc,--wrap=free"]}
-WORDS = {"cost": ["job", "64"]}
+WORDS = {"cost": ["job", "64"], "real_tank": ["1"]}
+
+# How long the real tanks run, in seconds, and the setpoint that their operators are told.
+SECONDS = 10
+SETPOINT = 600
+# In that time: 1,000 jobs of the sampler, 500 of the controller, 10 of the display, and one of the operator.
+JOBS = f"{SECONDS * 151 + 1} jobs, {SECONDS * 151 + 1} committed, 0 late by the model"
 
 # Stored reports that declare no set or have no entries.
 REFUSED = {"257-items", "65-sets", "65-transactions", "carriage-returns", "empty"}
@@ -88,3 +96,31 @@ def run_on(file, words, run):
     with open(file or os.devnull, encoding="utf-8") as given:
         return run(words, stdin=given)
 
+
+# ---- the real tanks ----
+
+
+def try_real(room, rust, check):
+    """Runs the real tanks of both languages at once. Lateness is told and fails nothing: it is the machine's."""
+    programs = {"C": room / "real_tank-plain", "Rust": rust}
+    started = {}
+    for language, program in programs.items():
+        if program is None or not program.exists():
+            print(f"library: the real tank in {language} is left out, it was not built")
+            continue
+        words = [str(program), str(SECONDS), str(room / f"entries-{language}")]
+        started[language] = subprocess.Popen(words, stdin=subprocess.PIPE, stdout=subprocess.PIPE, text=True)
+        started[language].stdin.write(f"{SETPOINT}\n")
+        started[language].stdin.close()
+    written = {"C": rf"step 2/0 \d+ 1 2 {SETPOINT}$", "Rust": rf"Write\(ItemId\(2\), {SETPOINT}\)"}
+    for language, process in started.items():
+        lines = process.stdout.read().splitlines()
+        status = process.wait()
+        last = lines[-1] if lines else "nothing"
+        check(status == 0, f"the real tank in {language} ends with {status}")
+        check(len(lines) == SECONDS + 1, f"the real tank in {language} has {len(lines)} lines")
+        check(re.match(rf"{SECONDS * 1000} ticks, ", last) and last.endswith(JOBS), f"the real tank in {language} tells {last}")
+        entries = (room / f"entries-{language}").read_text()
+        check(re.search(written[language], entries, re.M), f"the entries of the real tank in {language} have no setpoint {SETPOINT}")
+        print(f"library: the real tank in {language}: {last}")
+        sys.stdout.flush()
