@@ -1,5 +1,5 @@
 """What bench/library runs: each program in C of embed/, plain, with the sanitizers of the compiler and under valgrind; the runs of
-examples/ again from C; and the real tanks of both languages.
+examples/ again from C; the programs of docs/EMBEDDING.md as a new user would build them; and the real tanks of both languages.
 
 Each function is told the folder of the library, a room for files, and the calls that check and run."""
 
@@ -11,6 +11,7 @@ import sys
 from pathlib import Path
 
 TOP = Path(__file__).resolve().parent.parent
+PAGE = (TOP / "docs/EMBEDDING.md").read_text(encoding="utf-8")
 
 STRICT = ["-std=c99", "-Wall", "-Wextra", "-Wpedantic", "-Werror", "-O2"]
 SANITIZED = ["-g", "-fsanitize=address,undefined", "-fno-sanitize-recover=all"]
@@ -58,6 +59,7 @@ def outputs(expected):
     """What a program has to print: of its input, or None where its status says enough."""
     return {
         "tank": lambda _: expected,
+        "first": lambda _: shown_output("embed/first.c"),
         "report": entries_of,
     }
 
@@ -95,6 +97,49 @@ def try_programs(folder, room, check, run, expected):
 def run_on(file, words, run):
     with open(file or os.devnull, encoding="utf-8") as given:
         return run(words, stdin=given)
+
+
+# ---- the page ----
+
+
+def shown_code(path):
+    """What docs/EMBEDDING.md shows of a file, part after part."""
+    parts = re.findall(rf"^<!-- part of {re.escape(path)} -->\n```\n(.*?)^```$", PAGE, re.M | re.S)
+    return "\n".join(parts)
+
+
+def shown_output(path):
+    """What the page says that the program of a file prints: the block behind the file's last part."""
+    behind = PAGE[PAGE.rindex(f"<!-- part of {path} -->") :]
+    return re.search(r"^prints\n\n```\n(.*?)^```$", behind, re.M | re.S)[1]
+
+
+def shown_command(form):
+    """The line of the page that begins so."""
+    return re.search(rf"^    ({form}.*)$", PAGE, re.M)[1]
+
+
+def try_new_user(folder, room, check):
+    """In a folder with only the installed one, the code and the commands of the page make the programs of the page."""
+    home = room / "user"
+    shutil.copytree(folder, home / "FOLDER", ignore=shutil.ignore_patterns("target", "Cargo.lock"))
+    for path, command, tool in (("embed/first.c", shown_command(r"cc first\.c "), "cc"), ("rust/examples/first.rs", "cargo run", "cargo")):
+        code = shown_code(path)
+        check(code == (TOP / path).read_text(), f"the page shows other code than {path}")
+        check(command in PAGE, f"the page has no command {command}")
+        if shutil.which(tool) is None:
+            print(f"library: {path} as a new user is left out, there is no {tool}")
+            continue
+        if tool == "cargo":
+            (home / "src").mkdir()
+            (home / "src/main.rs").write_text(code)
+            (home / "Cargo.toml").write_text(re.search(r"^```toml\n(.*?)^```$", PAGE, re.M | re.S)[1])
+        else:
+            (home / "first.c").write_text(code)
+        plain = {name: value for name, value in os.environ.items() if name not in ("RTDB_LIB_DIR", "CARGO_TARGET_DIR")}
+        done = subprocess.run(["sh", "-c", command], cwd=home, env=plain, capture_output=True, text=True)
+        check(done.returncode == 0, f"{command} ends with {done.returncode}: {done.stderr[-400:]}")
+        check(done.stdout == shown_output(path), f"{command} prints {done.stdout!r}")
 
 
 # ---- the real tanks ----
