@@ -1,6 +1,7 @@
-/* Refuses each growth of memory of `rtdb_open` in turn, and counts what is held. A refused opening says so, leaves the handle
- * closed and holds nothing; after the opening no call takes memory, and the closing gives all back. It is linked with
- * -Wl,--wrap=malloc,--wrap=realloc,--wrap=free, which gives these functions in place of those of the C library. */
+/* Refuses each growth of memory of an opening in turn, and counts what is held: of a set that is admitted, of one that is not, of one
+ * that is not compiled, and of a trial. A refused opening says so, leaves the handle closed and holds nothing; after the opening no
+ * call takes memory, and the closing gives all back. It is linked with -Wl,--wrap=malloc,--wrap=realloc,--wrap=free, which gives
+ * these functions in place of those of the C library. */
 #include <stdio.h>
 #include <stdlib.h>
 
@@ -40,11 +41,37 @@ void __wrap_free(void *at) {
 
 static const rtdb_item items[] = {{RTDB_SENSOR, 20, 0}, {RTDB_DERIVED, 60, 0}, {RTDB_STATE, 0, 0}};
 static const uint32_t numbers[] = {0, 0, 1, 2, 0, 1};
-static const rtdb_transaction transactions[] = {
+static const rtdb_transaction admitted[] = {
     {2, 0, 0, 0, 1, 10, 0, 10, 2, 0},
     {1, 1, 1, 2, 2, 20, 0, 20, 4, 0},
 };
+/* The second is late. */
+static const rtdb_transaction late[] = {
+    {2, 0, 0, 0, 1, 10, 0, 10, 2, 0},
+    {1, 1, 1, 2, 2, 20, 0, 20, 19, 0},
+};
+/* The second has the first one's priority. */
+static const rtdb_transaction alike[] = {
+    {2, 0, 0, 0, 1, 10, 0, 10, 2, 0},
+    {2, 1, 1, 2, 2, 20, 0, 20, 4, 0},
+};
 static const rtdb_together sets[] = {{4, 2, 60}};
+
+typedef rtdb_status (*opening)(rtdb *, const rtdb_item *, size_t, const rtdb_transaction *, size_t, const rtdb_together *, size_t,
+                               const uint32_t *, size_t, size_t, rtdb_refusal *);
+
+static const struct {
+    const char *name;
+    opening open;
+    const rtdb_transaction *transactions;
+    rtdb_status status;
+    uint32_t rule;
+} tries[] = {
+    {"open", rtdb_open, admitted, RTDB_OK, 9},
+    {"open a set that is late", rtdb_open, late, RTDB_NOT_ADMITTED, RTDB_NOT_SCHEDULABLE},
+    {"open a set with one priority", rtdb_open, alike, RTDB_NOT_COMPILED, RTDB_SAME_PRIORITY},
+    {"open a trial", rtdb_open_trial, late, RTDB_OK, 9},
+};
 
 /* Plans, steps, idles and drains for a while; answers how many calls were no RTDB_OK. */
 static int use(rtdb *db) {
@@ -65,26 +92,36 @@ static int use(rtdb *db) {
     return bad;
 }
 
-int main(void) {
+/* Refuses the growths 0, 1 and so on, until an opening comes to its answer without the one that is refused. That answer has to be
+ * the wanted one, and to have come after just as many growths, so each was refused once. */
+static int try_each(size_t which) {
     int bad = 0;
     for (refused = 0;; refused++) {
         rtdb db = RTDB_INIT;
         rtdb_refusal refusal = {9, 9, 9, 9, 9};
         growths = 0;
-        rtdb_status status = rtdb_open(&db, items, 3, transactions, 2, sets, 1, numbers, 6, 256, &refusal);
-        if (status == RTDB_OK && growths <= refused) {
-            long taken = growths;
+        rtdb_status status = tries[which].open(&db, items, 3, tries[which].transactions, 2, sets, 1, numbers, 6, 256, &refusal);
+        long taken = growths;
+        int is_last = taken <= refused;
+        int good = is_last ? status == tries[which].status && refusal.rule == tries[which].rule && taken == refused
+                           : status == RTDB_NO_MEMORY && refusal.rule == 0 && refusal.which == 0 && refusal.a == 0 && refusal.b == 0 && refusal.c == 0;
+        if (status == RTDB_OK) {
             bad += use(&db);
-            if (growths != taken) bad++;
-            if (rtdb_close(&db) != RTDB_OK || held != 0) bad++;
-            break;
+            if (growths != taken || rtdb_close(&db) != RTDB_OK) good = 0;
         }
-        if (status != RTDB_NO_MEMORY || refusal.rule != 0 || db.at != NULL || held != 0) {
+        if (!good || db.at != NULL || held != 0) {
             bad++;
-            fprintf(stderr, "growth %ld: status %u, rule %u, %ld blocks are held\n", refused, (unsigned)status, (unsigned)refusal.rule, held);
-            if (status == RTDB_OK) rtdb_close(&db);
+            fprintf(stderr, "%s: growth %ld of %ld: status %u, rule %u, %ld blocks are held\n", tries[which].name, refused, taken,
+                    (unsigned)status, (unsigned)refusal.rule, held);
         }
+        if (is_last) break;
     }
-    printf("growths %ld faults %d\n", refused, bad);
+    printf("%s: %ld growths refused, faults %d\n", tries[which].name, refused, bad);
+    return bad;
+}
+
+int main(void) {
+    int bad = 0;
+    for (size_t which = 0; which < sizeof tries / sizeof tries[0]; which++) bad += try_each(which);
     return bad != 0;
 }
