@@ -3,10 +3,12 @@
 
 ghost use Rattle.journal_text.specs.Laws.{LinesBothWays, OneEntryALine};
 
+mod next_step;
 mod numerals;
 mod reading;
 mod writing;
 
+pub use next_step::NextStep;
 pub use numerals::Numerals;
 pub use reading::{next_end, read_entry};
 pub use writing::{put_end, write_entry};

@@ -3,6 +3,7 @@ ghost use Rattle.std.specs.Prelude.{◌≡◌, ◌≤◌, ◌++◌, option_map, 
 ghost use Rattle.line_fields.specs.Cuts.{next, Ends};
 ghost use Rattle.rt_base.specs.Names.{AreNames};
 ghost use Rattle.journal_text.specs.Lines.{entry_line, HasLine, IsEntryOf, IsWritable};
+ghost use Rattle.journal_text.specs.Next.{step_by};
 ghost use Rattle.journal_text.specs.Reading.{read_of, write_of, op_form, op_of, stamp_of, got_of, outcome_of, stale_of, apart_of, end_form, end_of, over_of, plan_of, answers_of, step_of, block_of, idle_of, form_of, entry_of};
 
 use line_fields::{
@@ -10,7 +11,7 @@ use line_fields::{
     next_word, unsigned, word,
 };
 use name_table::NameTables;
-use rt_base::{End, Op, Outcome};
+use rt_base::{End, JobId, Op, Outcome, Tick};
 use step_journal::Entry;
 
 // Whether a word ends after so many bytes.
@@ -24,7 +25,7 @@ fn ends_at(bytes: &[u8], len: usize) -> bool
 
 // What follows these bytes at the front, where a word ends with them.
 #[inline(always)]
-fn after<'a>(want: &[u8], bytes: &'a [u8]) -> Option<&'a [u8]>
+pub(crate) fn after<'a>(want: &[u8], bytes: &'a [u8]) -> Option<&'a [u8]>
     ensures { IfSome result (λ rest. (bytes.now ≡ want.now ++ rest.now) × Ends rest.now) }
 {
     let len = want.len();
@@ -303,13 +304,12 @@ fn answered<'a>(names: &NameTables, rest: &'a [u8]) -> Option<((Op, Outcome), &'
     any_answered(names, rest)
 }
 
+// The step of a job at a tick, of what follows them in its line.
 #[inline(always)]
-#[tactic(auto, unfolding(crate::specs::Reading::step_of))]
-fn step(names: &NameTables, rest: &[u8]) -> Option<Entry>
-    ensures { result ≡ step_of names.now rest.now }
+#[tactic(auto, unfolding(crate::specs::Next::step_by))]
+pub(crate) fn step_after(names: &NameTables, job: JobId, tick: Tick, rest: &[u8]) -> Option<Entry>
+    ensures { result ≡ step_by names.now job tick rest.now }
 {
-    let (job, rest) = next_job(names, rest)?;
-    let (tick, rest) = next_unsigned(rest)?;
     let ((op, outcome), rest) = answered(names, rest)?;
     let over = over(names, rest)?;
     Some(Entry::Step {
@@ -319,6 +319,16 @@ fn step(names: &NameTables, rest: &[u8]) -> Option<Entry>
         over,
         tick,
     })
+}
+
+#[inline(always)]
+#[tactic(auto, unfolding(crate::specs::Reading::step_of, crate::specs::Next::step_by))]
+fn step(names: &NameTables, rest: &[u8]) -> Option<Entry>
+    ensures { result ≡ step_of names.now rest.now }
+{
+    let (job, rest) = next_job(names, rest)?;
+    let (tick, rest) = next_unsigned(rest)?;
+    step_after(names, job, tick, rest)
 }
 
 #[inline(always)]
@@ -372,7 +382,7 @@ fn form(names: &NameTables, word: &[u8], rest: &[u8]) -> Option<Entry>
 }
 
 #[inline(never)]
-fn any_entry(names: &NameTables, line: &[u8]) -> Option<Entry>
+pub(crate) fn any_entry(names: &NameTables, line: &[u8]) -> Option<Entry>
     ensures { result ≡ entry_of names.now line.now }
 {
     if let Some(rest) = after(b"plan", line) {

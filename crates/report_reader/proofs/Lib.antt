@@ -2,3 +2,4 @@ pub mod Walking
 pub mod Counted
 pub mod Reading
 pub mod Places
+pub mod FirstLaws

@@ -1,3 +1,4 @@
 pub mod Forms
 pub mod Document
 pub mod Placed
+pub mod First

@@ -1,10 +1,11 @@
 //! The forms of a report's lines after its declarations.
-ghost use Rattle.std.specs.Prelude.{◌≡◌, option_map, IfSome};
+ghost use Rattle.std.specs.Prelude.{◌≡◌, option_map, IfSome, IfNone};
 ghost use Rattle.line_fields.specs.Cuts.{next};
-ghost use Rattle.journal_text.specs.Lines.{entry_line};
-ghost use Rattle.report_reader.specs.Forms.{begins as begins_with, where_true, ceiling_form, bound_form, age_form, may_end as end_allowed, may_be_over as over_allowed, may_be as entry_allowed, entry_form, pending_form, ended_form, close_form, by_form, job_form, final_form, section_form, is_end as is_last};
+ghost use Rattle.journal_text.specs.Next.{IsNext};
+ghost use Rattle.report_reader.specs.First.{IsFirst, HasNone};
+ghost use Rattle.report_reader.specs.Forms.{begins as begins_with, where_true, ceiling_form, bound_form, age_form, may_end as end_allowed, may_be_over as over_allowed, may_be as entry_allowed, pending_form, ended_form, close_form, by_form, job_form, final_form, section_form, is_end as is_last};
 
-use journal_text::{next_end, read_entry};
+use journal_text::{NextStep, next_end};
 use line_fields::{
     done, field, is_word, job, next_item, next_job, next_short, next_signed, next_tx,
     next_unsigned, next_word, word,
@@ -118,16 +119,25 @@ fn may_be(second: bool, entry: &Entry) -> bool
     }
 }
 
-/// The entry that a line is in a report of this version; None where it is no entry's line there.
+/// The entry that the first line is in a report of this version, and what follows the line; None where there is no line or it
+/// is no entry's there.
 #[inline(always)]
-#[tactic(auto, unfolding(crate::specs::Forms::entry_form))]
-pub(crate) fn entry_in(second: bool, names: &NameTables, line: &[u8]) -> Option<Entry>
-    ensures value { result ≡ entry_form second names.now line.now }
-    ensures line { IfSome result (λ e. entry_line names.now e ≡ line.now) }
+pub(crate) fn first_in<'a>(
+    second: bool,
+    names: &NameTables,
+    text: &'a [u8],
+    next: &mut NextStep,
+) -> Option<(Entry, &'a [u8])>
+    requires { IsNext names.now next.old }
+    ensures some { IfSome result (λ p. IsFirst second names.now text.now p.0 p.1.now) }
+    ensures none { IfNone result (HasNone second names.now text.now) }
+    ensures next { IsNext names.now next.new }
 {
-    match read_entry(names, line) {
-        Some(entry) if may_be(second, &entry) => Some(entry),
-        _ => None,
+    let (entry, more) = next.first_entry(names, text)?;
+    if may_be(second, &entry) {
+        Some((entry, more))
+    } else {
+        None
     }
 }
 

@@ -6,7 +6,8 @@ ghost use Rattle.report_reader.specs.Document.{lines_of, front, after, from_entr
 ghost use Rattle.report_reader.specs.Placed.{entry_lines, EndsWith};
 
 use crate::document::DocumentError;
-use crate::forms::{Kind, Section, entry_in, is_end, line_in};
+use crate::forms::{Kind, Section, first_in, is_end, line_in};
+use journal_text::NextStep;
 use line_fields::cut;
 use name_table::NameTables;
 use rt_base::OutOfMemory;
@@ -69,14 +70,12 @@ pub(crate) fn add_entries<'a>(
     ensures lines { IfOk result (λ r. entry_lines names.now entries.old.items ++ text.now ≡ entry_lines names.now entries.new.items ++ r.0.now) }
     ensures after { IfOk result (λ r. Moves first text.now r.1 r.0.now (after (entry_form second names.now) (lines_of text.now).0)) }
 {
+    let mut next = NextStep::new();
     let mut rest = text;
     let mut n = first;
-    while let Some((line, more)) = cut(b'\n', rest) {
+    while let Some((entry, more)) = first_in(second, names, rest, &mut next) {
         entries.reserve(1)?;
-        match entry_in(second, names, line) {
-            None => return Ok((rest, n)),
-            Some(entry) => entries.push_reserved(entry),
-        }
+        entries.push_reserved(entry);
         rest = more;
         n += 1;
     }

@@ -1,0 +1,376 @@
+-- The line that is likely to be next is read as the step that it is kept for.
+use Rattle.std.proofs.Common.{◌≡◌, ℕ, zero, suc, ◌+◌, ◌-◌, ◌<◌, ◌≤◌, ◌^◌, Bool, true, false, nat_eq, List, [], ◌∷◌, ◌++◌, length, take, drop, get_or, set, replicate, Option, Some, None, decimal, codes, refl, sym, ap, subst, ◌∙◌, inl, inr, arith, append_assoc, length-append, length-take, drop-cons, w64}
+use Rattle.std.specs.Prelude.{not}
+use Rattle.std.specs.List.{position_or_len}
+use Rattle.std.specs.Int.{IsInRange, from_le_bytes, to_le_bytes}
+use Rattle.std.proofs.lemmas.Nat.{le_bytes_8}
+use Rattle.std.proofs.lemmas.Bool.{cases_lt, eq-eqb}
+use Rattle.std.proofs.lemmas.Fmt.{decimal_nonempty}
+use Rattle.std.proofs.lemmas.List.{take_at, take_more, take-append-drop, ext_get_or, get_or-take, length-take-le, set_at}
+use Rattle.std.proofs.lemmas.List.Sums.{prefix_len_passes}
+use Rattle.std.proofs.Math.Seq.{take-length, get_or-append_seam}
+use Rattle.rt_base.specs.declared.name.Names.{Names}
+use Rattle.rt_base.specs.declared.ids.JobId.{JobId}
+use Rattle.rt_base.specs.declared.operation.Op.TheVariants.{Compute}
+use Rattle.rt_base.specs.declared.operation.Outcome.TheVariants.{Computed}
+use Rattle.step_journal.specs.declared.entry.Entry.{Entry}
+use Rattle.step_journal.specs.declared.entry.Entry.TheVariants.{Step}
+use Rattle.line_fields.specs.Cuts.{◌>>=◌, cut_at, word_of, field_of, next, field, Lacks, Ends}
+use Rattle.line_fields.specs.Numbers.{unsigned_of}
+use Rattle.line_fields.specs.Ids.{job_of}
+use Rattle.line_fields.specs.Numerals.{placed, AreDigits}
+use Rattle.line_fields.proofs.CutLaws.{rest_of, some_is, none_some, bind_some, chosen, cut_again, field_takes, next_again, lacks_test, lacks_append}
+use Rattle.line_fields.proofs.NumberLaws.{unsigned_takes, unsigned_again, unsigned_lacks, decimal_lacks}
+use Rattle.line_fields.proofs.IdLaws.{unsigned_length}
+use Rattle.line_fields.proofs.NumeralLaws.{next_digits}
+use Rattle.journal_text.specs.Reading.{outcome_of, over_of, step_of, entry_of}
+use Rattle.journal_text.specs.Next.{step_by, first_entry, front_of, Awaits, IsNext}
+use Rattle.journal_text.specs.declared.next_step.NextStep.{NextStep}
+use Rattle.journal_text.proofs.PartLaws.{op_compute}
+use Rattle.journal_text.proofs.EntryLaws.{step_in}
+
+-- ---- eight bytes as one number
+
+abbrev pub eight : List ℕ → ℕ → List ℕ
+eight bs at =
+    get_or bs at 0 ∷ get_or bs (at + 1) 0 ∷ get_or bs (at + 2) 0 ∷ get_or bs (at + 3) 0 ∷ get_or bs (at + 4) 0
+    ∷ get_or bs (at + 5) 0 ∷ get_or bs (at + 6) 0 ∷ get_or bs (at + 7) 0 ∷ []
+
+nth : (bs : List ℕ) (at k : ℕ) → k < 8 → get_or (eight bs at) k 0 ≡ get_or bs (at + k) 0
+nth bs at zero lt = let same : at ≡ at + 0 = omega arith in ap (λ (i : ℕ). get_or bs i 0) same
+nth bs at (suc zero) lt = refl
+nth bs at (suc (suc zero)) lt = refl
+nth bs at (suc (suc (suc zero))) lt = refl
+nth bs at (suc (suc (suc (suc zero)))) lt = refl
+nth bs at (suc (suc (suc (suc (suc zero))))) lt = refl
+nth bs at (suc (suc (suc (suc (suc (suc zero)))))) lt = refl
+nth bs at (suc (suc (suc (suc (suc (suc (suc zero))))))) lt = refl
+nth bs at (suc (suc (suc (suc (suc (suc (suc (suc k)))))))) lt = absurd (omega (arith, lt))
+
+eight_at : (a b : List ℕ) (at i : ℕ) → eight a at ≡ eight b at → at ≤ i → i < at + 8 → get_or a i 0 ≡ get_or b i 0
+eight_at a b at i e le lt =
+    let place : at + (i - at) ≡ i = omega (arith, le) in
+    let few : i - at < 8 = omega (arith, le, lt) in
+    sym (nth a at (i - at) few ∙ ap (λ (k : ℕ). get_or a k 0) place)
+    ∙ (ap (λ (l : List ℕ). get_or l (i - at) 0) e
+    ∙ (nth b at (i - at) few ∙ ap (λ (k : ℕ). get_or b k 0) place))
+
+abbrev pub AreBytes : List ℕ → Type 0
+AreBytes bs = (i : ℕ) → get_or bs i 0 < 256
+
+-- numbers that are equal have the same bytes
+pub same_eight : (a b : List ℕ) (at m n : ℕ) → AreBytes (eight a at) → AreBytes (eight b at) → m ≡ from_le_bytes w64 (eight a at)
+    → n ≡ from_le_bytes w64 (eight b at) → m ≡ n → (i : ℕ) → at ≤ i → i < at + 8 → get_or a i 0 ≡ get_or b i 0
+same_eight a b at m n one other first second same i le lt =
+    let bytes : eight a at ≡ eight b at =
+    sym (le_bytes_8 (eight a at) m refl one first) ∙ (ap (to_le_bytes w64) same ∙ le_bytes_8 (eight b at) n refl other second) in
+    eight_at a b at i bytes le lt
+
+abbrev pub SameBelow : List ℕ → List ℕ → ℕ → Type 0
+SameBelow a b n = (i : ℕ) → i < n → get_or a i 0 ≡ get_or b i 0
+
+abbrev pub SameFrom : List ℕ → List ℕ → ℕ → Type 0
+SameFrom a b at = (i : ℕ) → at ≤ i → i < at + 8 → get_or a i 0 ≡ get_or b i 0
+
+pub eight_more : (a b : List ℕ) (at m : ℕ) → m ≡ at + 8 → SameBelow a b at → SameFrom a b at → SameBelow a b m
+eight_more a b at m is below from i lt =
+    elim (cases_lt i at) [ inl low ↦ below i low | inr high ↦ from i high (omega (arith, is, lt)) ]
+
+-- all are the same, where those below a place are, and the last eight
+pub all_same : (a b : List ℕ) (at len : ℕ) → 8 ≤ len → len ≤ at + 8 → len ≤ length a → len ≤ length b → SameBelow a b at
+    → SameFrom a b (len - 8) → take len a ≡ take len b
+all_same a b at len some near first second below last =
+    let one : length (take len a) ≡ len = length-take-le len a first in
+    let other : length (take len b) ≡ len = length-take-le len b second in
+    let each : (i : ℕ) → i < len → get_or a i 0 ≡ get_or b i 0 =
+    λ i lt. elim (cases_lt i at) [ inl low ↦ below i low | inr high ↦ last i (omega (arith, near, high)) (omega (arith, some, lt)) ] in
+    ext_get_or 0 (take len a) (take len b) (one ∙ sym other)
+    (λ i lt. let low : i < len = omega (arith, lt, one) in get_or-take len a i 0 low ∙ (each i low ∙ sym (get_or-take len b i 0 low)))
+
+-- ---- what follows a front
+
+pub front_cut : (a b : List ℕ) (n : ℕ) → take n a ≡ take n b → a ≡ take n b ++ take (length a - n) (drop n a)
+front_cut a b n e =
+    sym (take-append-drop n a) ∙ (ap (λ (t : List ℕ). t ++ drop n a) e ∙ ap (λ (r : List ℕ). take n b ++ r) (sym (rest_of n a)))
+
+pub blank_ends : (a : List ℕ) (n : ℕ) → n < length a → get_or a n 0 ≡ 32 → Ends (take (length a - n) (drop n a))
+blank_ends a n lt is = subst Ends (sym (rest_of n a ∙ drop-cons a n 0 lt)) is
+
+-- ---- a line that is kept
+
+whole : (names : Names) (n : NextStep) (h : Awaits names n) → n.line ≡ front_of h.word n.tick ++ (codes " compute\n" ++ drop n.len n.line)
+whole names n h =
+    sym (take-append-drop n.len n.line)
+    ∙ (ap (λ (t : List ℕ). t ++ drop n.len n.line) h.line ∙ append_assoc (front_of h.word n.tick) (codes " compute\n") (drop n.len n.line))
+
+front_is : (names : Names) (n : NextStep) (h : Awaits names n) → take (n.len - 9) n.line ≡ front_of h.word n.tick
+front_is names n h =
+    ap (take (n.len - 9)) (whole names n h)
+    ∙ take_at (front_of h.word n.tick) (codes " compute\n" ++ drop n.len n.line) (n.len - 9) (omega (arith, h.size))
+
+grouped : (word : List ℕ) (tick : ℕ) (rest : List ℕ)
+    → front_of word tick ++ rest ≡ codes "step" ++ (field word ++ (field (decimal tick) ++ rest))
+grouped word tick rest =
+    append_assoc (codes "step") (field word ++ field (decimal tick)) rest
+    ∙ ap (λ (r : List ℕ). codes "step" ++ r) (append_assoc (field word) (field (decimal tick)) rest)
+
+step_told : (names : Names) (word : List ℕ) (job : JobId) (tick : ℕ) (rest : List ℕ) → job_of names.txns word ≡ Some job
+    → Lacks 32 word → tick < 2 ^ 64 → Ends rest → step_of names (field word ++ (field (decimal tick) ++ rest)) ≡ step_by names job tick rest
+unfolding step_of step_by
+step_told names word job tick rest is lacks lt ends =
+    rw (
+      next_again (job_of names.txns) word (field (decimal tick) ++ rest) job is lacks refl,
+      next_again unsigned_of (decimal tick) rest tick (unsigned_again tick lt) (unsigned_lacks tick lt) ends,
+    ) refl
+
+told : (names : Names) (n : NextStep) (h : Awaits names n) (line rest : List ℕ) → line ≡ front_of h.word n.tick ++ rest
+    → Ends rest → entry_of names line ≡ step_by names n.job n.tick rest
+told names n h line rest is ends =
+    step_in names line (field h.word ++ (field (decimal n.tick) ++ rest)) (is ∙ grouped h.word n.tick rest) refl
+    ∙ step_told names h.word n.job n.tick rest h.job h.no_blank h.tick ends
+
+-- a line that begins as this one
+pub passed_told : (names : Names) (n : NextStep) (line rest : List ℕ) → IsNext names n → 18 ≤ n.len
+    → line ≡ take (n.len - 9) n.line ++ rest → Ends rest → step_by names n.job n.tick rest ≡ entry_of names line
+passed_told names n line rest next some is ends =
+    let h = next.awaits some in
+    sym (told names n h line rest (is ∙ ap (λ (f : List ℕ). f ++ rest) (front_is names n h)) ends)
+
+computed_by : (names : Names) (job : JobId) (tick : ℕ) → step_by names job tick (codes " compute") ≡ Some (Step job Compute Computed None tick)
+unfolding step_by outcome_of over_of
+computed_by names job tick = rw (op_compute names (codes " compute") [] refl tt) refl
+
+no_digit : ¬ IsInRange 48 57 10
+no_digit h = omega (arith, h.0, h.1)
+
+line_lacks : (names : Names) (n : NextStep) (h : Awaits names n) → Lacks 10 (front_of h.word n.tick ++ codes " compute")
+line_lacks names n h =
+    lacks_append 10 (front_of h.word n.tick) (codes " compute")
+    (lacks_append 10 (codes "step") (field h.word ++ field (decimal n.tick)) (lacks_test 10 (codes "step") refl)
+    (lacks_append 10 (field h.word) (field (decimal n.tick)) (lacks_append 10 (codes " ") h.word (lacks_test 10 (codes " ") refl) h.no_end)
+    (lacks_append 10 (codes " ") (decimal n.tick) (lacks_test 10 (codes " ") refl) (decimal_lacks 10 n.tick no_digit h.tick))))
+    (lacks_test 10 (codes " compute") refl)
+
+-- a text that begins with this line
+pub computed_told : (names : Names) (n : NextStep) (text rest : List ℕ) → IsNext names n → 18 ≤ n.len
+    → text ≡ take n.len n.line ++ rest → Some (Step n.job Compute Computed None n.tick, rest) ≡ first_entry names text
+computed_told names n text rest next some is =
+    let h = next.awaits some in
+    let front : List ℕ = front_of h.word n.tick in
+    let line : List ℕ = front ++ codes " compute" in
+    let all : text ≡ line ++ 10 ∷ rest =
+    is ∙ (ap (λ (l : List ℕ). l ++ rest) h.line
+    ∙ (append_assoc front (codes " compute\n") rest ∙ sym (append_assoc front (codes " compute") (10 ∷ rest)))) in
+    let cut : cut_at 10 text ≡ Some (line, rest) = ap (cut_at 10) all ∙ cut_again 10 line rest (line_lacks names n h) in
+    let entry : entry_of names line ≡ Some (Step n.job Compute Computed None n.tick) =
+    told names n h line (codes " compute") refl refl ∙ computed_by names n.job n.tick in
+    sym (ap (λ (o : Option (List ℕ × List ℕ)). o >>= λ p. entry_of names p.0 >>= λ e. Some (e, p.1)) cut
+    ∙ ap (λ (o : Option Entry). o >>= λ e. Some (e, rest)) entry)
+
+-- ---- the next tick
+
+last_apart : (ds : List ℕ) → 0 < length ds → ds ≡ take (length ds - 1) ds ++ get_or ds (length ds - 1) 0 ∷ []
+last_apart ds some =
+    let at : length ds - 1 + 1 ≡ length ds = omega (arith, some) in
+    sym (take-length ds) ∙ (ap (λ (k : ℕ). take k ds) (sym at) ∙ take_more ds (length ds - 1) 0 (omega (arith, some)))
+
+next_decimal : (n : ℕ) (init : List ℕ) (last : ℕ) → n + 1 < 2 ^ 64 → decimal n ≡ init ++ last ∷ [] → last < 57
+    → decimal (n + 1) ≡ init ++ (last + 1) ∷ []
+next_decimal n init last lt is low =
+    let len : ℕ = length (decimal n) in
+    let below : n < 2 ^ 64 = omega (arith, lt) in
+    let zeros : List ℕ = replicate (32 - len) 0 in
+    let size : len ≡ length init + 1 = ap length is ∙ length-append init (last ∷ []) in
+    let at : len - 1 ≡ length init = omega (arith, size) in
+    let all : placed n ≡ init ++ last ∷ zeros = ap (λ (d : List ℕ). d ++ zeros) is ∙ append_assoc init (last ∷ []) zeros in
+    let here : get_or (placed n) (len - 1) 0 ≡ last =
+    ap (λ (d : List ℕ). get_or d (len - 1) 0) all
+    ∙ (ap (λ (i : ℕ). get_or (init ++ last ∷ zeros) i 0) at ∙ get_or-append_seam init last zeros 0) in
+    let digits : AreDigits n (placed n) len = record { bytes = refl; width = refl; short = unsigned_length n below } in
+    let more = next_digits n (n + 1) len (placed n) digits refl lt (omega (arith, here, low)) in
+    let changed : set (placed n) (len - 1) (get_or (placed n) (len - 1) 0 + 1) ≡ init ++ (last + 1) ∷ zeros =
+    ap (λ (d : List ℕ). set d (len - 1) (get_or (placed n) (len - 1) 0 + 1)) all
+    ∙ (set_at init last zeros (get_or (placed n) (len - 1) 0 + 1) (len - 1) (sym at)
+    ∙ ap (λ (d : ℕ). init ++ (d + 1) ∷ zeros) here) in
+    let after : placed (n + 1) ≡ (init ++ (last + 1) ∷ []) ++ zeros = sym more.bytes ∙ (changed ∙ sym (append_assoc init ((last + 1) ∷ []) zeros)) in
+    sym (take_at (decimal (n + 1)) (replicate (32 - length (decimal (n + 1))) 0) len (sym more.width))
+    ∙ (ap (take len) after
+    ∙ take_at (init ++ (last + 1) ∷ []) zeros len (length-append init ((last + 1) ∷ []) ∙ sym size))
+
+abbrev pub gone_on : NextStep → NextStep
+gone_on n = record {
+  line = set n.line (n.len - 9 - 1) (get_or n.line (n.len - 9 - 1) 0 + 1);
+  len = n.len;
+  job = n.job;
+  tick = n.tick + 1;
+}
+
+-- what stands before the last digit of the tick
+abbrev lead : List ℕ → List ℕ → List ℕ
+lead word init = codes "step" ++ (field word ++ field init)
+
+lead_front : (word init : List ℕ) (last : ℕ) → codes "step" ++ (field word ++ field (init ++ last ∷ [])) ≡ lead word init ++ last ∷ []
+lead_front word init last =
+    sym (append_assoc (codes "step") (field word ++ field init) (last ∷ [])
+    ∙ ap (λ (r : List ℕ). codes "step" ++ r) (append_assoc (field word) (field init) (last ∷ [])))
+
+pub goes_on : (names : Names) (n : NextStep) → IsNext names n → 18 ≤ n.len → get_or n.line (n.len - 9 - 1) 0 < 57 → n.tick + 1 < 2 ^ 64
+    → IsNext names (gone_on n)
+goes_on names n next some low lt =
+    let h = next.awaits some in
+    let digits : List ℕ = decimal n.tick in
+    let nonempty : 0 < length digits = decimal_nonempty n.tick h.tick in
+    let init : List ℕ = take (length digits - 1) digits in
+    let last : ℕ = get_or digits (length digits - 1) 0 in
+    let apart : digits ≡ init ++ last ∷ [] = last_apart digits nonempty in
+    let tail : List ℕ = codes " compute\n" ++ drop n.len n.line in
+    let front : front_of h.word n.tick ≡ lead h.word init ++ last ∷ [] =
+    ap (λ (d : List ℕ). codes "step" ++ (field h.word ++ field d)) apart ∙ lead_front h.word init last in
+    let all : n.line ≡ lead h.word init ++ last ∷ tail =
+    whole names n h ∙ (ap (λ (f : List ℕ). f ++ tail) front ∙ append_assoc (lead h.word init) (last ∷ []) tail) in
+    let size : n.len - 9 - 1 ≡ length (lead h.word init) =
+    omega (arith, h.size, ap length front, length-append (lead h.word init) (last ∷ [])) in
+    let here : get_or n.line (n.len - 9 - 1) 0 ≡ last =
+    ap (λ (l : List ℕ). get_or l (n.len - 9 - 1) 0) all
+    ∙ (ap (λ (i : ℕ). get_or (lead h.word init ++ last ∷ tail) i 0) size ∙ get_or-append_seam (lead h.word init) last tail 0) in
+    let more : decimal (n.tick + 1) ≡ init ++ (last + 1) ∷ [] = next_decimal n.tick init last lt apart (omega (arith, here, low)) in
+    let front_more : front_of h.word (n.tick + 1) ≡ lead h.word init ++ (last + 1) ∷ [] =
+    ap (λ (d : List ℕ). codes "step" ++ (field h.word ++ field d)) more ∙ lead_front h.word init (last + 1) in
+    let changed : (gone_on n).line ≡ (front_of h.word (n.tick + 1) ++ codes " compute\n") ++ drop n.len n.line =
+    ap (λ (l : List ℕ). set l (n.len - 9 - 1) (get_or n.line (n.len - 9 - 1) 0 + 1)) all
+    ∙ (set_at (lead h.word init) last tail (get_or n.line (n.len - 9 - 1) 0 + 1) (n.len - 9 - 1) (sym size)
+    ∙ (ap (λ (d : ℕ). lead h.word init ++ (d + 1) ∷ tail) here
+    ∙ (sym (append_assoc (lead h.word init) ((last + 1) ∷ []) tail)
+    ∙ (ap (λ (f : List ℕ). f ++ tail) (sym front_more)
+    ∙ sym (append_assoc (front_of h.word (n.tick + 1)) (codes " compute\n") (drop n.len n.line)))))) in
+    let long : n.len ≡ length (front_of h.word (n.tick + 1)) + 9 =
+    omega (arith, h.size, ap length front, ap length front_more, length-append (lead h.word init) (last ∷ []), length-append (lead h.word init) ((last + 1) ∷ [])) in
+    record {
+      within = next.within;
+      awaits = λ enough. record {
+        word = h.word;
+        line =
+            ap (take n.len) changed
+            ∙ take_at (front_of h.word (n.tick + 1) ++ codes " compute\n") (drop n.len n.line) n.len
+            (length-append (front_of h.word (n.tick + 1)) (codes " compute\n") ∙ sym long);
+        size = long;
+        job = h.job;
+        no_blank = h.no_blank;
+        no_end = h.no_end;
+        tick = lt;
+      };
+    }
+
+pub nothing : (names : Names) (n : NextStep) → n.len ≡ 0 → IsNext names n
+nothing names n none = record { within = omega (arith, none); awaits = λ enough. absurd (omega (arith, none, enough)) }
+
+-- ---- a line that is noted
+
+pub noted : (names : Names) (n : NextStep) (fields word : List ℕ) → n.len ≡ 4 + length fields + 9 → n.len ≤ 96
+    → take n.len n.line ≡ (codes "step" ++ fields) ++ codes " compute\n" → fields ≡ field word ++ field (decimal n.tick)
+    → job_of names.txns word ≡ Some n.job → Lacks 32 word → Lacks 10 word → n.tick < 2 ^ 64 → IsNext names n
+noted names n fields word size within line is job blank end lt =
+    record {
+      within = within;
+      awaits = λ enough. record {
+        word = word;
+        line = line ∙ ap (λ (f : List ℕ). (codes "step" ++ f) ++ codes " compute\n") is;
+        size = omega (arith, size, ap length is);
+        job = job;
+        no_blank = blank;
+        no_end = end;
+        tick = lt;
+      };
+    }
+
+not_true : (b : Bool) → not b ≡ true → b ≡ true → ⊥
+not_true true e h = absurd cc
+not_true false e h = absurd cc
+
+-- a word has no blank
+word_blank : (bs : List ℕ) → Lacks 32 (word_of bs).0
+unfolding word_of
+word_blank bs i lt same =
+    let len : ℕ = position_or_len (λ b. nat_eq b 32) bs in
+    let low : i < len = omega (arith, lt, length-take len bs) in
+    let other : not (nat_eq (get_or bs i 0) 32) ≡ true = prefix_len_passes (λ b. not (nat_eq b 32)) bs i 0 low in
+    not_true (nat_eq (get_or bs i 0) 32) other (eq-eqb (get_or bs i 0) 32 (sym (get_or-take len bs i 0 low) ∙ same))
+
+field_blank : (bs w rest : List ℕ) → field_of bs ≡ Some (w, rest) → Lacks 32 w
+unfolding field_of
+field_blank [] w rest e = absurd (none_some (w, rest) e)
+field_blank (b ∷ bs) w rest e =
+    let t = chosen (nat_eq b 32) (Some (word_of bs)) (w, rest) e in
+    subst (Lacks 32) (ap (λ (p : List ℕ × List ℕ). p.0) (some_is _ _ t.1)) (word_blank bs)
+
+-- the field that was read
+record Field {A : Type 0} (read : List ℕ → Option A) (bs : List ℕ) (a : A) (rest : List ℕ) : Type 0 where
+  pub word : List ℕ
+  pub all : bs ≡ field word ++ rest
+  pub is : read word ≡ Some a
+  pub blank : Lacks 32 word
+
+field_told : {A : Type 0} (read : List ℕ → Option A) (bs : List ℕ) (a : A) (rest : List ℕ) → Some (a, rest) ≡ next read bs → Field read bs a rest
+unfolding next
+field_told {A = A} read bs a rest e =
+    let f = bind_some (field_of bs) (λ f. read f.0 >>= λ x. Some (x, f.1)) (a, rest) (sym e) in
+    let x = bind_some (read f.0.0) (λ x. Some (x, f.0.1)) (a, rest) f.2 in
+    let same : (x.0, f.0.1) ≡ (a, rest) = some_is _ _ x.2 in
+    record {
+      word = f.0.0;
+      all = field_takes bs f.0.0 f.0.1 f.1 ∙ ap (λ (p : A × List ℕ). field f.0.0 ++ p.1) same;
+      is = x.1 ∙ ap (λ (p : A × List ℕ). Some p.0) same;
+      blank = field_blank bs f.0.0 f.0.1 f.1;
+    }
+
+lacks_left : (byte : ℕ) (a b : List ℕ) → Lacks byte (a ++ b) → Lacks byte a
+lacks_left byte [] b h i lt = absurd (omega (arith, lt))
+lacks_left byte (x ∷ a) b h zero lt = h 0 (omega arith)
+lacks_left byte (x ∷ a) b h (suc i) lt = lacks_left byte a b (λ j below. h (suc j) (omega (arith, below))) i (omega (arith, lt))
+
+lacks_right : (byte : ℕ) (a b : List ℕ) → Lacks byte (a ++ b) → Lacks byte b
+lacks_right byte [] b h = h
+lacks_right byte (x ∷ a) b h = lacks_right byte a b (λ j below. h (suc j) (omega (arith, below)))
+
+-- what a step's line was read as: its fields stand before the rest
+pub record FieldsAre (names : Names) (fields : List ℕ) (job : JobId) (tick : ℕ) : Type 0 where
+  pub word : List ℕ
+  pub all : fields ≡ field word ++ field (decimal tick)
+  pub is : job_of names.txns word ≡ Some job
+  pub blank : Lacks 32 word
+  pub no_end : Lacks 10 word
+
+pub fields_are : (names : Names) (bs more rest : List ℕ) (job : JobId) (tick : ℕ) → Lacks 10 bs
+    → Some (job, more) ≡ next (job_of names.txns) bs → Some (tick, rest) ≡ next unsigned_of more
+    → FieldsAre names (take (length bs - length rest) bs) job tick
+fields_are names bs more rest job tick lacks one two =
+    let j = field_told (job_of names.txns) bs job more one in
+    let t = field_told unsigned_of more tick rest two in
+    let text : decimal tick ≡ t.word = (unsigned_takes t.word tick t.is).1 in
+    let fields : List ℕ = field j.word ++ field (decimal tick) in
+    let all : bs ≡ fields ++ rest =
+    j.all ∙ (ap (λ (r : List ℕ). field j.word ++ r) (t.all ∙ ap (λ (w : List ℕ). field w ++ rest) (sym text))
+    ∙ sym (append_assoc (field j.word) (field (decimal tick)) rest)) in
+    let size : length bs - length rest ≡ length fields = omega (arith, ap length all, length-append fields rest) in
+    record {
+      word = j.word;
+      all = ap (take (length bs - length rest)) all ∙ take_at fields rest (length bs - length rest) (sym size);
+      is = j.is;
+      blank = j.blank;
+      no_end = lacks_left 10 j.word more (lacks_right 10 (codes " ") (j.word ++ more) (subst (Lacks 10) j.all lacks));
+    }
+
+pub fields_fit : (names : Names) (bs more rest : List ℕ) (job : JobId) (tick : ℕ) → Some (job, more) ≡ next (job_of names.txns) bs
+    → Some (tick, rest) ≡ next unsigned_of more → length rest ≤ length bs
+fields_fit names bs more rest job tick one two =
+    let j = field_told (job_of names.txns) bs job more one in
+    let t = field_told unsigned_of more tick rest two in
+    omega (arith, ap length j.all, length-append (field j.word) more, ap length t.all, length-append (field t.word) rest)
+
+pub step_is : (names : Names) (bs more rest : List ℕ) (job : JobId) (tick : ℕ) → Some (job, more) ≡ next (job_of names.txns) bs
+    → Some (tick, rest) ≡ next unsigned_of more → step_by names job tick rest ≡ step_of names bs
+unfolding step_of step_by
+step_is names bs more rest job tick one two = rw (sym one, sym two) refl
+
+pub after_lacks : (byte : ℕ) (line front rest : List ℕ) → line ≡ front ++ rest → Lacks byte line → Lacks byte rest
+after_lacks byte line front rest is h = lacks_right byte front rest (subst (Lacks byte) is h)

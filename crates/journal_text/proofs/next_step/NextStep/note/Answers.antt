@@ -1,0 +1,13 @@
+use Rattle.std.proofs.Common.{◌≡◌, ◌+◌, ◌++◌, List, ℕ, length, take, codes, ap, refl, ◌∙◌, arith, rules}
+use Rattle.journal_text.specs.declared.next_step.NextStep.{NextStep}
+use Rattle.journal_text.proofs.NextLaws.{noted}
+use Rattle.journal_text.proofs.next_step.NextStep.note.Goals as goal
+
+pub returns : goal.returns
+returns c names word is job blank end =
+    let n : NextStep = record { line = c.put_at-3.new.line; len = 4 + length c.args.fields.now + 9; job = c.args.job; tick = c.args.tick } in
+    let line : take n.len n.line ≡ (codes "step" ++ c.args.fields.now) ++ codes " compute\n" =
+    c.put_at-3.ensures
+    ∙ ap (λ (l : List ℕ). l ++ codes " compute\n") (c.put_at-2.ensures ∙ ap (λ (l : List ℕ). l ++ c.args.fields.now) c.put_at.ensures) in
+    c.go_on.ensures names
+    (noted names n c.args.fields.now word refl (omega (arith, c.if-fields-gt80.false)) line is job blank end (search rules))

@@ -1,0 +1,256 @@
+//! The line of a step that is likely to be next.
+ghost use Rattle.std.specs.Prelude.{◌≡◌, ◌+◌, ◌-◌, ◌≤◌, ◌<◌, ◌^◌, ◌++◌, ℕ, List, Some, IfSome, IsTrue, length, take, drop, decimal, slice_index_or, option_map};
+ghost use Rattle.rt_base.specs.declared.name.Names.{Names as AllNames};
+ghost use Rattle.line_fields.specs.Cuts.{field, Lacks, Ends};
+ghost use Rattle.line_fields.specs.Ids.{job_of};
+ghost use Rattle.journal_text.specs.Reading.{entry_of};
+ghost use Rattle.journal_text.specs.Next.{step_by, first_entry as first_entry_of, IsNext};
+
+use crate::reading::{after, any_entry, step_after};
+use line_fields::{cut, next_job, next_unsigned};
+use name_table::NameTables;
+use rt_base::{JobId, Op, Outcome, Tick, TxId};
+use step_journal::Entry;
+
+/// The line of a Compute of a job at a tick at which nothing ends, with its line end; or nothing. It is what is likely to be
+/// next where a history's lines are read.
+#[derive(Drop)]
+pub struct NextStep {
+    line: [u8; 96],
+    // 0 where there is nothing.
+    len: usize,
+    job: JobId,
+    tick: Tick,
+}
+
+// The bytes of ` compute` and a line end.
+const COMPUTE: usize = 9;
+
+// No such line has fewer bytes.
+const LEAST: usize = 18;
+
+// Whether eight bytes from a place on are the same in both.
+#[inline(always)]
+fn same_word(a: &[u8], b: &[u8], at: usize) -> bool
+    requires first { at + 8 ≤ length a.now }
+    requires second { at + 8 ≤ length b.now }
+    ensures { IsTrue result → (i : ℕ) → at ≤ i → i < at + 8 → slice_index_or a.now i 0 ≡ slice_index_or b.now i 0 }
+{
+    let one = [
+        a[at],
+        a[at + 1],
+        a[at + 2],
+        a[at + 3],
+        a[at + 4],
+        a[at + 5],
+        a[at + 6],
+        a[at + 7],
+    ];
+    let other = [
+        b[at],
+        b[at + 1],
+        b[at + 2],
+        b[at + 3],
+        b[at + 4],
+        b[at + 5],
+        b[at + 6],
+        b[at + 7],
+    ];
+    u64::from_le_bytes(one) == u64::from_le_bytes(other)
+}
+
+// Whether so many bytes at the front are the same in both, eight at a time. The last of them differ most often.
+#[inline(always)]
+fn same_front(a: &[u8], b: &[u8], len: usize) -> bool
+    requires some { 8 ≤ len }
+    requires first { len ≤ length a.now }
+    requires second { len ≤ length b.now }
+    ensures { IsTrue result → take len a.now ≡ take len b.now }
+{
+    if !same_word(a, b, len - 8) {
+        return false;
+    }
+    let mut at = 0;
+    while at + 8 < len {
+        if !same_word(a, b, at) {
+            return false;
+        }
+        at += 8;
+    }
+    true
+}
+
+// Writes bytes from a place on.
+#[inline(always)]
+fn put_at(line: &mut [u8; 96], at: usize, bytes: &[u8])
+    requires { at + length bytes.now ≤ 96 }
+    ensures { take (at + length bytes.now) line.new ≡ take at line.old ++ bytes.now }
+{
+    line[at..at + bytes.len()].copy_from_slice(bytes);
+}
+
+impl NextStep {
+    /// Nothing.
+    pub fn new() -> NextStep
+        ensures { (names : AllNames) → IsNext names result }
+    {
+        NextStep {
+            line: [0; 96],
+            len: 0,
+            job: JobId {
+                tx: TxId(0),
+                serial: 0,
+            },
+            tick: 0,
+        }
+    }
+
+    // What follows the tick, where a line begins as this one up to there.
+    #[inline(always)]
+    fn passed<'a>(&self, line: &'a [u8]) -> Option<&'a [u8]>
+        requires { self.now.len ≤ 96 }
+        ensures some { IfSome result (λ rest. 18 ≤ self.now.len) }
+        ensures front { IfSome result (λ rest. line.now ≡ take (self.now.len - 9) self.now.line ++ rest.now) }
+        ensures ends { IfSome result (λ rest. Ends rest.now) }
+    {
+        if self.len < LEAST {
+            return None;
+        }
+        let len = self.len - COMPUTE;
+        if line.len() <= len || line[len] != b' ' || !same_front(line, &self.line, len) {
+            return None;
+        }
+        Some(&line[len..])
+    }
+
+    // What follows this line, where a text begins with it.
+    #[inline(always)]
+    fn computed<'a>(&self, text: &'a [u8]) -> Option<&'a [u8]>
+        requires { self.now.len ≤ 96 }
+        ensures some { IfSome result (λ rest. 18 ≤ self.now.len) }
+        ensures front { IfSome result (λ rest. text.now ≡ take self.now.len self.now.line ++ rest.now) }
+    {
+        let len = self.len;
+        if len < LEAST || text.len() < len || !same_front(text, &self.line, len) {
+            return None;
+        }
+        Some(&text[len..])
+    }
+
+    // Goes on to the next tick, or to nothing where the last digit is 9.
+    #[inline(always)]
+    fn go_on(&mut self)
+        requires some { 18 ≤ self.old.len }
+        requires within { self.old.len ≤ 96 }
+        ensures { (names : AllNames) → IsNext names self.old → IsNext names self.new }
+    {
+        let last = self.len - COMPUTE - 1;
+        if self.line[last] < b'9' && self.tick < u64::MAX {
+            self.line[last] += 1;
+            self.tick += 1;
+        } else {
+            self.len = 0;
+        }
+    }
+
+    // Notes the line of a job and a tick, by their fields, and goes on to the next tick.
+    #[inline(never)]
+    fn note(&mut self, fields: &[u8], job: JobId, tick: Tick)
+        ensures { (names : AllNames) (word : List ℕ) → fields.now ≡ field word ++ field (decimal tick) → job_of names.txns word ≡ Some job → Lacks 32 word → Lacks 10 word → IsNext names self.new }
+    {
+        self.len = 0;
+        if fields.len() > 80 {
+            return;
+        }
+        if fields.len() < 5 {
+            return;
+        }
+        let end = 4 + fields.len();
+        put_at(&mut self.line, 0, b"step");
+        put_at(&mut self.line, 4, fields);
+        put_at(&mut self.line, end, b" compute\n");
+        self.len = end + COMPUTE;
+        self.job = job;
+        self.tick = tick;
+        self.go_on();
+    }
+
+    // The job and the tick of a step that is not the one that was likely, and what follows them in its line.
+    #[inline(always)]
+    fn read_fields<'a>(
+        &mut self,
+        names: &NameTables,
+        line: &'a [u8],
+    ) -> Option<(JobId, Tick, &'a [u8])>
+        requires lacks { Lacks 10 line.now }
+        requires next { IsNext names.now self.old }
+        ensures value { IfSome result (λ p. step_by names.now p.0 p.1 p.2.now ≡ entry_of names.now line.now) }
+        ensures next { IsNext names.now self.new }
+    {
+        let rest = after(b"step", line)?;
+        let (job, more) = next_job(names, rest)?;
+        let (tick, more) = next_unsigned(more)?;
+        self.note(&rest[..rest.len() - more.len()], job, tick);
+        Some((job, tick, more))
+    }
+
+    // The job and the tick of a step, and what follows them in its line; None where it is no step's.
+    #[inline(always)]
+    fn fields<'a>(&mut self, names: &NameTables, line: &'a [u8]) -> Option<(JobId, Tick, &'a [u8])>
+        requires lacks { Lacks 10 line.now }
+        requires next { IsNext names.now self.old }
+        ensures value { IfSome result (λ p. step_by names.now p.0 p.1 p.2.now ≡ entry_of names.now line.now) }
+        ensures next { IsNext names.now self.new }
+    {
+        if let Some(rest) = self.passed(line) {
+            let job = self.job;
+            let tick = self.tick;
+            self.go_on();
+            return Some((job, tick, rest));
+        }
+        self.read_fields(names, line)
+    }
+
+    // The entry whose line this is.
+    #[inline(always)]
+    fn entry(&mut self, names: &NameTables, line: &[u8]) -> Option<Entry>
+        requires lacks { Lacks 10 line.now }
+        requires next { IsNext names.now self.old }
+        ensures value { result ≡ entry_of names.now line.now }
+        ensures next { IsNext names.now self.new }
+    {
+        match self.fields(names, line) {
+            Some((job, tick, rest)) => step_after(names, job, tick, rest),
+            None => any_entry(names, line),
+        }
+    }
+
+    /// The entry of the first line of a text, as `read_entry` says, and what follows the line; None where there is no line or it
+    /// is no entry's. The line that is likely costs one comparison, and so do the job and the tick of another step of its job
+    /// at its tick.
+    #[inline(always)]
+    pub fn first_entry<'a>(
+        &mut self,
+        names: &NameTables,
+        text: &'a [u8],
+    ) -> Option<(Entry, &'a [u8])>
+        requires { IsNext names.now self.old }
+        ensures entry { option_map (λ p. (p.0, p.1.now)) result ≡ first_entry_of names.now text.now }
+        ensures next { IsNext names.now self.new }
+    {
+        if let Some(rest) = self.computed(text) {
+            let entry = Entry::Step {
+                job: self.job,
+                op: Op::Compute,
+                outcome: Outcome::Computed,
+                over: None,
+                tick: self.tick,
+            };
+            self.go_on();
+            return Some((entry, rest));
+        }
+        let (line, more) = cut(b'\n', text)?;
+        let entry = self.entry(names, line)?;
+        Some((entry, more))
+    }
+}
