@@ -35,10 +35,6 @@ fn greatest(priorities: impl Iterator<Item = u32>) -> u32 {
     priorities.max().unwrap_or(0)
 }
 
-fn windows(ticks: u64, period: u64) -> u64 {
-    ticks / period + u64::from(ticks % period != 0)
-}
-
 impl Set {
     pub fn validity(&self, item: u32) -> Option<u64> {
         match self.items.get(item as usize)?.0 {
@@ -196,7 +192,7 @@ impl Set {
             .iter()
             .map(|t| t.times)
             .filter(|t| t.priority > own.priority);
-        let work: u64 = higher.map(|t| t.steps * windows(ticks, t.period)).sum();
+        let work: u64 = higher.map(|t| t.steps * ticks.div_ceil(t.period)).sum();
         own.steps + self.blocking(tx) + work
     }
 
