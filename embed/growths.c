@@ -1,5 +1,6 @@
-/* Refuses each growth of memory of `rtdb_open` in turn, and counts what is held. A refused opening says so, leaves the handle
- * closed and holds nothing; after the opening no call takes memory, and the closing gives all back. It is linked with
+/* Refuses each growth of memory of `rtdb_open` in turn, and of `rtdb_margin`, and counts what is held. A refused opening says so,
+ * leaves the handle closed and holds nothing; a refused margin says so, and leaves its answer as it was; a margin holds nothing
+ * when it returns. After the opening no other call takes memory, and the closing gives all back. It is linked with
  * -Wl,--wrap=malloc,--wrap=realloc,--wrap=free, which gives these functions in place of those of the C library. */
 #include <stdio.h>
 #include <stdlib.h>
@@ -65,6 +66,20 @@ static int use(rtdb *db) {
     return bad;
 }
 
+/* Refuses each growth of the margin in turn; answers how many went wrong. The last time none is refused. */
+static int margins(rtdb *db) {
+    long before = held;
+    int bad = 0;
+    for (refused = 0;; refused++) {
+        rtdb_margin_answer answer = {7777, 0, {0, 0, 0, 0, 0}};
+        growths = 0;
+        rtdb_status status = rtdb_margin(db, &answer);
+        bad += held != before;
+        if (status == RTDB_OK && growths <= refused) return bad + (answer.percent > 1000);
+        bad += status != RTDB_NO_MEMORY || answer.percent != 7777;
+    }
+}
+
 int main(void) {
     int bad = 0;
     for (refused = 0;; refused++) {
@@ -76,6 +91,10 @@ int main(void) {
             long taken = growths;
             bad += use(&db);
             if (growths != taken) bad++;
+            long openings = refused;
+            bad += margins(&db);
+            printf("growths of a margin %ld\n", refused);
+            refused = openings;
             if (rtdb_close(&db) != RTDB_OK || held != 0) bad++;
             break;
         }
