@@ -19,7 +19,7 @@ VALGRIND = ["valgrind", "-q", "--error-exitcode=99", "--leak-check=full", "--err
 
 # What a program is linked with besides, and its words.
 LINKED = {"growths": ["-Wl,--wrap=malloc,--wrap=realloc,--wrap=free"]}
-WORDS = {"cost": ["job", "64"], "real_tank": ["1"]}
+WORDS = {"cost": ["job", "64"], "drive": ["8", "64", "ahead"], "real_tank": ["1"]}
 
 # How long the real tanks run, in seconds, and the setpoint that their operators are told.
 SECONDS = 10

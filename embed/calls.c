@@ -42,7 +42,9 @@ static void closed(void) {
     uint64_t ticks = 7;
     uint32_t count = 7;
     size_t size = 7;
+    rtdb_margin_answer margin = {7, 7, {7, 7, 7, 7, 7}};
     IS(rtdb_close(&db) == RTDB_CLOSED);
+    IS(rtdb_margin(&db, &margin) == RTDB_CLOSED && margin.percent == 7 && margin.refusal.c == 7);
     IS(rtdb_response(&db, 0, &ticks) == RTDB_CLOSED && rtdb_blocking(&db, 0, &ticks) == RTDB_CLOSED);
     IS(rtdb_age(&db, 0, &ticks) == RTDB_CLOSED && rtdb_now(&db, &ticks) == RTDB_CLOSED && ticks == 7);
     IS(rtdb_plan(&db, 0, 0, &time) == RTDB_CLOSED && rtdb_plan_next(&db, 0, &time) == RTDB_CLOSED);
@@ -92,6 +94,36 @@ static void bounds(rtdb *db) {
     IS(rtdb_age(db, 0, &ticks) == RTDB_OK && ticks > 0 && ticks <= 20);
     IS(rtdb_age(db, 1, &ticks) == RTDB_NOTHING && rtdb_age(db, 2, &ticks) == RTDB_NO_ITEM);
     IS(rtdb_response(db, 2, &ticks) == RTDB_NO_TRANSACTION && rtdb_blocking(db, 2, &ticks) == RTDB_NO_TRANSACTION);
+}
+
+/* The sampler is blocked for the steps of the controller less one, and has 10: at 175 percent it has 4 and the other 7, at 176 8. */
+static void margin(rtdb *db) {
+    rtdb_margin_answer answer = {0};
+    uint64_t now = 7;
+    IS(rtdb_margin(db, &answer) == RTDB_OK && answer.percent == 175);
+    IS(answer.barrier == RTDB_NOT_ADMITTED && refusal_is(answer.refusal, RTDB_NOT_SCHEDULABLE, 0, 4 + 7, 0));
+    IS(rtdb_now(db, &now) == RTDB_OK && now == 0);
+}
+
+static int text_is(rtdb_status status, const rtdb_refusal *r, const char *words) {
+    char into[RTDB_MOST_TEXT + 1] = {0}, front[4] = {0, 0, 0, '~'};
+    size_t length = rtdb_text(status, r, into, sizeof into);
+    return length == strlen(words) && strcmp(into, words) == 0 && rtdb_text(status, r, front, 3) == length
+        && strncmp(front, words, length < 3 ? length : 3) == 0 && front[3] == '~';
+}
+
+/* The words of docs/FORMATS.md. */
+static void words(void) {
+    rtdb_refusal none = {0}, same = {RTDB_SAME_PRIORITY, 0, 0, 17, 0}, times = {RTDB_BAD_TIMES, 2, 3, 0, 0};
+    rtdb_refusal old = {RTDB_TOO_OLD, 0, 1, 12, 4000}, most = {RTDB_TWO_WRITERS, 0, UINT64_MAX, UINT64_MAX, UINT64_MAX};
+    char into[RTDB_MOST_TEXT];
+    static const char *const alone[] = {"Ok", "Closed", "Open", "NoOperation", "NoTransaction", "NoItem",
+        "Nothing", "RoomTooLarge", "BadTable", "NotCompiled", "NotAdmitted", "OutOfMemory"};
+    for (rtdb_status k = 0; k < 12; k++) IS(text_is(k, &none, alone[k]));
+    IS(text_is(12345, &none, "Unknown 12345"));
+    IS(text_is(RTDB_NOT_COMPILED, &same, "SamePrio txn0 txn17") && text_is(RTDB_NOT_COMPILED, &times, "BadTimes txn3 period"));
+    IS(text_is(RTDB_NOT_ADMITTED, &old, "TooOld txn1 item12 4000") && text_is(RTDB_NOT_ADMITTED, &same, "NotAdmitted"));
+    IS(rtdb_text(RTDB_NOT_COMPILED, &most, into, sizeof into) == 10 + 25 + 24 + 24);
 }
 
 static void plans(rtdb *db) {
@@ -183,6 +215,10 @@ static void trial(void) {
     IS(rtdb_open_trial(&db, items, 2, rows, 2, sets, 0, numbers, 3, 64, &r) == RTDB_OPEN && r.rule == 9);
     IS(rtdb_response(&db, 0, &ticks) == RTDB_NOT_ADMITTED && rtdb_blocking(&db, 7, &ticks) == RTDB_NOT_ADMITTED);
     IS(rtdb_age(&db, 7, &ticks) == RTDB_NOT_ADMITTED && ticks == 7);
+    rtdb_margin_answer margin = {0};
+    /* 33 percent of 30 steps are 10, which block the other for 9 of its 10 ticks, and 34 are 11; of its own 2 steps both are 1 */
+    IS(rtdb_margin(&db, &margin) == RTDB_OK && margin.percent == 33 && margin.barrier == RTDB_NOT_ADMITTED);
+    IS(refusal_is(margin.refusal, RTDB_NOT_SCHEDULABLE, 0, 1 + 10, 0));
     IS(rtdb_plan(&db, 1, 0, &time) == RTDB_OK && time.reply == RTDB_PLANNED);
     while (answer.over.kind == RTDB_NOT_ENDED) {
         IS(rtdb_step(&db, job, RTDB_COMPUTE, 0, 0, &answer) == RTDB_OK && answer.reply == RTDB_DONE);
@@ -199,9 +235,11 @@ int main(void) {
     refusals();
     full();
     trial();
+    words();
     IS(open_set(&db, transactions, 2, 16, &r) == RTDB_OK && r.rule == 9);
     IS(open_set(&db, transactions, 2, 16, &r) == RTDB_OPEN && r.rule == 9);
     bounds(&db);
+    margin(&db);
     plans(&db);
     steps(&db);
     journal(&db);

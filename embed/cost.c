@@ -65,10 +65,28 @@ static int write_item(struct run *r, long k) {
     return step(r, RTDB_WRITE, k);
 }
 
+/* Each call has a loop of its own, so that little stands around it. */
+#define REPEATED(call) \
+    static int call##_times(struct run *r, long times) { \
+        for (long k = 0; k < times; k++) { \
+            if (!call(r, k)) return 0; \
+        } \
+        return 1; \
+    }
+
+REPEATED(peek)
+REPEATED(running)
+REPEATED(now)
+REPEATED(refused)
+REPEATED(compute)
+REPEATED(write_item)
+REPEATED(job)
+
 static const struct {
     const char *name;
-    int (*make)(struct run *r, long k);
-} calls[] = {{"peek", peek}, {"running", running}, {"now", now}, {"refused", refused}, {"compute", compute}, {"write", write_item}, {"job", job}};
+    int (*repeat)(struct run *r, long times);
+} calls[] = {{"peek", peek_times}, {"running", running_times}, {"now", now_times}, {"refused", refused_times},
+    {"compute", compute_times}, {"write", write_item_times}, {"job", job_times}};
 
 int main(int count, char **words) {
     static struct run r;
@@ -79,10 +97,7 @@ int main(int count, char **words) {
         if (++at == sizeof calls / sizeof calls[0]) return 2;
     }
     if (rtdb_open(&r.db, items, 1, transactions, 1, no_sets, 0, numbers, 1, 8192, &refusal) != RTDB_OK) return 1;
-    if (calls[at].make != job && rtdb_plan(&r.db, 0, 0, &r.time) != RTDB_OK) return 1;
-    long times = atol(words[2]);
-    for (long k = 0; k < times; k++) {
-        if (!calls[at].make(&r, k)) return 1;
-    }
+    if (calls[at].repeat != job_times && rtdb_plan(&r.db, 0, 0, &r.time) != RTDB_OK) return 1;
+    if (!calls[at].repeat(&r, atol(words[2]))) return 1;
     return rtdb_close(&r.db) == RTDB_OK ? 0 : 1;
 }

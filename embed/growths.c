@@ -1,7 +1,8 @@
-/* Refuses each growth of memory of an opening in turn, and counts what is held: of a set that is admitted, of one that is not, of one
- * that is not compiled, and of a trial. A refused opening says so, leaves the handle closed and holds nothing; after the opening no
- * call takes memory, and the closing gives all back. It is linked with -Wl,--wrap=malloc,--wrap=realloc,--wrap=free, which gives
- * these functions in place of those of the C library. */
+/* Refuses each growth of memory of an opening in turn, and of a margin, and counts what is held: of a set that is admitted, of one that
+ * is not, of one that is not compiled, and of a trial. A refused opening says so, leaves the handle closed and holds nothing; a refused
+ * margin says so, and leaves its answer as it was; a margin holds nothing when it returns. After the opening no other call takes
+ * memory, and the closing gives all back. It is linked with -Wl,--wrap=malloc,--wrap=realloc,--wrap=free, which gives these functions
+ * in place of those of the C library. */
 #include <stdio.h>
 #include <stdlib.h>
 
@@ -92,6 +93,20 @@ static int use(rtdb *db) {
     return bad;
 }
 
+/* Refuses each growth of the margin in turn; answers how many went wrong. The last time none is refused. */
+static int margins(rtdb *db) {
+    long before = held;
+    int bad = 0;
+    for (refused = 0;; refused++) {
+        rtdb_margin_answer answer = {7777, 0, {0, 0, 0, 0, 0}};
+        growths = 0;
+        rtdb_status status = rtdb_margin(db, &answer);
+        bad += held != before;
+        if (status == RTDB_OK && growths <= refused) return bad + (answer.percent > 1000);
+        bad += status != RTDB_NO_MEMORY || answer.percent != 7777;
+    }
+}
+
 /* Refuses the growths 0, 1 and so on, until an opening comes to its answer without the one that is refused. That answer has to be
  * the wanted one, and to have come after just as many growths, so each was refused once. */
 static int try_each(size_t which) {
@@ -107,7 +122,11 @@ static int try_each(size_t which) {
                            : status == RTDB_NO_MEMORY && refusal.rule == 0 && refusal.which == 0 && refusal.a == 0 && refusal.b == 0 && refusal.c == 0;
         if (status == RTDB_OK) {
             bad += use(&db);
-            if (growths != taken || rtdb_close(&db) != RTDB_OK) good = 0;
+            if (growths != taken) good = 0;
+            long openings = refused;
+            bad += margins(&db);
+            refused = openings;
+            if (rtdb_close(&db) != RTDB_OK) good = 0;
         }
         if (!good || db.at != NULL || held != 0) {
             bad++;

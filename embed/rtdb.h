@@ -19,7 +19,8 @@
  * No other use does harm: each number is tested, a call by a closed handle answers RTDB_CLOSED, and what a status other
  * than RTDB_OK leaves is all as it was.
  *
- * Memory is taken by `rtdb_open` and `rtdb_open_trial` alone and given back by `rtdb_close` alone. No call waits.
+ * Memory is taken by `rtdb_open` and `rtdb_open_trial` and given back by `rtdb_close`. Of the other calls `rtdb_margin` alone takes
+ * any, and gives it back before it returns. No call waits.
  *
  * Link librtdb.a.
  */
@@ -150,6 +151,14 @@ rtdb_status rtdb_open_trial(rtdb *db, const rtdb_item *items, size_t item_count,
 /* Gives the memory back and closes the handle. Answers RTDB_OK or RTDB_CLOSED. */
 rtdb_status rtdb_close(rtdb *db);
 
+#define RTDB_MOST_TEXT ((size_t)96)
+
+/* Writes the words of a status to `into`, as many bytes as it has places for, and answers how many bytes they are, at most
+ * RTDB_MOST_TEXT. What stands behind them stays: where the array began as {0} and is longer, a zero byte ends them.
+ * With RTDB_BAD_TABLE, RTDB_NOT_COMPILED and RTDB_NOT_ADMITTED the words are those of the refusal with its numbers, and else it
+ * says nothing. docs/FORMATS.md has the words. Takes no memory. */
+size_t rtdb_text(rtdb_status status, const rtdb_refusal *refusal, char *into, size_t places);
+
 /* ---- the bounds of the admitted set ---- */
 
 /* These three read a table. RTDB_CLOSED, RTDB_NOT_ADMITTED, RTDB_NO_TRANSACTION and RTDB_NO_ITEM, in this order, leave `ticks`
@@ -164,6 +173,19 @@ rtdb_status rtdb_blocking(rtdb *db, uint32_t transaction, uint64_t *ticks);
 /* The item's age bound: what a job reads of it is at most `ticks` old, where each writer's jobs come period by period.
  * RTDB_NOTHING of a state item. */
 rtdb_status rtdb_age(rtdb *db, uint32_t item, uint64_t *ticks);
+
+/* How far the steps of all transactions may grow. */
+typedef struct rtdb_margin_answer {
+    uint32_t percent;     /* 0 to 1000: the greatest percentage of its steps at which the set is compiled and admitted */
+    uint32_t barrier;     /* what bars the next one: RTDB_NOT_COMPILED or RTDB_NOT_ADMITTED; RTDB_OK where it is above 1000 */
+    rtdb_refusal refusal; /* the first cause, as an opening would tell it */
+} rtdb_margin_answer;
+
+/* The margin of the set, admitted or not. At a percentage the steps of each transaction are rounded up, and the quiet ones are
+ * fewer than these.
+ * RTDB_CLOSED and RTDB_NO_MEMORY leave the answer as it was. The database stays as it is. Takes memory for a set and its
+ * analysis, and gives it back. Costs the analysis of at most ten sets. */
+rtdb_status rtdb_margin(rtdb *db, rtdb_margin_answer *answer);
 
 /* ---- plans ---- */
 

@@ -1,6 +1,8 @@
 //! The database and its calls.
 use crate::declarations::{Declarations, ItemId, JobId, TxId};
-use crate::errors::{open_error, BoundError, NotOfTheSet, OpenError, PlanError};
+use crate::errors::{
+    open_error, BoundError, NotOfTheSet, OpenError, OutOfMemory, PlanError, NOT_ADMITTED, NO_ITEM,
+};
 use crate::ffi;
 use crate::replies::{
     entry_of, idle_of, job_of, planned_of, reply_of, Entry, IdleReply, Op, StepReply,
@@ -12,11 +14,8 @@ const PLACES: usize = 64;
 // No job is pending, or the item has no age bound.
 const NOTHING: u32 = 6;
 
-// The set is not admitted.
-const NOT_ADMITTED: u32 = 10;
-
 /// A database. Over an admitted set no job of it is late. It may go to another thread, and is used by one at a time. It closes
-/// itself. No call but `open` and `open_trial` takes memory, and none waits.
+/// itself. No call but `open`, `open_trial` and `margin` takes memory, and none waits.
 pub struct Database {
     handle: ffi::Handle,
     // Entries that were drained and not handed out yet.
@@ -32,6 +31,15 @@ pub struct Stored {
     pub value: i64,
     /// Its stamp, a tick.
     pub stamp: u64,
+}
+
+/// How far the steps of all transactions may grow.
+#[derive(Clone, Copy, PartialEq, Eq, Debug)]
+pub struct Margin {
+    /// The greatest percentage of its steps, 0 to 1000, at which the set is admitted.
+    pub percent: u32,
+    /// Why it is not admitted at the next one; None where that is above 1000.
+    pub barrier: Option<OpenError>,
 }
 
 impl Database {
@@ -175,6 +183,23 @@ impl Database {
         some_or_nothing(self.handle.age(item.0)).map_err(bound_error)
     }
 
+    /// How far the steps of all transactions may grow, of a set that was not admitted too. It takes memory and gives it back.
+    ///
+    /// # Errors
+    ///
+    /// Want of memory.
+    pub fn margin(&self) -> Result<Margin, OutOfMemory> {
+        let answer = self.handle.margin().map_err(|_| OutOfMemory)?;
+        let barrier = match answer.barrier {
+            0 => None,
+            status => Some(open_error(status, answer.refusal)),
+        };
+        Ok(Margin {
+            percent: answer.percent,
+            barrier,
+        })
+    }
+
     /// An item's installed value and stamp.
     ///
     /// # Errors
@@ -232,14 +257,17 @@ impl Iterator for Drain<'_> {
 }
 
 // The other statuses do not come: the handle is open, and each operation has its number.
-fn not_of_the_set(_status: u32) -> NotOfTheSet {
-    NotOfTheSet
+fn not_of_the_set(status: u32) -> NotOfTheSet {
+    match status {
+        NO_ITEM => NotOfTheSet::Item,
+        _ => NotOfTheSet::Transaction,
+    }
 }
 
 fn bound_error(status: u32) -> BoundError {
     match status {
         NOT_ADMITTED => BoundError::NotAdmitted,
-        _ => BoundError::NotOfTheSet,
+        status => BoundError::NotOfTheSet(not_of_the_set(status)),
     }
 }
 

@@ -1,10 +1,16 @@
-//! Why a call did not do what was asked.
+//! Why a call did not do what was asked. The words of an error are those of docs/FORMATS.md, which the library writes.
 use std::error::Error;
 use std::fmt;
 
 use crate::declarations::{ItemId, TxId};
 use crate::ffi;
 use crate::replies::PlanRefused;
+
+// The statuses that errors are made of.
+pub(crate) const NO_TRANSACTION: u32 = 4;
+pub(crate) const NO_ITEM: u32 = 5;
+pub(crate) const NOT_ADMITTED: u32 = 10;
+pub(crate) const NO_MEMORY: u32 = 11;
 
 /// Which number of a transaction is out of its range.
 #[derive(Clone, Copy, PartialEq, Eq, Debug)]
@@ -184,55 +190,89 @@ pub(crate) fn open_error(status: u32, r: ffi::Refusal) -> OpenError {
     }
 }
 
-impl fmt::Display for Which {
-    fn fmt(&self, f: &mut fmt::Formatter<'_>) -> fmt::Result {
-        f.write_str(match self {
-            Which::Priority => "priority",
-            Which::Steps => "steps",
-            Which::Period => "period",
-            Which::Deadline => "deadline",
-            Which::Offset => "offset",
-            Which::Quiet => "quiet",
-        })
+fn number_of(which: Which) -> u32 {
+    match which {
+        Which::Priority => 0,
+        Which::Steps => 1,
+        Which::Period => 2,
+        Which::Deadline => 3,
+        Which::Offset => 4,
+        Which::Quiet => 5,
     }
+}
+
+fn refusal(rule: u32, a: u64, b: u64, c: u64) -> ffi::Refusal {
+    ffi::Refusal {
+        rule,
+        which: 0,
+        a,
+        b,
+        c,
+    }
+}
+
+// The status and the record of an error, as `open_error` reads them.
+fn told(error: &OpenError) -> (u32, ffi::Refusal) {
+    let number = |tx: TxId| u64::from(tx.0);
+    let place = |item: ItemId| u64::from(item.0);
+    match *error {
+        OpenError::RoomTooLarge => (7, refusal(0, 0, 0, 0)),
+        OpenError::OutOfMemory => (11, refusal(0, 0, 0, 0)),
+        OpenError::UnknownItem { place } => (8, refusal(2, place, 0, 0)),
+        OpenError::TooManyItems { count } => (9, refusal(10, count, 0, 0)),
+        OpenError::TooManyTxns { count } => (9, refusal(11, count, 0, 0)),
+        OpenError::SamePrio { a, b } => (9, refusal(12, number(a), number(b), 0)),
+        OpenError::BadTimes { tx, which } => {
+            let which = number_of(which);
+            (
+                9,
+                ffi::Refusal {
+                    which,
+                    ..refusal(13, number(tx), 0, 0)
+                },
+            )
+        }
+        OpenError::NoWriter { item } => (9, refusal(14, place(item), 0, 0)),
+        OpenError::TwoWriters { item, a, b } => (9, refusal(15, place(item), number(a), number(b))),
+        OpenError::CyclicDerivation { item } => (9, refusal(16, place(item), 0, 0)),
+        OpenError::TooManySets { count } => (9, refusal(17, count, 0, 0)),
+        OpenError::BadTogether { set } => (9, refusal(18, set, 0, 0)),
+        OpenError::NotSchedulable { tx, demand } => (10, refusal(20, number(tx), demand, 0)),
+        OpenError::TooOld { tx, item, age } => (10, refusal(21, number(tx), place(item), age)),
+        OpenError::TooApart { tx, set, age } => (10, refusal(22, number(tx), set, age)),
+        OpenError::Other { status, rule } => (status, refusal(rule, 0, 0, 0)),
+    }
+}
+
+// The words of a status without a record.
+fn word(status: u32) -> String {
+    ffi::text(status, &refusal(0, 0, 0, 0))
 }
 
 impl fmt::Display for OpenError {
     fn fmt(&self, f: &mut fmt::Formatter<'_>) -> fmt::Result {
-        match self {
-            OpenError::RoomTooLarge => write!(f, "RoomTooLarge"),
-            OpenError::UnknownItem { place } => write!(f, "UnknownItem {place}"),
-            OpenError::TooManyItems { count } => write!(f, "TooManyItems {count}"),
-            OpenError::TooManyTxns { count } => write!(f, "TooManyTxns {count}"),
-            OpenError::SamePrio { a, b } => write!(f, "SamePrio {} {}", a.0, b.0),
-            OpenError::BadTimes { tx, which } => write!(f, "BadTimes {} {which}", tx.0),
-            OpenError::NoWriter { item } => write!(f, "NoWriter {}", item.0),
-            OpenError::TwoWriters { item, a, b } => {
-                write!(f, "TwoWriters {} {} {}", item.0, a.0, b.0)
-            }
-            OpenError::CyclicDerivation { item } => write!(f, "CyclicDerivation {}", item.0),
-            OpenError::TooManySets { count } => write!(f, "TooManySets {count}"),
-            OpenError::BadTogether { set } => write!(f, "BadTogether {set}"),
-            OpenError::NotSchedulable { tx, demand } => {
-                write!(f, "NotSchedulable {} {demand}", tx.0)
-            }
-            OpenError::TooOld { tx, item, age } => write!(f, "TooOld {} {} {age}", tx.0, item.0),
-            OpenError::TooApart { tx, set, age } => write!(f, "TooApart {} {set} {age}", tx.0),
-            OpenError::OutOfMemory => write!(f, "OutOfMemory"),
-            OpenError::Other { status, rule } => write!(f, "status {status}, rule {rule}"),
-        }
+        let (status, refusal) = told(self);
+        f.write_str(&ffi::text(status, &refusal))
     }
 }
 
 impl Error for OpenError {}
 
-/// The number names no transaction, or no item, of the database's set.
+/// A number names nothing of the database's set.
 #[derive(Clone, Copy, PartialEq, Eq, Debug)]
-pub struct NotOfTheSet;
+pub enum NotOfTheSet {
+    /// No transaction.
+    Transaction,
+    /// No item.
+    Item,
+}
 
 impl fmt::Display for NotOfTheSet {
     fn fmt(&self, f: &mut fmt::Formatter<'_>) -> fmt::Result {
-        f.write_str("the number names nothing of the set")
+        f.write_str(&word(match self {
+            NotOfTheSet::Transaction => NO_TRANSACTION,
+            NotOfTheSet::Item => NO_ITEM,
+        }))
     }
 }
 
@@ -243,20 +283,32 @@ impl Error for NotOfTheSet {}
 pub enum BoundError {
     /// The set is not admitted.
     NotAdmitted,
-    /// The number names no transaction, or no item, of the set.
-    NotOfTheSet,
+    /// The number names nothing of the set.
+    NotOfTheSet(NotOfTheSet),
 }
 
 impl fmt::Display for BoundError {
     fn fmt(&self, f: &mut fmt::Formatter<'_>) -> fmt::Result {
         match self {
-            BoundError::NotAdmitted => f.write_str("the set is not admitted"),
-            BoundError::NotOfTheSet => NotOfTheSet.fmt(f),
+            BoundError::NotAdmitted => f.write_str(&word(NOT_ADMITTED)),
+            BoundError::NotOfTheSet(number) => number.fmt(f),
         }
     }
 }
 
 impl Error for BoundError {}
+
+/// Want of memory.
+#[derive(Clone, Copy, PartialEq, Eq, Debug)]
+pub struct OutOfMemory;
+
+impl fmt::Display for OutOfMemory {
+    fn fmt(&self, f: &mut fmt::Formatter<'_>) -> fmt::Result {
+        f.write_str(&word(NO_MEMORY))
+    }
+}
+
+impl Error for OutOfMemory {}
 
 /// Why no job is planned.
 #[derive(Clone, Copy, PartialEq, Eq, Debug)]
@@ -282,7 +334,7 @@ impl From<PlanRefused> for PlanError {
 impl fmt::Display for PlanError {
     fn fmt(&self, f: &mut fmt::Formatter<'_>) -> fmt::Result {
         match self {
-            PlanError::NotOfTheSet => NotOfTheSet.fmt(f),
+            PlanError::NotOfTheSet => NotOfTheSet::Transaction.fmt(f),
             PlanError::Refused(refused) => refused.fmt(f),
         }
     }

@@ -1,6 +1,6 @@
 //! The records and functions of rtdb.h, and a handle whose methods are safe. All `unsafe` of the crate stands here.
 use std::cell::UnsafeCell;
-use std::ffi::c_void;
+use std::ffi::{c_char, c_void};
 use std::ptr::null_mut;
 
 // A handle as C has it: null while it is closed.
@@ -110,6 +110,14 @@ pub(crate) struct Entry {
     pub(crate) answer: StepAnswer,
 }
 
+#[repr(C)]
+#[derive(Clone, Copy, Default)]
+pub(crate) struct Margin {
+    pub(crate) percent: u32,
+    pub(crate) barrier: u32,
+    pub(crate) refusal: Refusal,
+}
+
 extern "C" {
     fn rtdb_open(
         db: *mut Raw,
@@ -145,6 +153,8 @@ extern "C" {
     fn rtdb_response(db: *mut Raw, transaction: u32, ticks: *mut u64) -> u32;
     fn rtdb_blocking(db: *mut Raw, transaction: u32, ticks: *mut u64) -> u32;
     fn rtdb_age(db: *mut Raw, item: u32, ticks: *mut u64) -> u32;
+    fn rtdb_margin(db: *mut Raw, answer: *mut Margin) -> u32;
+    fn rtdb_text(status: u32, refusal: *const Refusal, into: *mut c_char, places: usize) -> usize;
     fn rtdb_drain(db: *mut Raw, into: *mut Entry, places: usize, moved: *mut usize) -> u32;
     fn rtdb_kept(db: *mut Raw, kept: *mut usize, drained: *mut u64) -> u32;
     fn rtdb_idle(db: *mut Raw, answer: *mut Time) -> u32;
@@ -305,6 +315,12 @@ impl Handle {
         told(unsafe { rtdb_age(self.0.get(), item, &mut ticks) }, ticks)
     }
 
+    pub(crate) fn margin(&self) -> Result<Margin, u32> {
+        let mut answer = Margin::default();
+        // SAFETY: as above.
+        told(unsafe { rtdb_margin(self.0.get(), &mut answer) }, answer)
+    }
+
     pub(crate) fn peek(&self, item: u32) -> Result<Stored, u32> {
         let mut stored = Stored::default();
         // SAFETY: as above.
@@ -342,6 +358,17 @@ impl Drop for Handle {
         // SAFETY: as above.
         unsafe { rtdb_close(self.0.get()) };
     }
+}
+
+// No text has more bytes.
+const MOST_TEXT: usize = 96;
+
+/// The words of a status, with the numbers of its refusal.
+pub(crate) fn text(status: u32, refusal: &Refusal) -> String {
+    let mut words = [0; MOST_TEXT];
+    // SAFETY: each pointer is of a local, and so is the count.
+    let length = unsafe { rtdb_text(status, refusal, words.as_mut_ptr().cast(), words.len()) };
+    String::from_utf8_lossy(&words[..length.min(MOST_TEXT)]).into_owned()
 }
 
 // The answer where the call was made, and else the status.

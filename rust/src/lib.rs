@@ -30,7 +30,7 @@ mod errors;
 mod ffi;
 mod replies;
 
-pub use database::{Database, Drain, Stored};
+pub use database::{Database, Drain, Margin, Stored};
 pub use declarations::{Declarations, ItemId, ItemKind, JobId, Times, TxId};
-pub use errors::{BoundError, NotOfTheSet, OpenError, PlanError, Which};
+pub use errors::{BoundError, NotOfTheSet, OpenError, OutOfMemory, PlanError, Which};
 pub use replies::{End, Entry, IdleReply, Op, Outcome, PlanRefused, StepReply};

@@ -148,10 +148,10 @@ fn numbers_are_tested() {
             },
             Op::Commit
         ),
-        Err(NotOfTheSet)
+        Err(NotOfTheSet::Transaction)
     );
-    assert_eq!(tank.database.peek(ItemId(2)), Err(NotOfTheSet));
-    assert_eq!(tank.database.pending(none), Err(NotOfTheSet));
+    assert_eq!(tank.database.peek(ItemId(2)), Err(NotOfTheSet::Item));
+    assert_eq!(tank.database.pending(none), Err(NotOfTheSet::Transaction));
     assert_eq!(tank.database.pending(tank.sampler), Ok(None));
     assert_eq!(tank.database.age(tank.valve), Ok(None));
     assert_eq!(tank.database.blocking(tank.sampler), Ok(4 - 1));
@@ -186,7 +186,7 @@ fn refusals_have_their_numbers() {
     let same = Database::open(&d, 64).err().unwrap();
     assert_eq!(
         (same, same.to_string().as_str()),
-        (OpenError::SamePrio { a, b }, "SamePrio 0 1")
+        (OpenError::SamePrio { a, b }, "SamePrio txn0 txn1")
     );
     let c = d.transaction(times(2, 20, 30, 2), &[ItemId(9)], &[]);
     assert_eq!(
@@ -204,6 +204,97 @@ fn refusals_have_their_numbers() {
         })
     );
     assert_eq!(c, TxId(2));
+}
+
+#[test]
+fn errors_have_the_words_of_the_formats() {
+    let (a, b, item) = (TxId(3), TxId(40), ItemId(12));
+    let which = Which::Deadline;
+    let words = [
+        (OpenError::RoomTooLarge, "RoomTooLarge"),
+        (OpenError::OutOfMemory, "OutOfMemory"),
+        (OpenError::UnknownItem { place: 7 }, "BadNumber 7"),
+        (OpenError::TooManyItems { count: 257 }, "TooManyItems 257"),
+        (OpenError::TooManyTxns { count: 65 }, "TooManyTxns 65"),
+        (OpenError::SamePrio { a, b }, "SamePrio txn3 txn40"),
+        (
+            OpenError::BadTimes { tx: a, which },
+            "BadTimes txn3 deadline",
+        ),
+        (OpenError::NoWriter { item }, "NoWriter item12"),
+        (
+            OpenError::TwoWriters { item, a, b },
+            "TwoWriters item12 txn3 txn40",
+        ),
+        (
+            OpenError::CyclicDerivation { item },
+            "CyclicDerivation item12",
+        ),
+        (OpenError::TooManySets { count: 65 }, "TooManySets 65"),
+        (OpenError::BadTogether { set: 0 }, "BadTogether 0"),
+        (
+            OpenError::NotSchedulable { tx: b, demand: 31 },
+            "NotSchedulable txn40 31",
+        ),
+        (
+            OpenError::TooOld {
+                tx: a,
+                item,
+                age: 61,
+            },
+            "TooOld txn3 item12 61",
+        ),
+        (
+            OpenError::TooApart {
+                tx: a,
+                set: 2,
+                age: 9,
+            },
+            "TooApart txn3 2 9",
+        ),
+        (
+            OpenError::Other {
+                status: 9,
+                rule: 77,
+            },
+            "NotCompiled",
+        ),
+        (
+            OpenError::Other {
+                status: 4000,
+                rule: 0,
+            },
+            "Unknown 4000",
+        ),
+    ];
+    for (error, text) in words {
+        assert_eq!(error.to_string(), text);
+    }
+    assert_eq!(NotOfTheSet::Transaction.to_string(), "NoTransaction");
+    assert_eq!(NotOfTheSet::Item.to_string(), "NoItem");
+    assert_eq!(BoundError::NotAdmitted.to_string(), "NotAdmitted");
+    assert_eq!(
+        BoundError::NotOfTheSet(NotOfTheSet::Item).to_string(),
+        "NoItem"
+    );
+    assert_eq!(PlanError::NotOfTheSet.to_string(), "NoTransaction");
+}
+
+// The sampler of c steps is blocked by the controller of d for d - 1 ticks, and has 10: at 175 percent these are 4 and 7, at 176
+// the controller has 8.
+#[test]
+fn the_margin_is_that_of_the_longest_blocking() {
+    let tank = tank();
+    let margin = tank.database.margin().unwrap();
+    let barrier = OpenError::NotSchedulable {
+        tx: tank.sampler,
+        demand: 11,
+    };
+    assert_eq!((margin.percent, margin.barrier), (175, Some(barrier)));
+    assert_eq!(tank.database.now(), 0);
+    let database = Database::open_trial(&Declarations::new(), 8).unwrap();
+    let margin = database.margin().unwrap();
+    assert_eq!((margin.percent, margin.barrier), (1000, None));
 }
 
 #[test]

@@ -10,13 +10,17 @@ ghost use Rattle.c_core.specs.declared.refusals.Refused.TheVariants.{OutOfMemory
 ghost use Rattle.rtdb_c.specs.Called.{Called, ToldWhy, ToldWhyNotTried, OpenedTrial, Stepped, Planned, Idled, IsRunningOf, Peeked, IsNowOf, Opened, PlannedNext, IsPendingOf, IsEndedOf, IsResponseOf, IsBlockingOf, IsAgeOf, Drained, IsKeptOf, IsPlannedOf};
 
 mod handle;
+mod margin;
+mod text;
 
 use c_core::{
     CheckedCore, EntryForm, ItemRow, JobForm, OK, RefusalForm, Refused, StepForm, StoredForm,
     Tables, TimeForm, TogetherRow, TxnRow, refusal_form,
 };
 pub use handle::Handle;
+pub use margin::rtdb_margin;
 use std::alloc::Global;
+pub use text::rtdb_text;
 
 /// The handle is closed.
 pub const CLOSED: u32 = 1;
@@ -225,8 +229,10 @@ pub extern "C" fn rtdb_running(alloc: Global, db: &mut Handle, job: &mut JobForm
 {
     match db.take(alloc) {
         Some(core) => {
-            let status = core.running(job);
+            let mut running = *job;
+            let status = core.running(&mut running);
             db.put(core);
+            *job = running;
             status
         }
         None => CLOSED,
@@ -245,8 +251,10 @@ pub extern "C" fn rtdb_peek(
 {
     match db.take(alloc) {
         Some(core) => {
-            let status = core.peek(item, stored);
+            let mut peeked = *stored;
+            let status = core.peek(item, &mut peeked);
             db.put(core);
+            *stored = peeked;
             status
         }
         None => CLOSED,
