@@ -10,12 +10,16 @@ ghost use Rattle.c_core.specs.declared.refusals.Refused.TheVariants.{OutOfMemory
 ghost use Rattle.rtdb_c.specs.Called.{Called, ToldWhy, ToldWhyNotTried, OpenedTrial, Stepped, Planned, Idled, IsRunningOf, Peeked, IsNowOf, Opened, PlannedNext, IsPendingOf, IsEndedOf, IsResponseOf, IsBlockingOf, IsAgeOf, Drained, IsKeptOf, IsPlannedOf};
 
 mod handle;
+mod log;
+mod log_handle;
 
 use c_core::{
     CheckedCore, EntryForm, ItemRow, JobForm, OK, RefusalForm, Refused, StepForm, StoredForm,
     Tables, TimeForm, TogetherRow, TxnRow, refusal_form,
 };
 pub use handle::Handle;
+pub use log::CallForm;
+pub use log_handle::LogHandle;
 use std::alloc::Global;
 
 /// The handle is closed.
