@@ -39,6 +39,11 @@ def reports():
             yield TOP / f"examples/{found[1]}.{re.sub('[ -]+', '_', found[2])}.txt"
 
 
+def words_of(name, program):
+    """The words of a run of a program: for the one with a log a file beside it."""
+    return [f"{program}.journal"] if name == "logged" else WORDS.get(name, [])
+
+
 def inputs(name):
     """The files that a program in C reads, each in a run of its own."""
     if name == "report":
@@ -86,7 +91,7 @@ def try_programs(folder, room, check, run, expected):
             if kind == "plain" and has_valgrind:
                 ways += [(file, VALGRIND) for file in files[:1]]
             for file, words in ways:
-                done = run_on(file, [*words, str(program), *WORDS.get(name, [])], run)
+                done = run_on(file, [*words, str(program), *words_of(name, program)], run)
                 how = f"{name}, {'under valgrind' if words else kind}{f', on {file.name}' if file else ''}"
                 check(done.returncode == 0, f"{how}: the status is {done.returncode}")
                 check(name not in wanted or done.stdout == wanted[name](file), f"{how}: it prints something else")

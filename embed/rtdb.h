@@ -348,6 +348,86 @@ rtdb_status rtdb_drain(rtdb *db, rtdb_entry *into, size_t places, size_t *moved)
 /* How many entries the journal keeps, and how many were drained in all. Reads two words. */
 rtdb_status rtdb_kept(rtdb *db, size_t *kept, uint64_t *drained);
 
+/* ---- a journal on a file ---- */
+
+/* A log keeps entries, so that a program that was stopped finds them again. The library reaches no file: a log hands out the
+ * calls of the device that it needs, a write or a sync at a time, and the caller makes them and answers each. rtdb_file.h does
+ * that on a file of the system. docs/FORMATS.md has the bytes of the file, which the command `rtdb journal` reads too.
+ *
+ * What a caller owes besides:
+ *   6. The calls of a log are made in order on one file, which begins as the bytes that were handed to `rtdb_log_open`, and
+ *      which nothing else changes. Each is answered after it was made, and truly: a sync was made when what was written before
+ *      is durable.
+ *   7. What is appended is what was drained from one database over the set of the text, in order, from its first entry on.
+ * Then, whatever moment the program or the machine stops at, in the middle of a write too, the file is opened as all entries
+ * that were kept before, and the first few of the piece whose calls were being made. A write that was not synced may leave any
+ * bytes in its range. The calls of `rtdb_log_open` on an empty file are left out: a file that was stopped at before they were
+ * all made may be refused, and has no entries to lose. */
+
+/* A log, or none while it is closed. Rules 3 and 4 hold for it too. */
+typedef struct rtdb_log {
+    void *at;
+} rtdb_log;
+
+#define RTDB_LOG_MOST 64    /* entries of a piece */
+#define RTDB_LOG_WIDTH 256  /* bytes of a write */
+
+/* Further statuses, of the functions of a log. */
+enum {
+    RTDB_STOPPED = 20,    /* a call of the log failed */
+    RTDB_UNANSWERED = 21, /* calls of the log are still to be made */
+    RTDB_UNKNOWN = 22,    /* an entry names what the set has not, or tells what its operation does not */
+    RTDB_BAD_TEXT = 23,   /* the text is no head of a report. a of the refusal: the line that is bad, from 1, or 0: no mode line */
+    RTDB_BAD_RECORD = 24, /* a of the refusal: the first record of the file that is bad; 0 is the header, and k the k-th entry's */
+    RTDB_FULL = 25        /* the file has more entries than there is room for */
+};
+
+/* A call of the device: `count` bytes at `offset`, or a sync, with 0 in both. */
+typedef struct rtdb_call {
+    uint32_t kind; /* RTDB_CALL_WRITE or RTDB_CALL_SYNC */
+    uint64_t offset;
+    uint64_t count;
+} rtdb_call;
+
+enum { RTDB_CALL_WRITE = 0, RTDB_CALL_SYNC = 1 };
+
+/* Opens the log of a file that has these bytes, with room for so many entries. The text declares the set and its names, as the
+ * lines of a report up to its mode line do (docs/FORMATS.md). No bytes make a new log. Then its calls are to be made; of a file
+ * that is not empty the first is a sync.
+ * Answers RTDB_OK, or RTDB_OPEN, which leaves the refusal as it was. By a closed handle else: RTDB_NO_ROOM (the room is above
+ * RTDB_MOST_ROOM, or the text too long), RTDB_BAD_TEXT, RTDB_NOT_COMPILED, RTDB_BAD_RECORD, RTDB_FULL, with the first cause in
+ * `refusal`; RTDB_NO_MEMORY may come in place of each. After each but RTDB_OK the handle is as it was.
+ * Takes all memory that the log needs: as much as the file has with all entries, 256 bytes for each, and the entries that were
+ * found. Costs a run of the history. */
+rtdb_status rtdb_log_open(rtdb_log *log, const uint8_t *text, size_t text_length, const uint8_t *file, size_t file_length,
+                          size_t room, rtdb_refusal *refusal);
+
+/* Gives the memory back and closes the handle. Answers RTDB_OK or RTDB_CLOSED. The file is the caller's. */
+rtdb_status rtdb_log_close(rtdb_log *log);
+
+/* How many entries the log keeps: those that were found, and those of the pieces whose calls were all made. Reads a word. */
+rtdb_status rtdb_log_count(rtdb_log *log, uint64_t *count);
+
+/* The entry at a place, from 0, of those that were found in the file by `rtdb_log_open`. RTDB_NOTHING behind the last. */
+rtdb_status rtdb_log_entry(rtdb_log *log, size_t place, rtdb_entry *entry);
+
+/* Adds entries as one piece, at most RTDB_LOG_MOST. Its calls are to be made then: a write for each entry, a sync, a write for
+ * each, a sync. The entries are kept when all were made.
+ * RTDB_CLOSED, RTDB_STOPPED, RTDB_UNANSWERED, RTDB_NO_ROOM (more than a piece may have, or than there is room for) and
+ * RTDB_UNKNOWN, in this order, leave all as it was; so does RTDB_NO_MEMORY, which may come in place of RTDB_OK though no memory
+ * is taken. Costs the line of each entry. */
+rtdb_status rtdb_log_append(rtdb_log *log, const rtdb_entry *entries, size_t count);
+
+/* The call that is to be made next, and the bytes of a write at the head of `bytes`, for which RTDB_LOG_WIDTH places are enough.
+ * RTDB_CLOSED, RTDB_NOTHING (no call is to be made, or one failed) and RTDB_NO_ROOM (too few places) leave both as they were.
+ * It may be asked again until it is answered. */
+rtdb_status rtdb_log_call(rtdb_log *log, rtdb_call *call, uint8_t *bytes, size_t places);
+
+/* The call that was next was made, where `made` is 1; else it failed, and the log has stopped: it hands out no further call and
+ * takes no further entry. Close it then, and open it again on what the file has.
+ * RTDB_CLOSED and RTDB_NOTHING leave all as it was. */
+rtdb_status rtdb_log_answer(rtdb_log *log, uint32_t made);
+
 #ifdef __cplusplus
 }
 #endif

@@ -170,6 +170,21 @@ extern "C" {
     fn rtdb_peek(db: *mut Raw, item: u32, stored: *mut Stored) -> u32;
     fn rtdb_now(db: *mut Raw, tick: *mut u64) -> u32;
     fn rtdb_planned(db: *mut Raw, count: *mut usize) -> u32;
+    fn rtdb_log_open(
+        log: *mut RawLog,
+        text: *const u8,
+        text_length: usize,
+        file: *const u8,
+        file_length: usize,
+        room: usize,
+        refusal: *mut Refusal,
+    ) -> u32;
+    fn rtdb_log_close(log: *mut RawLog) -> u32;
+    fn rtdb_log_count(log: *mut RawLog, count: *mut u64) -> u32;
+    fn rtdb_log_entry(log: *mut RawLog, place: usize, entry: *mut Entry) -> u32;
+    fn rtdb_log_append(log: *mut RawLog, entries: *const Entry, count: usize) -> u32;
+    fn rtdb_log_call(log: *mut RawLog, call: *mut Call, bytes: *mut u8, places: usize) -> u32;
+    fn rtdb_log_answer(log: *mut RawLog, made: u32) -> u32;
 }
 
 /// A handle that closes itself. It is not `Sync`, so the calls by a shared reference come one after the other.
@@ -376,5 +391,91 @@ fn told<T>(status: u32, answer: T) -> Result<T, u32> {
     match status {
         0 => Ok(answer),
         _ => Err(status),
+    }
+}
+
+// A handle of a log as C has it: null while it is closed.
+#[repr(C)]
+struct RawLog {
+    at: *mut c_void,
+}
+
+/// A call of the device.
+#[repr(C)]
+#[derive(Clone, Copy, Default)]
+pub(crate) struct Call {
+    pub(crate) kind: u32,
+    pub(crate) offset: u64,
+    pub(crate) count: u64,
+}
+
+/// A handle of a log that closes itself. It is not `Sync`.
+pub(crate) struct Log(UnsafeCell<RawLog>);
+
+// SAFETY: it is proved of the handle's type that it may go to another thread.
+unsafe impl Send for Log {}
+
+// As of `Handle`.
+impl Log {
+    pub(crate) fn open(text: &[u8], file: &[u8], room: usize) -> Result<Log, (u32, Refusal)> {
+        let mut raw = RawLog { at: null_mut() };
+        let mut refusal = Refusal::default();
+        // SAFETY: each pointer and count is that of a slice, and the others are of locals.
+        let status = unsafe {
+            rtdb_log_open(
+                &mut raw,
+                text.as_ptr(),
+                text.len(),
+                file.as_ptr(),
+                file.len(),
+                room,
+                &mut refusal,
+            )
+        };
+        match status {
+            0 => Ok(Log(UnsafeCell::new(raw))),
+            _ => Err((status, refusal)),
+        }
+    }
+
+    pub(crate) fn count(&self) -> u64 {
+        let mut count = 0;
+        // SAFETY: as above.
+        unsafe { rtdb_log_count(self.0.get(), &mut count) };
+        count
+    }
+
+    pub(crate) fn entry(&self, place: usize) -> Option<Entry> {
+        let mut entry = Entry::default();
+        // SAFETY: as above.
+        let status = unsafe { rtdb_log_entry(self.0.get(), place, &mut entry) };
+        (status == 0).then_some(entry)
+    }
+
+    pub(crate) fn append(&mut self, entries: &[Entry]) -> Result<(), u32> {
+        // SAFETY: as above; the pointer and the count are those of a slice.
+        let status = unsafe { rtdb_log_append(self.0.get(), entries.as_ptr(), entries.len()) };
+        told(status, ())
+    }
+
+    /// The call that is to be made next, with its bytes at the head of the buffer.
+    pub(crate) fn call(&self, bytes: &mut [u8; 256]) -> Option<Call> {
+        let mut call = Call::default();
+        // SAFETY: as above; the pointer and the count are those of an array.
+        let status =
+            unsafe { rtdb_log_call(self.0.get(), &mut call, bytes.as_mut_ptr(), bytes.len()) };
+        (status == 0).then_some(call)
+    }
+
+    pub(crate) fn answer(&mut self, made: bool) {
+        // SAFETY: as above.
+        unsafe { rtdb_log_answer(self.0.get(), u32::from(made)) };
+    }
+}
+
+impl Drop for Log {
+    fn drop(&mut self) {
+        // SAFETY: as above.
+        unsafe { rtdb_log_close(self.0.get()) };
     }
 }

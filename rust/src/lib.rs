@@ -28,9 +28,11 @@ mod declarations;
 mod errors;
 #[allow(unsafe_code)]
 mod ffi;
+mod log;
 mod replies;
 
 pub use database::{Database, Drain, Margin, Stored};
 pub use declarations::{Declarations, ItemId, ItemKind, JobId, Times, TxId};
 pub use errors::{BoundError, NotOfTheSet, OpenError, OutOfMemory, PlanError, Which};
+pub use log::{FileLog, LogError};
 pub use replies::{End, Entry, IdleReply, Op, Outcome, PlanRefused, StepReply};

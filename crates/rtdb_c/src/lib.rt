@@ -10,6 +10,8 @@ ghost use Rattle.c_core.specs.declared.refusals.Refused.TheVariants.{OutOfMemory
 ghost use Rattle.rtdb_c.specs.Called.{Called, ToldWhy, ToldWhyNotTried, OpenedTrial, Stepped, Planned, Idled, IsRunningOf, Peeked, IsNowOf, Opened, PlannedNext, IsPendingOf, IsEndedOf, IsResponseOf, IsBlockingOf, IsAgeOf, Drained, IsKeptOf, IsPlannedOf};
 
 mod handle;
+mod log;
+mod log_handle;
 mod margin;
 mod text;
 
@@ -18,6 +20,8 @@ use c_core::{
     Tables, TimeForm, TogetherRow, TxnRow, refusal_form,
 };
 pub use handle::Handle;
+pub use log::CallForm;
+pub use log_handle::LogHandle;
 pub use margin::rtdb_margin;
 use std::alloc::Global;
 pub use text::rtdb_text;

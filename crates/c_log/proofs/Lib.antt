@@ -1,0 +1,4 @@
+pub mod Moments
+pub mod Settled
+pub mod Staged
+pub mod Transfers
