@@ -18,7 +18,7 @@ SANITIZED = ["-g", "-fsanitize=address,undefined", "-fno-sanitize-recover=all"]
 VALGRIND = ["valgrind", "-q", "--error-exitcode=99", "--leak-check=full", "--errors-for-leak-kinds=all"]
 
 # What a program is linked with besides, and its words.
-LINKED = {"growths": ["-Wl,--wrap=malloc,--wrap=realloc,--wrap=free"]}
+LINKED = {"growths": ["-Wl,--wrap=malloc,--wrap=realloc,--wrap=free"], "real_tank": ["-pthread"]}
 WORDS = {"cost": ["job", "64"], "drive": ["8", "64", "ahead"], "real_tank": ["1"]}
 
 # How long the real tanks run, in seconds, and the setpoint that their operators are told.
@@ -158,11 +158,11 @@ def try_real(room, rust, check):
         if program is None or not program.exists():
             print(f"library: the real tank in {language} is left out, it was not built")
             continue
-        words = [str(program), str(SECONDS), str(room / f"entries-{language}")]
+        words = [str(program), str(SECONDS), str(room / f"journal-{language}")]
         started[language] = subprocess.Popen(words, stdin=subprocess.PIPE, stdout=subprocess.PIPE, text=True)
         started[language].stdin.write(f"{SETPOINT}\n")
         started[language].stdin.close()
-    written = {"C": rf"step 2/0 \d+ 1 2 {SETPOINT}$", "Rust": rf"Write\(ItemId\(2\), {SETPOINT}\)"}
+    written = rf"step operator/0 \d+ write setpoint {SETPOINT}\0".encode()
     for language, process in started.items():
         lines = process.stdout.read().splitlines()
         status = process.wait()
@@ -170,7 +170,7 @@ def try_real(room, rust, check):
         check(status == 0, f"the real tank in {language} ends with {status}")
         check(len(lines) == SECONDS + 1, f"the real tank in {language} has {len(lines)} lines")
         check(re.match(rf"{SECONDS * 1000} ticks, ", last) and last.endswith(JOBS), f"the real tank in {language} tells {last}")
-        entries = (room / f"entries-{language}").read_text()
-        check(re.search(written[language], entries, re.M), f"the entries of the real tank in {language} have no setpoint {SETPOINT}")
+        journal = (room / f"journal-{language}").read_bytes()
+        check(re.search(written, journal), f"the journal of the real tank in {language} has no setpoint {SETPOINT}")
         print(f"library: the real tank in {language}: {last}")
         sys.stdout.flush()

@@ -1,14 +1,16 @@
 /* A tank controller whose ticks are real: a tick is a millisecond of CLOCK_MONOTONIC, which is longer than any step takes.
  *
- *   real_tank SECONDS [FILE]     FILE gets the entries of the history as lines
+ *   real_tank SECONDS [JOURNAL]     a new file, which gets the journal
  *
  * A sampler measures the level every 10 ticks, a controller sets the valve every 20, and a display tells level, valve and setpoint
  * once a second. A line `N` on standard input makes the operator write the setpoint N. At the end it tells how far reality was from
  * the model: a tick is late where its step ended after the tick, and its lateness is how long after its time it began. By the model
- * no job is late, since the set is admitted. Ends with 0 exactly where each job committed. */
+ * no job is late, since the set is admitted. A thread of its own keeps the journal on the disk, so no tick waits for a sync. Ends with
+ * 0 exactly where each job committed and each entry was kept. */
 #define _POSIX_C_SOURCE 200809L
 #include <errno.h>
 #include <poll.h>
+#include <pthread.h>
 #include <stdio.h>
 #include <stdlib.h>
 #include <string.h>
@@ -16,8 +18,9 @@
 #include <unistd.h>
 
 #include "rtdb.h"
+#include "rtdb_file.h"
 
-enum { TICK_MICROSECONDS = 1000, TICKS_A_SECOND = 1000, ROOM = 1024 };
+enum { TICK_MICROSECONDS = 1000, TICKS_A_SECOND = 1000, ROOM = 1024, LOG_ROOM = 1 << 20, WAITING = 1 << 14 };
 enum { LEVEL, VALVE, SETPOINT, ITEMS };
 enum { SAMPLER, CONTROLLER, OPERATOR, DISPLAY, TRANSACTIONS };
 
@@ -36,6 +39,30 @@ static const rtdb_transaction transactions[] = {
 
 static const rtdb_together no_sets[1] = {{0, 0, 0}};
 
+/* The same set with its names, as the journal's log wants it. */
+static const char text[] =
+    "rtdb report 1\n"
+    "item level sensor 30 300\n"
+    "item valve state - 0\n"
+    "item setpoint state - 500\n"
+    "txn sampler 4 10 0 10 2 reads - writes level\n"
+    "txn controller 3 20 2 20 5 reads level,setpoint writes valve\n"
+    "txn operator 2 100 0 100 2 reads - writes setpoint\n"
+    "txn display 1 1000 5 1000 4 reads level,valve,setpoint writes -\n"
+    "mode admitted\n";
+
+/* The thread that keeps the journal, and the entries that wait for it. */
+struct logger {
+    pthread_t thread;
+    pthread_mutex_t lock;
+    pthread_cond_t changed;
+    rtdb_entry waiting[WAITING];
+    size_t first, count;
+    int is_over, has_failed, runs;
+    rtdb_log log;
+    int file;
+};
+
 /* The job that a transaction's body is at: how many of its steps were granted, and what it read. */
 struct progress {
     uint32_t serial;
@@ -50,7 +77,7 @@ struct plant {
     int is_planned[TRANSACTIONS];
     int64_t water;    /* what a sensor would measure */
     int64_t setpoint; /* the operator's wish */
-    FILE *log;
+    struct logger *logger;
     int reads_lines;
     char line[64];
     size_t length;
@@ -105,20 +132,74 @@ static void wait_for(struct reality *r, uint64_t tick) {
 
 /* ---- what goes out and comes in ---- */
 
-/* Writes the entries of the journal as lines, which makes room there. */
+/* The logger: keeps what waits, in pieces, until no more comes. */
+static void *keep_entries(void *given) {
+    struct logger *l = given;
+    rtdb_entry piece[RTDB_LOG_MOST];
+    for (;;) {
+        size_t count = 0;
+        pthread_mutex_lock(&l->lock);
+        while (l->count == 0 && !l->is_over) pthread_cond_wait(&l->changed, &l->lock);
+        for (; count < RTDB_LOG_MOST && count < l->count; count++) piece[count] = l->waiting[(l->first + count) % WAITING];
+        l->first = (l->first + count) % WAITING;
+        l->count -= count;
+        pthread_mutex_unlock(&l->lock);
+        if (count == 0) return NULL;
+        if (rtdb_log_append(&l->log, piece, count) != RTDB_OK || !rtdb_file_make_all(l->file, &l->log)) {
+            pthread_mutex_lock(&l->lock);
+            l->has_failed = 1;
+            pthread_mutex_unlock(&l->lock);
+            return NULL;
+        }
+    }
+}
+
+/* Hands drained entries to the logger. Fails where they have no place there, or an earlier one was not kept. */
+static int hand_over(struct logger *l, const rtdb_entry *entries, size_t count) {
+    pthread_mutex_lock(&l->lock);
+    int good = !l->has_failed && l->count + count <= WAITING;
+    for (size_t k = 0; good && k < count; k++) l->waiting[(l->first + l->count + k) % WAITING] = entries[k];
+    if (good) l->count += count;
+    pthread_cond_signal(&l->changed);
+    pthread_mutex_unlock(&l->lock);
+    return good;
+}
+
+/* Hands the entries of the history to the logger, which makes room for more. */
 static int log_entries(struct plant *p) {
-    static const char *const words[] = {"plan", "step", "block", "idle"};
     static rtdb_entry entries[64];
     size_t moved = 0;
     do {
         if (rtdb_drain(&p->db, entries, 64, &moved) != RTDB_OK) return fail("no entries");
-        for (size_t k = 0; k < moved && p->log != NULL; k++) {
-            const rtdb_entry *e = &entries[k];
-            fprintf(p->log, "%s %u/%u %llu %u %u %lld\n", words[e->kind], (unsigned)e->job.transaction, (unsigned)e->job.serial,
-                    (unsigned long long)e->tick, (unsigned)e->operation, (unsigned)e->item, (long long)e->value);
-        }
+        if (p->logger != NULL && !hand_over(p->logger, entries, moved)) return fail("an entry is not kept");
     } while (moved > 0);
     return 1;
+}
+
+/* Opens the journal of a new file, and starts its thread. */
+static int start_logger(struct logger *l, const char *path) {
+    rtdb_refusal refusal = {0, 0, 0, 0, 0};
+    uint8_t *bytes = NULL;
+    size_t length = 0;
+    l->file = rtdb_file_open(path);
+    if (l->file < 0 || !rtdb_file_read(l->file, &bytes, &length)) return fail("there is no such file, or another program has it");
+    free(bytes);
+    if (length != 0) return fail("the file has an earlier journal");
+    if (rtdb_log_open(&l->log, (const uint8_t *)text, sizeof text - 1, (const uint8_t *)text, 0, LOG_ROOM, &refusal) != RTDB_OK) return fail("no log");
+    if (!rtdb_file_make_all(l->file, &l->log)) return fail("the file takes nothing");
+    l->runs = pthread_create(&l->thread, NULL, keep_entries, l) == 0;
+    return l->runs ? 1 : fail("no thread");
+}
+
+/* Waits until all is kept, and closes the journal. */
+static int stop_logger(struct logger *l) {
+    pthread_mutex_lock(&l->lock);
+    l->is_over = 1;
+    pthread_cond_signal(&l->changed);
+    pthread_mutex_unlock(&l->lock);
+    if (l->runs) pthread_join(l->thread, NULL);
+    if (rtdb_log_close(&l->log) != RTDB_OK || close(l->file) != 0 || !l->runs) return 0;
+    return l->has_failed ? fail("an entry is not kept") : 1;
 }
 
 /* Takes what stands on standard input; a whole line is the new setpoint. Answers whether there is one. */
@@ -287,18 +368,19 @@ static int open_plant(struct plant *p) {
 
 int main(int count, char **words) {
     static struct plant p = {.db = RTDB_INIT, .water = 300, .reads_lines = 1};
+    static struct logger logger = {.lock = PTHREAD_MUTEX_INITIALIZER, .changed = PTHREAD_COND_INITIALIZER, .file = -1};
     static struct reality r;
     long seconds = count > 1 ? atol(words[1]) : 0;
     if (count > 3 || seconds < 1) {
-        fprintf(stderr, "real_tank SECONDS [FILE]\n");
+        fprintf(stderr, "real_tank SECONDS [JOURNAL]\n");
         return 2;
     }
-    if (count == 3 && (p.log = fopen(words[2], "w")) == NULL) {
-        perror(words[2]);
-        return 2;
+    if (count == 3) {
+        if (!start_logger(&logger, words[2])) return 2;
+        p.logger = &logger;
     }
     int good = open_plant(&p) && run(&p, &r, (uint64_t)seconds * TICKS_A_SECOND);
-    if (p.log != NULL && fclose(p.log) != 0) good = 0;
+    if (p.logger != NULL && !stop_logger(p.logger)) good = 0;
     if (rtdb_close(&p.db) != RTDB_OK) good = 0;
     printf("%llu ticks, %llu late, greatest lateness %lld us, longest step %lld us; %llu jobs, %llu committed, %llu late by the model\n",
            (unsigned long long)r.ticks, (unsigned long long)r.late, (long long)r.lateness, (long long)r.longest,

@@ -1,27 +1,40 @@
 //! A tank controller whose ticks are real, in three threads: one owns the database and makes the steps, the operator reads setpoints from
-//! standard input, and the logger writes what it is sent. They talk by channels.
+//! standard input, and the logger writes what it is sent and keeps the journal on the disk. They talk by channels.
 //!
-//!     real_tank SECONDS [FILE]     FILE gets the entries of the history as lines
+//!     real_tank SECONDS [JOURNAL]     a new file, which gets the journal
 //!
 //! A tick is a millisecond. A sampler measures the level every 10 ticks, a controller sets the valve every 20, and a display tells
 //! level, valve and setpoint once a second. A line `N` on standard input makes the operator write the setpoint N. At the end it tells
 //! how far reality was from the model: a tick is late if its step ended after the tick, and its lateness is how long after its time it
 //! began. By the model no job is late, since the set is admitted.
 use std::error::Error;
-use std::fs::File;
-use std::io::{self, BufRead, BufWriter, Write};
+use std::io::{self, BufRead};
 use std::sync::mpsc::{self, Receiver, Sender};
 use std::thread;
 use std::time::{Duration, Instant};
 
 use rtdb::{
-    Database, Declarations, End, Entry, IdleReply, ItemId, ItemKind, JobId, Op, Outcome, StepReply,
-    Times, TxId,
+    Database, Declarations, End, Entry, FileLog, IdleReply, ItemId, ItemKind, JobId, LogError, Op,
+    Outcome, StepReply, Times, TxId,
 };
 
 const TICK: Duration = Duration::from_millis(1);
 const TICKS_A_SECOND: u64 = 1000;
 const ROOM: usize = 1024;
+const LOG_ROOM: usize = 1 << 20;
+
+/// The set with its names, as the journal's log wants it.
+const TEXT: &str = "\
+rtdb report 1
+item level sensor 30 300
+item valve state - 0
+item setpoint state - 500
+txn sampler 4 10 0 10 2 reads - writes level
+txn controller 3 20 2 20 5 reads level,setpoint writes valve
+txn operator 2 100 0 100 2 reads - writes setpoint
+txn display 1 1000 5 1000 4 reads level,valve,setpoint writes -
+mode admitted
+";
 
 // The transactions, by their places.
 const SAMPLER: usize = 0;
@@ -291,36 +304,38 @@ fn read_setpoints(wishes: &Sender<i64>) {
 }
 
 /// The thread that writes, until the plant is gone.
-fn write_messages(
-    messages: &Receiver<Message>,
-    mut file: Option<BufWriter<File>>,
-) -> io::Result<()> {
+fn write_messages(messages: &Receiver<Message>, mut log: Option<FileLog>) -> Result<(), LogError> {
     for message in messages {
-        match (message, &mut file) {
+        match (message, &mut log) {
             (Message::Display(line), _) => println!("{line}"),
-            (Message::Entries(entries), Some(file)) => {
-                for entry in entries {
-                    writeln!(file, "{entry:?}")?;
-                }
-            }
+            (Message::Entries(entries), Some(log)) => log.append(&entries)?,
             (Message::Entries(_), None) => (),
         }
     }
-    file.map_or(Ok(()), |mut f| f.flush())
+    Ok(())
+}
+
+/// The journal of a new file.
+fn new_log(path: &str) -> Result<FileLog, Fault> {
+    let log = FileLog::open(path, TEXT, LOG_ROOM)?;
+    match log.is_empty() {
+        true => Ok(log),
+        false => Err("the file has an earlier journal".into()),
+    }
 }
 
 fn main() -> Result<(), Fault> {
     let words: Vec<String> = std::env::args().skip(1).collect();
-    let seconds: u64 = words.first().ok_or("real_tank SECONDS [FILE]")?.parse()?;
-    let file = match words.get(1) {
-        Some(path) => Some(BufWriter::new(File::create(path)?)),
-        None => None,
-    };
+    let seconds: u64 = words
+        .first()
+        .ok_or("real_tank SECONDS [JOURNAL]")?
+        .parse()?;
+    let log = words.get(1).map(|path| new_log(path)).transpose()?;
     let (to_plant, wishes) = mpsc::channel();
     let (out, messages) = mpsc::channel();
     let plant = Plant::new(wishes, out)?;
     thread::spawn(move || read_setpoints(&to_plant));
-    let logger = thread::spawn(move || write_messages(&messages, file));
+    let logger = thread::spawn(move || write_messages(&messages, log));
     let steps = thread::spawn(move || plant.run(seconds * TICKS_A_SECOND));
     let r = steps.join().expect("the plant's thread")?;
     logger.join().expect("the logger's thread")?;
