@@ -1,4 +1,4 @@
-//! The records and functions of rtdb.h, and a handle whose methods are safe. All `unsafe` of the crate stands here.
+//! The records and functions of rtdb.h, and a handle whose methods are safe. All `unsafe` of the crate stands here and in seats.rs.
 use std::cell::UnsafeCell;
 use std::ffi::c_void;
 use std::ptr::null_mut;
@@ -344,8 +344,8 @@ impl Drop for Handle {
     }
 }
 
-// The answer where the call was made, and else the status.
-fn told<T>(status: u32, answer: T) -> Result<T, u32> {
+/// The answer where the call was made, and else the status.
+pub(crate) fn told<T>(status: u32, answer: T) -> Result<T, u32> {
     match status {
         0 => Ok(answer),
         _ => Err(status),

@@ -1,2 +1,4 @@
 pub mod Apart
 pub mod Crosses
+pub mod SeatApart
+pub mod SeatCrosses

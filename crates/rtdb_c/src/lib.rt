@@ -10,12 +10,19 @@ ghost use Rattle.c_core.specs.declared.refusals.Refused.TheVariants.{OutOfMemory
 ghost use Rattle.rtdb_c.specs.Called.{Called, ToldWhy, ToldWhyNotTried, OpenedTrial, Stepped, Planned, Idled, IsRunningOf, Peeked, IsNowOf, Opened, PlannedNext, IsPendingOf, IsEndedOf, IsResponseOf, IsBlockingOf, IsAgeOf, Drained, IsKeptOf, IsPlannedOf};
 
 mod handle;
+mod plant;
+mod seat;
 
 use c_core::{
     CheckedCore, EntryForm, ItemRow, JobForm, OK, RefusalForm, Refused, StepForm, StoredForm,
     Tables, TimeForm, TogetherRow, TxnRow, refusal_form,
 };
 pub use handle::Handle;
+pub use plant::{
+    rtdb_plant_open, rtdb_seat_close, rtdb_seat_drain, rtdb_seat_front, rtdb_seat_idle,
+    rtdb_seat_open, rtdb_seat_peek, rtdb_seat_plan, rtdb_seat_plan_next, rtdb_seat_step,
+};
+pub use seat::SeatHandle;
 use std::alloc::Global;
 
 /// The handle is closed.
