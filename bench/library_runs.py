@@ -18,7 +18,8 @@ SANITIZED = ["-g", "-fsanitize=address,undefined", "-fno-sanitize-recover=all"]
 VALGRIND = ["valgrind", "-q", "--error-exitcode=99", "--leak-check=full", "--errors-for-leak-kinds=all"]
 
 # What a program is linked with besides, and its words.
-LINKED = {"growths": ["-Wl,--wrap=malloc,--wrap=realloc,--wrap=free"], "real_tank": ["-pthread"]}
+LINKED = {"growths": ["-Wl,--wrap=malloc,--wrap=realloc,--wrap=free"], "real_tank": ["-pthread"], "plant": ["-pthread"],
+          "plant_growths": ["-Wl,--wrap=malloc,--wrap=realloc,--wrap=free"]}
 WORDS = {"cost": ["job", "64"], "drive": ["8", "64", "ahead"], "real_tank": ["1"]}
 
 # How long the real tanks run, in seconds, and the setpoint that their operators are told.
@@ -64,6 +65,7 @@ def outputs(expected):
     """What a program has to print: of its input, or None where its status says enough."""
     return {
         "tank": lambda _: expected,
+        "plant": lambda _: expected,
         "first": lambda _: shown_output("embed/first.c"),
         "report": entries_of,
     }

@@ -10,7 +10,8 @@
  *   1. A pointer parameter is not null, also where its count is 0, and points to memory that may be read, and written
  *      where it is not const, until the call returns. No two parameters of a call overlap.
  *   2. What is written to has a value before: begin each record as {0}.
- *   3. A handle begins as RTDB_INIT, is changed by these functions alone, and is not copied while it is open.
+ *   3. A handle begins as RTDB_INIT, that of a seat as RTDB_SEAT_INIT. It is changed by these functions alone, and is not
+ *      copied while it is open.
  *   4. Calls by one handle come one after the other. Another thread may go on with it where a lock, the start or the join
  *      of a thread, or a sequentially consistent atomic stands between. No call is made from a signal handler, nor in the
  *      forked child of a process with threads.
@@ -19,8 +20,8 @@
  * No other use does harm: each number is tested, a call by a closed handle answers RTDB_CLOSED, and what a status other
  * than RTDB_OK leaves is all as it was.
  *
- * Memory is taken by `rtdb_open` and `rtdb_open_trial` and given back by `rtdb_close`. Of the other calls `rtdb_margin` alone takes
- * any, and gives it back before it returns. No call waits.
+ * Memory is taken by the functions that open a handle, and given back by those that close one. Of the other calls `rtdb_margin` alone
+ * takes any, and gives it back before it returns. No call waits.
  *
  * Link librtdb.a.
  */
@@ -58,7 +59,10 @@ enum {
     RTDB_NOT_COMPILED = 9,   /* the set breaks a rule: the refusal says which is the first */
     RTDB_NOT_ADMITTED = 10,  /* a job might be late, or read values that are too old: the refusal says which; of the calls for
                                 the bounds: the set was not admitted */
-    RTDB_NO_MEMORY = 11      /* malloc or realloc answered null */
+    RTDB_NO_MEMORY = 11,     /* malloc or realloc answered null */
+    /* of seats */
+    RTDB_BUSY = 26,      /* another seat's call has the turn: nothing was done, and the call may be made again */
+    RTDB_WRONG_SEAT = 27 /* the call is not one of this seat */
 };
 
 /* ---- the set ---- */
@@ -347,6 +351,58 @@ rtdb_status rtdb_drain(rtdb *db, rtdb_entry *into, size_t places, size_t *moved)
 
 /* How many entries the journal keeps, and how many were drained in all. Reads two words. */
 rtdb_status rtdb_kept(rtdb *db, size_t *kept, uint64_t *drained);
+
+/* ---- plants: a database that threads share ---- */
+
+/* A plant is a database with seats, one for each transaction and one for the operator. Each seat has a handle of its own, which
+ * one thread uses at a time (4. above); the calls by different seats may be made at once. All of them make one legal history:
+ * a call takes effect in it at one place, and what it answers is what a call of the database answers there. A seat's own
+ * entries stand there in the order of its calls. No job is late, as of a database that `rtdb_open` opens.
+ *
+ * A call makes one try: where another seat's call has the turn it answers RTDB_BUSY at once, which leaves all as it was. */
+typedef struct rtdb_seat {
+    void *at;
+} rtdb_seat;
+
+#define RTDB_SEAT_INIT {0}
+
+/* Opens a plant over the set of the tables, as `rtdb_open` does: the handle is that of the operator's seat, which has the seats
+ * of all transactions. Answers as `rtdb_open`, and leaves the handle as it was where that does.
+ * Takes all memory that the plant needs, but that of further seats. */
+rtdb_status rtdb_plant_open(rtdb_seat *operator_seat, const rtdb_item *items, size_t item_count,
+                            const rtdb_transaction *transactions, size_t transaction_count,
+                            const rtdb_together *together, size_t together_count, const uint32_t *numbers,
+                            size_t number_count, size_t room, rtdb_refusal *refusal);
+
+/* Opens the seat of the last transaction whose seat was not opened: `transaction` says which. So the seats come in the order of
+ * falling numbers, each once. Answers RTDB_CLOSED by a closed handle of the operator, RTDB_OPEN where `seat` is open,
+ * RTDB_NOTHING where no seat is left, or RTDB_NO_MEMORY: all is as it was then. Takes memory for the seat. */
+rtdb_status rtdb_seat_open(rtdb_seat *operator_seat, rtdb_seat *seat, uint32_t *transaction);
+
+/* Closes a seat. The last seat that is closed gives the memory of the plant back. Answers RTDB_OK or RTDB_CLOSED. */
+rtdb_status rtdb_seat_close(rtdb_seat *seat);
+
+/* Each of the following answers RTDB_CLOSED, else the status that it names, else RTDB_BUSY or RTDB_OK. */
+
+/* A job of the seat's transaction asks for an operation, as of `rtdb_step`. RTDB_WRONG_SEAT by the operator's seat,
+ * RTDB_NO_OPERATION. Where another job runs (RTDB_NOT_YET), or a job that blocks it (RTDB_BLOCKED), ask again later. */
+rtdb_status rtdb_seat_step(rtdb_seat *seat, uint32_t serial, uint32_t operation, uint32_t item, int64_t value,
+                           rtdb_step_answer *answer);
+
+/* As `rtdb_plan`, `rtdb_plan_next` and `rtdb_idle`, by any seat and for any transaction. RTDB_NO_TRANSACTION of the first two. */
+rtdb_status rtdb_seat_plan(rtdb_seat *seat, uint32_t transaction, uint64_t tick, rtdb_time *answer);
+rtdb_status rtdb_seat_plan_next(rtdb_seat *seat, uint32_t transaction, rtdb_time *answer);
+rtdb_status rtdb_seat_idle(rtdb_seat *seat, rtdb_time *answer);
+
+/* As `rtdb_peek`, by any seat. RTDB_NO_ITEM. */
+rtdb_status rtdb_seat_peek(rtdb_seat *seat, uint32_t item, rtdb_stored *stored);
+
+/* As `rtdb_drain`, by the operator's seat alone: RTDB_WRONG_SEAT by each other. */
+rtdb_status rtdb_seat_drain(rtdb_seat *seat, rtdb_entry *into, size_t places, size_t *moved);
+
+/* How many entries of the history the seat has seen: those before its last call that had the turn, and that call's own. Reads a
+ * word. */
+rtdb_status rtdb_seat_front(rtdb_seat *seat, uint64_t *count);
 
 /* ---- a journal on a file ---- */
 

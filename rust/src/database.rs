@@ -5,7 +5,7 @@ use crate::errors::{
 };
 use crate::ffi;
 use crate::replies::{
-    entry_of, idle_of, job_of, planned_of, reply_of, Entry, IdleReply, Op, StepReply,
+    entry_of, idle_of, job_of, numbers_of, planned_of, reply_of, Entry, IdleReply, Op, StepReply,
 };
 
 // A drain hands over no more entries at once.
@@ -116,13 +116,7 @@ impl Database {
     ///
     /// The job is of no transaction of the set.
     pub fn step(&mut self, job: JobId, op: Op) -> Result<StepReply, NotOfTheSet> {
-        let (operation, item, value) = match op {
-            Op::Read(item) => (0, item.0, 0),
-            Op::Write(item, value) => (1, item.0, value),
-            Op::Compute => (2, 0, 0),
-            Op::Commit => (3, 0, 0),
-            Op::Quit => (4, 0, 0),
-        };
+        let (operation, item, value) = numbers_of(op);
         let job = ffi::Job {
             transaction: job.tx.0,
             serial: job.serial,

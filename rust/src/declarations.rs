@@ -125,6 +125,10 @@ impl Declarations {
 }
 
 impl Declarations {
+    pub(crate) fn transactions(&self) -> usize {
+        self.transactions.len()
+    }
+
     pub(crate) fn tables(&self) -> ffi::Tables<'_> {
         ffi::Tables {
             items: &self.items,

@@ -1,7 +1,10 @@
-//! The records and functions of rtdb.h, and a handle whose methods are safe. All `unsafe` of the crate stands here.
+//! The records and functions of rtdb.h, and a handle whose methods are safe. All `unsafe` of the crate stands here and in the
+//! file of the seats below.
 use std::cell::UnsafeCell;
 use std::ffi::{c_char, c_void};
 use std::ptr::null_mut;
+
+pub(crate) mod seats;
 
 // A handle as C has it: null while it is closed.
 #[repr(C)]
@@ -386,8 +389,8 @@ pub(crate) fn text(status: u32, refusal: &Refusal) -> String {
     String::from_utf8_lossy(&words[..length.min(MOST_TEXT)]).into_owned()
 }
 
-// The answer where the call was made, and else the status.
-fn told<T>(status: u32, answer: T) -> Result<T, u32> {
+/// The answer where the call was made, and else the status.
+pub(crate) fn told<T>(status: u32, answer: T) -> Result<T, u32> {
     match status {
         0 => Ok(answer),
         _ => Err(status),

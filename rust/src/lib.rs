@@ -2,7 +2,8 @@
 //!
 //! Items and transactions are declared ([`Declarations`]), and a [`Database`] is opened over them if the set is admitted: then no
 //! job of it is late. What each call answers is proved of the library that this crate links; the crate itself passes numbers on,
-//! and its only `unsafe` code stands in one file.
+//! and its only `unsafe` code stands in two files. Threads share a
+//! database as a [`Plant`], each by a [`Seat`] of its own.
 //!
 //! ```
 //! use rtdb::{Database, Declarations, ItemKind, Op, Times};
@@ -29,10 +30,12 @@ mod errors;
 #[allow(unsafe_code)]
 mod ffi;
 mod log;
+mod plant;
 mod replies;
 
 pub use database::{Database, Drain, Margin, Stored};
 pub use declarations::{Declarations, ItemId, ItemKind, JobId, Times, TxId};
 pub use errors::{BoundError, NotOfTheSet, OpenError, OutOfMemory, PlanError, Which};
 pub use log::{FileLog, LogError};
+pub use plant::{Busy, Plant, Seat};
 pub use replies::{End, Entry, IdleReply, Op, Outcome, PlanRefused, StepReply};

@@ -17,6 +17,17 @@ pub enum Op {
     Quit,
 }
 
+// The number of an operation, its item and its value.
+pub(crate) fn numbers_of(op: Op) -> (u32, u32, i64) {
+    match op {
+        Op::Read(item) => (0, item.0, 0),
+        Op::Write(item, value) => (1, item.0, value),
+        Op::Compute => (2, 0, 0),
+        Op::Commit => (3, 0, 0),
+        Op::Quit => (4, 0, 0),
+    }
+}
+
 /// What a job is told of a granted operation.
 #[derive(Clone, Copy, PartialEq, Eq, Debug)]
 pub enum Outcome {

@@ -2,3 +2,5 @@ pub mod Apart
 pub mod Crosses
 pub mod LogApart
 pub mod LogCrosses
+pub mod SeatApart
+pub mod SeatCrosses

@@ -13,6 +13,8 @@ mod handle;
 mod log;
 mod log_handle;
 mod margin;
+mod plant;
+mod seat;
 mod text;
 
 use c_core::{
@@ -23,6 +25,11 @@ pub use handle::Handle;
 pub use log::CallForm;
 pub use log_handle::LogHandle;
 pub use margin::rtdb_margin;
+pub use plant::{
+    rtdb_plant_open, rtdb_seat_close, rtdb_seat_drain, rtdb_seat_front, rtdb_seat_idle,
+    rtdb_seat_open, rtdb_seat_peek, rtdb_seat_plan, rtdb_seat_plan_next, rtdb_seat_step,
+};
+pub use seat::SeatHandle;
 use std::alloc::Global;
 pub use text::rtdb_text;
 

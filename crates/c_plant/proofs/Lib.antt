@@ -1,0 +1,3 @@
+pub mod Handing
+pub mod Saying
+pub mod Trying
