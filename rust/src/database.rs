@@ -251,7 +251,7 @@ impl Iterator for Drain<'_> {
 }
 
 // The other statuses do not come: the handle is open, and each operation has its number.
-fn not_of_the_set(status: u32) -> NotOfTheSet {
+pub(crate) fn not_of_the_set(status: u32) -> NotOfTheSet {
     match status {
         NO_ITEM => NotOfTheSet::Item,
         _ => NotOfTheSet::Transaction,

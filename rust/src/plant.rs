@@ -2,6 +2,7 @@
 use std::error::Error;
 use std::fmt;
 
+use crate::database::not_of_the_set;
 use crate::database::Stored;
 use crate::declarations::{Declarations, ItemId, JobId, TxId};
 use crate::errors::{open_error, NotOfTheSet, OpenError, PlanError};
@@ -165,6 +166,6 @@ fn unless_busy<T>(answer: Result<T, u32>) -> Result<Result<T, NotOfTheSet>, Busy
     match answer {
         Ok(answer) => Ok(Ok(answer)),
         Err(BUSY) => Err(Busy),
-        Err(_) => Ok(Err(NotOfTheSet)),
+        Err(status) => Ok(Err(not_of_the_set(status))),
     }
 }

@@ -145,7 +145,7 @@ fn numbers_are_tested() {
     let (mut plant, mut sampler, _controller) = tank();
     assert_eq!(sampler.plan(TxId(2), 0), Ok(Err(PlanError::NotOfTheSet)));
     assert_eq!(plant.plan_next(TxId(2)), Ok(Err(PlanError::NotOfTheSet)));
-    assert_eq!(plant.peek(ItemId(2)), Ok(Err(NotOfTheSet)));
+    assert_eq!(plant.peek(ItemId(2)), Ok(Err(NotOfTheSet::Item)));
     assert_eq!(sampler.idle(), Ok(IdleReply::Nothing));
     let none = Plant::open(&Declarations::new(), (1 << 20) + 1);
     assert_eq!(none.err(), Some(OpenError::RoomTooLarge));

@@ -142,7 +142,7 @@ impl Run {
             .step(raw::job_record(job), raw::code_of(op), &mut answer);
         if !self.has_tx(job.tx.0) {
             assert_eq!((status, answer), (raw::NO_TRANSACTION, generated::step()));
-            assert_eq!(self.database.step(job, op), Err(NotOfTheSet));
+            assert_eq!(self.database.step(job, op), Err(NotOfTheSet::Transaction));
             return;
         }
         let alone = self.handle_alone_is_full();
@@ -196,7 +196,8 @@ impl Run {
                 (raw::NO_TRANSACTION, raw::NO_TRANSACTION)
             );
             assert_eq!((job, count), (before, 77));
-            assert_eq!(told, (Err(NotOfTheSet), Err(NotOfTheSet)));
+            let none = NotOfTheSet::Transaction;
+            assert_eq!(told, (Err(none), Err(none)));
             return;
         }
         let (pending, ended) = (self.state.pending(tx), self.state.ended(tx));
@@ -217,7 +218,7 @@ impl Run {
         match self.state.peek(item) {
             None => {
                 assert_eq!((status, stored), (raw::NO_ITEM, before));
-                assert_eq!(told, Err(NotOfTheSet));
+                assert_eq!(told, Err(NotOfTheSet::Item));
             }
             Some((value, stamp)) => {
                 assert_eq!((status, stored), (0, raw::Stored { value, stamp }));
@@ -297,7 +298,7 @@ impl Run {
                 (&[0; 2][..], &[wanted.0.unwrap(), wanted.1][..])
             );
         } else {
-            let none = Err(BoundError::NotOfTheSet);
+            let none = Err(BoundError::NotOfTheSet(NotOfTheSet::Transaction));
             assert_eq!((response, blocking), (none, none));
             assert_eq!(
                 (&statuses[..2], &ticks[..2]),
@@ -310,7 +311,7 @@ impl Run {
             let told = wanted.map_or((raw::NOTHING, 77), |w| (0, w));
             assert_eq!((statuses[2], ticks[2]), told);
         } else {
-            assert_eq!(age, Err(BoundError::NotOfTheSet));
+            assert_eq!(age, Err(BoundError::NotOfTheSet(NotOfTheSet::Item)));
             assert_eq!((statuses[2], ticks[2]), (raw::NO_ITEM, 77));
         }
     }
