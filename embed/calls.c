@@ -115,12 +115,15 @@ static int text_is(rtdb_status status, const rtdb_refusal *r, const char *words)
 /* The words of docs/FORMATS.md. */
 static void words(void) {
     rtdb_refusal none = {0}, same = {RTDB_SAME_PRIORITY, 0, 0, 17, 0}, times = {RTDB_BAD_TIMES, 2, 3, 0, 0};
-    rtdb_refusal old = {RTDB_TOO_OLD, 0, 1, 12, 4000}, most = {RTDB_TWO_WRITERS, 0, UINT64_MAX, UINT64_MAX, UINT64_MAX};
+    rtdb_refusal old = {RTDB_TOO_OLD, 0, 1, 12, 4000}, record = {0, 0, 4, 0, 0}, most = {RTDB_TWO_WRITERS, 0, UINT64_MAX, UINT64_MAX, UINT64_MAX};
     char into[RTDB_MOST_TEXT];
     static const char *const alone[] = {"Ok", "Closed", "Open", "NoOperation", "NoTransaction", "NoItem",
         "Nothing", "RoomTooLarge", "BadTable", "NotCompiled", "NotAdmitted", "OutOfMemory"};
     for (rtdb_status k = 0; k < 12; k++) IS(text_is(k, &none, alone[k]));
     IS(text_is(12345, &none, "Unknown 12345"));
+    IS(text_is(RTDB_STOPPED, &none, "Stopped") && text_is(RTDB_UNANSWERED, &none, "Unanswered") && text_is(RTDB_UNKNOWN, &none, "UnknownEntry"));
+    IS(text_is(RTDB_BAD_TEXT, &record, "BadText 4") && text_is(RTDB_BAD_RECORD, &record, "BadRecord 4") && text_is(RTDB_FULL, &none, "Full"));
+    IS(text_is(RTDB_BUSY, &none, "Busy") && text_is(RTDB_WRONG_SEAT, &none, "WrongSeat") && text_is(28, &none, "Unknown 28"));
     IS(text_is(RTDB_NOT_COMPILED, &same, "SamePrio txn0 txn17") && text_is(RTDB_NOT_COMPILED, &times, "BadTimes txn3 period"));
     IS(text_is(RTDB_NOT_ADMITTED, &old, "TooOld txn1 item12 4000") && text_is(RTDB_NOT_ADMITTED, &same, "NotAdmitted"));
     IS(rtdb_text(RTDB_NOT_COMPILED, &most, into, sizeof into) == 10 + 25 + 24 + 24);

@@ -159,8 +159,8 @@ rtdb_status rtdb_close(rtdb *db);
 
 /* Writes the words of a status to `into`, as many bytes as it has places for, and answers how many bytes they are, at most
  * RTDB_MOST_TEXT. What stands behind them stays: where the array began as {0} and is longer, a zero byte ends them.
- * With RTDB_BAD_TABLE, RTDB_NOT_COMPILED and RTDB_NOT_ADMITTED the words are those of the refusal with its numbers, and else it
- * says nothing. docs/FORMATS.md has the words. Takes no memory. */
+ * With RTDB_BAD_TABLE, RTDB_NOT_COMPILED, RTDB_NOT_ADMITTED, RTDB_BAD_TEXT and RTDB_BAD_RECORD the words are those of the refusal with
+ * its numbers, and else it says nothing. docs/FORMATS.md has the words. Takes no memory. */
 size_t rtdb_text(rtdb_status status, const rtdb_refusal *refusal, char *into, size_t places);
 
 /* ---- the bounds of the admitted set ---- */

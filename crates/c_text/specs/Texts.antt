@@ -36,6 +36,16 @@ rule_text form = if nat_le 10 form.rule && nat_le form.rule 18 then compile_caus
 abbrev pub admission_text : RefusalForm → List ℕ
 admission_text form = if nat_le 20 form.rule && nat_le form.rule 22 then admit_cause (names_for form) (admission_of form) else codes "NotAdmitted"
 
+-- a status of a log or of a seat that needs no record
+abbrev pub later_word : ℕ → List ℕ
+later_word status =
+    if status == 20 then codes "Stopped"
+    else (if status == 21 then codes "Unanswered"
+    else (if status == 22 then codes "UnknownEntry"
+    else (if status == 25 then codes "Full"
+    else (if status == 26 then codes "Busy"
+    else (if status == 27 then codes "WrongSeat" else codes "Unknown" ++ number status)))))
+
 -- a status that needs no record
 abbrev pub status_word : ℕ → List ℕ
 status_word status =
@@ -47,13 +57,15 @@ status_word status =
     else (if status == 5 then codes "NoItem"
     else (if status == 6 then codes "Nothing"
     else (if status == 7 then codes "RoomTooLarge"
-    else (if status == 11 then codes "OutOfMemory" else codes "Unknown" ++ number status))))))))
+    else (if status == 11 then codes "OutOfMemory" else later_word status))))))))
 
 abbrev pub text_of : ℕ → RefusalForm → List ℕ
 text_of status form =
     if status == 8 then table_text form
     else (if status == 9 then rule_text form
-    else (if status == 10 then admission_text form else status_word status))
+    else (if status == 10 then admission_text form
+    else (if status == 23 then codes "BadText" ++ number form.a
+    else (if status == 24 then codes "BadRecord" ++ number form.a else status_word status))))
 
 -- a text over the front of some bytes, as much of it as there are
 abbrev pub laid : List ℕ → List ℕ → List ℕ

@@ -2,7 +2,7 @@
 ghost use Rattle.std.specs.Prelude.{◌≡◌, ◌≤◌, ◌++◌, length, codes};
 ghost use Rattle.refusal_lines.specs.Causes.{word, number, which_text};
 ghost use Rattle.c_core.specs.Refusals.{which_of};
-ghost use Rattle.c_text.specs.Texts.{item_name, txn_name, status_word, table_text, rule_text, admission_text};
+ghost use Rattle.c_text.specs.Texts.{item_name, txn_name, later_word, status_word, table_text, rule_text, admission_text};
 
 use crate::words::{Words, begun, put_item, put_number, put_txn, put_word};
 use c_core::RefusalForm;
@@ -142,6 +142,28 @@ pub fn admission_words(form: RefusalForm) -> Words
     }
 }
 
+/// Of a line of a text that declares a set, or of a record of a file, that is bad.
+pub fn numbered_words(cause: &[u8], form: RefusalForm) -> Words
+    requires { length cause.now ≤ 20 }
+    ensures { result.items ≡ cause.now ++ number form.a }
+{
+    counted(cause, form.a)
+}
+
+fn later_words(status: u32) -> Words
+    ensures { result.items ≡ later_word status }
+{
+    match status {
+        20 => begun(b"Stopped"),
+        21 => begun(b"Unanswered"),
+        22 => begun(b"UnknownEntry"),
+        25 => begun(b"Full"),
+        26 => begun(b"Busy"),
+        27 => begun(b"WrongSeat"),
+        _ => counted(b"Unknown", status as u64),
+    }
+}
+
 /// Of a status that needs no record.
 pub fn status_words(status: u32) -> Words
     ensures { result.items ≡ status_word status }
@@ -156,6 +178,6 @@ pub fn status_words(status: u32) -> Words
         6 => begun(b"Nothing"),
         7 => begun(b"RoomTooLarge"),
         11 => begun(b"OutOfMemory"),
-        _ => counted(b"Unknown", status as u64),
+        _ => later_words(status),
     }
 }

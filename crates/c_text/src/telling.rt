@@ -2,12 +2,17 @@
 ghost use Rattle.std.specs.Prelude.{◌≡◌, ◌≤◌, length};
 ghost use Rattle.c_text.specs.Texts.{text_of, laid};
 
-use crate::causes::{admission_words, rule_words, status_words, table_words};
+use crate::causes::{admission_words, numbered_words, rule_words, status_words, table_words};
 use crate::words::Words;
 use c_core::{BAD_TABLE, NOT_ADMITTED, NOT_COMPILED, RefusalForm};
 
 /// No text is longer, in bytes.
 pub const MOST_TEXT: usize = 96;
+
+// The statuses of a log whose refusal has a number.
+const BAD_TEXT: u32 = 23;
+
+const BAD_RECORD: u32 = 24;
 
 fn words_of(status: u32, refusal: RefusalForm) -> Words
     ensures { result.items ≡ text_of status refusal }
@@ -16,6 +21,8 @@ fn words_of(status: u32, refusal: RefusalForm) -> Words
         BAD_TABLE => table_words(refusal),
         NOT_COMPILED => rule_words(refusal),
         NOT_ADMITTED => admission_words(refusal),
+        BAD_TEXT => numbered_words(b"BadText", refusal),
+        BAD_RECORD => numbered_words(b"BadRecord", refusal),
         _ => status_words(status),
     }
 }
