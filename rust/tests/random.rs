@@ -1,5 +1,5 @@
 //! A hundred thousand random calls by the crate and by the functions of rtdb.h, over generated sets, against a model that is made of
-//! docs/RULES.md and docs/DEFINITIONS.md alone. Each answer, each drained entry and each value is compared. Some calls have numbers
+//! docs/RULES.md alone. Each answer, each drained entry and each value is compared. Some calls have numbers
 //! that name nothing, and some are made by a closed handle.
 mod generated;
 mod model;
