@@ -75,7 +75,8 @@ static void add_set(char **f) {
 static void put_answer(char *line, rtdb_status status, rtdb_refusal r) {
     static const char *const words[] = {"TooManyItems", "TooManyTxns", "SamePrio",   "BadTimes", "NoWriter", "TwoWriters", "CyclicDerivation",
                                         "TooManySets",  "BadTogether", "",           "NotSchedulable", "TooOld",   "TooApart"};
-    static const int counts[] = {1, 1, 2, 1, 1, 3, 1, 1, 1, 0, 2, 3, 3};
+    /* The numbers of each: t of a transaction, i of an item, and n alone. */
+    static const char *const kinds[] = {"n", "n", "tt", "t", "i", "itt", "i", "n", "n", "", "tn", "tin", "tnn"};
     const uint64_t all[] = {r.a, r.b, r.c};
     int of_set = status == RTDB_NOT_COMPILED || status == RTDB_NOT_ADMITTED;
     if (status == RTDB_OK) {
@@ -85,8 +86,9 @@ static void put_answer(char *line, rtdb_status status, rtdb_refusal r) {
     } else if (of_set && r.rule >= RTDB_TOO_MANY_ITEMS && r.rule <= LAST_RULE && (r.rule < 20) == (status == RTDB_NOT_COMPILED)) {
         int at = sprintf(line, "refused %s", words[r.rule - RTDB_TOO_MANY_ITEMS]);
         for (int k = 0; k < 3; k++) {
-            if (k < counts[r.rule - RTDB_TOO_MANY_ITEMS]) {
-                at += sprintf(line + at, " %llu", (unsigned long long)all[k]);
+            if (k < (int)strlen(kinds[r.rule - RTDB_TOO_MANY_ITEMS])) {
+                char kind = kinds[r.rule - RTDB_TOO_MANY_ITEMS][k];
+                at += sprintf(line + at, " %s%llu", kind == 't' ? "txn" : kind == 'i' ? "item" : "", (unsigned long long)all[k]);
             } else if (all[k] != 0) {
                 at += sprintf(line + at, " and a number that is not 0");
             }
