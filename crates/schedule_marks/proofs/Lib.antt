@@ -1,2 +1,4 @@
 pub mod Ticks
+pub mod Along
+pub mod Seen
 pub mod Joined

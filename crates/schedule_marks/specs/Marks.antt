@@ -1,6 +1,6 @@
 -- The marks of a history in the part that is looked at.
-use Rattle.std.specs.Prelude.{ℕ, zero, suc, ◌+◌, ◌-◌, min, Bool, true, false, nat_lt, nat_le, ◌&&◌, if◌then◌else◌, List, [], ◌∷◌, ◌++◌, length, map, Option, None, Some}
-use Rattle.std.specs.List.{filter_map}
+use Rattle.std.specs.Prelude.{ℕ, zero, suc, ◌+◌, ◌-◌, min, ◌==◌, Bool, true, false, not, nat_lt, nat_le, ◌&&◌, ◌||◌, if◌then◌else◌, List, [], ◌∷◌, ◌++◌, length, map, Option, None, Some}
+use Rattle.std.specs.List.{filter_map, cons_option, list_any, fold}
 use Rattle.rt_base.specs.declared.ids.ItemId.{ItemId}
 use Rattle.rt_base.specs.declared.ids.JobId.{JobId}
 use Rattle.rt_base.specs.declared.operation.Op.{Op}
@@ -101,7 +101,7 @@ abbrev pub lock_mark : Set → Part → JobId → ItemId → Bool → ℕ → �
 lock_mark set part job item is_write from to =
     if meets part from to then Some (mark.Lock job item is_write (ceiling_in set item is_write) from to) else None
 
--- the lock that a step shows: a write, or a read from outside
+-- the lock that a step shows that its job holds: a write lock for a write, and a read lock for a read from outside
 abbrev pub lock_by : Op → Outcome → Option (ItemId × Bool)
 lock_by (Read item) (Got value (Some stamp)) = Some (item, false)
 lock_by (Read item) (Got value None) = None
@@ -113,16 +113,54 @@ lock_by Compute outcome = None
 lock_by Commit outcome = None
 lock_by Quit outcome = None
 
-abbrev pub lock_from : Set → Part → JobId → ℕ → ℕ → Option (ItemId × Bool) → Option Mark
-lock_from set part job from to None = None
-lock_from set part job from to (Some l) = lock_mark set part job l.0 l.1 from to
+-- a lock on the item: a write lock if one is asked for, and else any
+abbrev pub is_lock_on : ItemId → Bool → Option (ItemId × Bool) → Bool
+is_lock_on item is_write None = false
+is_lock_on item is_write (Some l) = (l.0.0 == item.0) && (l.1 || not is_write)
 
-abbrev pub lock_in : Set → Part → ℕ → List JobRow → Entry → Option Mark
-lock_in set part stop rows (Planned tx tick) = None
-lock_in set part stop rows (Step job op outcome over tick) =
-    lock_from set part job tick (until_of stop rows job) (lock_by op outcome)
-lock_in set part stop rows (Blocked job op by ceiling tick) = None
-lock_in set part stop rows (Idle from to) = None
+-- whether an entry is a step of the job that shows a lock on the item: a write lock if one is asked for, and else any
+abbrev pub shows_lock : JobId → ItemId → Bool → Entry → Bool
+shows_lock job item is_write (Planned tx tick) = false
+shows_lock job item is_write (Step by op outcome over tick) = same_job by job && is_lock_on item is_write (lock_by op outcome)
+shows_lock job item is_write (Blocked by op on ceiling tick) = false
+shows_lock job item is_write (Idle from to) = false
+
+-- the tick of a job's write of an item, if that is earlier than this one
+abbrev pub earlier_write : JobId → ItemId → ℕ → Entry → ℕ
+earlier_write job item to (Planned tx tick) = to
+earlier_write job item to (Step by op outcome over tick) =
+    if shows_lock job item true (Step by op outcome over tick) then min tick to else to
+earlier_write job item to (Blocked by op on ceiling tick) = to
+earlier_write job item to (Idle from tick) = to
+
+-- the tick of the job's first write of an item among entries, or this one if that is earlier
+abbrev pub until_write : JobId → ItemId → ℕ → List Entry → ℕ
+until_write job item to entries = fold (earlier_write job item) to entries
+
+-- A lock is held until its job ends; a read lock no longer than until the job writes the item, for a write lock takes its place.
+abbrev pub lock_until : JobId → ItemId → Bool → ℕ → List Entry → ℕ
+lock_until job item is_write to after = if is_write then to else until_write job item to after
+
+-- the lock that a step takes, between the entries before it and those after it, if the job does not hold it already
+abbrev pub lock_from : Set → Part → ℕ → List Entry → List Entry → JobId → ℕ → Option (ItemId × Bool) → Option Mark
+lock_from set part to before after job tick None = None
+lock_from set part to before after job tick (Some l) =
+    if list_any (shows_lock job l.0 l.1) before
+    then None
+    else lock_mark set part job l.0 l.1 tick (lock_until job l.0 l.1 to after)
+
+abbrev pub lock_in : Set → Part → ℕ → List JobRow → List Entry → List Entry → Entry → Option Mark
+lock_in set part stop rows before after (Planned tx tick) = None
+lock_in set part stop rows before after (Step job op outcome over tick) =
+    lock_from set part (until_of stop rows job) before after job tick (lock_by op outcome)
+lock_in set part stop rows before after (Blocked job op by ceiling tick) = None
+lock_in set part stop rows before after (Idle from to) = None
+
+-- the locks that entries take, one after another
+abbrev pub locks_along : Set → Part → ℕ → List JobRow → List Entry → List Entry → List Mark
+locks_along set part stop rows before [] = []
+locks_along set part stop rows before (e ∷ es) =
+    cons_option (lock_in set part stop rows before es e) (locks_along set part stop rows (before ++ e ∷ []) es)
 
 -- ---- ceilings
 
@@ -156,7 +194,7 @@ abbrev pub present : Part → ℕ → List JobRow → List JobRow
 present part stop rows = filter_map (present_in part stop) rows
 
 abbrev pub locks_of : Set → Part → ℕ → List JobRow → List Entry → List Mark
-locks_of set part stop rows entries = filter_map (lock_in set part stop (present part stop rows)) entries
+locks_of set part stop rows entries = locks_along set part stop (present part stop rows) [] entries
 
 -- what lasts: the jobs, the locks, the ceilings and the waits
 abbrev pub spans_with : Part → ℕ → List JobRow → List JobRow → List Mark → List Entry → List Mark

@@ -1,8 +1,10 @@
 //! Locks, waits and the ceilings of ticks: what lasts until a job ends.
 ghost use Rattle.std.specs.Prelude.{◌≡◌, map};
+ghost use Rattle.std.specs.List.{list_any};
 ghost use Rattle.step_journal.specs.State.{same_job};
 ghost use Rattle.txn_set.specs.Ceilings.{greatest};
-ghost use Rattle.schedule_marks.specs.Marks.{until as until_in, until_of as until_in_rows, present_in, wait_in, wait_mark, ceiling_in, lock_mark, lock_by, lock_in, ceiling_by};
+ghost use Rattle.schedule_marks.specs.Marks.{until as until_in, until_of as until_in_rows, present_in, wait_in, wait_mark, ceiling_in, lock_mark, lock_by, is_lock_on, shows_lock, earlier_write, lock_until, lock_in, ceiling_by};
+ghost use Rattle.schedule_marks.specs.Seen.{seen_in};
 
 use crate::mark::Mark;
 use crate::part::{Part, meets};
@@ -112,7 +114,25 @@ fn lock(
     }
 }
 
-// The lock that a step shows: whether it is a write lock comes second.
+/// The entry, where it is a step of a job that ends after the part begins.
+pub(crate) fn seen_step(part: Part, stop: Tick, rows: &[JobRow], entry: &Entry) -> Option<Entry>
+    ensures { result ≡ seen_in part stop rows.now entry.now }
+{
+    match *entry {
+        Entry::Step { job, .. } => {
+            if part.from < until_of(stop, rows, job) {
+                Some(*entry)
+            } else {
+                None
+            }
+        }
+        Entry::Planned { .. } => None,
+        Entry::Blocked { .. } => None,
+        Entry::Idle { .. } => None,
+    }
+}
+
+// The lock that a step shows that its job holds: whether it is a write lock comes second.
 fn taken(op: Op, outcome: Outcome) -> Option<(ItemId, bool)>
     ensures { result ≡ lock_by op outcome }
 {
@@ -131,14 +151,89 @@ fn taken(op: Op, outcome: Outcome) -> Option<(ItemId, bool)>
     }
 }
 
+// Whether it is a lock on the item: a write lock if one is asked for, and else any.
+fn is_lock(item: ItemId, is_write: bool, lock: Option<(ItemId, bool)>) -> bool
+    ensures { result ≡ is_lock_on item is_write lock }
+{
+    match lock {
+        Some((locked, for_write)) => locked.0 == item.0 && (for_write || !is_write),
+        None => false,
+    }
+}
+
+// Whether an entry is a step of the job that shows a lock on the item: a write lock if one is asked for, and else any.
+fn is_showing(job: JobId, item: ItemId, is_write: bool, entry: &Entry) -> bool
+    ensures { result ≡ shows_lock job item is_write entry.now }
+{
+    match *entry {
+        Entry::Step {
+            job: by,
+            op,
+            outcome,
+            ..
+        } => is_job(by, job) && is_lock(item, is_write, taken(op, outcome)),
+        Entry::Planned { .. } => false,
+        Entry::Blocked { .. } => false,
+        Entry::Idle { .. } => false,
+    }
+}
+
+// Whether one of the entries is such a step.
+fn is_shown(job: JobId, item: ItemId, is_write: bool, entries: &[Entry]) -> bool
+    ensures { result ≡ list_any (shows_lock job item is_write) entries.now }
+{
+    for entry in entries {
+        if is_showing(job, item, is_write, entry) {
+            return true;
+        }
+    }
+    false
+}
+
+// The tick of the job's write of an item, if that is earlier than this one.
+fn earlier(job: JobId, item: ItemId, to: Tick, entry: &Entry) -> Tick
+    ensures { result ≡ earlier_write job item to entry.now }
+{
+    match *entry {
+        Entry::Step { tick, .. } => {
+            if is_showing(job, item, true, entry) {
+                tick.min(to)
+            } else {
+                to
+            }
+        }
+        Entry::Planned { .. } => to,
+        Entry::Blocked { .. } => to,
+        Entry::Idle { .. } => to,
+    }
+}
+
+// Until when a lock is held whose job ends at a tick.
+fn held_until(job: JobId, item: ItemId, is_write: bool, end: Tick, after: &[Entry]) -> Tick
+    ensures { result ≡ lock_until job item is_write end after.now }
+{
+    if is_write {
+        return end;
+    }
+    let mut to = end;
+    for entry in after {
+        to = earlier(job, item, to, entry);
+    }
+    to
+}
+
+/// The lock that an entry takes, between the entries before it and those after it, where it lasts in the part. It goes over
+/// these entries only if the job is pending in the part after the entry.
 pub(crate) fn lock_of(
     set: &CompiledSet,
     part: Part,
     stop: Tick,
     rows: &[JobRow],
+    before: &[Entry],
+    after: &[Entry],
     entry: &Entry,
 ) -> Option<Mark>
-    ensures { result ≡ lock_in set.now part stop rows.now entry.now }
+    ensures { result ≡ lock_in set.now part stop rows.now before.now after.now entry.now }
 {
     match *entry {
         Entry::Step {
@@ -149,7 +244,11 @@ pub(crate) fn lock_of(
             ..
         } => match taken(op, outcome) {
             Some((item, is_write)) => {
-                let to = until_of(stop, rows, job);
+                let end = until_of(stop, rows, job);
+                if !meets(part, tick, end) || is_shown(job, item, is_write, before) {
+                    return None;
+                }
+                let to = held_until(job, item, is_write, end, after);
                 lock(set, part, job, item, is_write, tick, to)
             }
             None => None,

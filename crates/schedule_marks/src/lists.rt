@@ -2,9 +2,10 @@
 ghost use Rattle.std.specs.Prelude.{◌≡◌, ◌++◌, ◌-◌, [], ◌∷◌, OnOk, IfOk};
 ghost use Rattle.std.specs.List.{filter_map};
 ghost use Rattle.std.specs.Option.{option_to_list};
-ghost use Rattle.schedule_marks.specs.Marks.{pending_in, step_in, refusal_in, release_in, deadline_in, end_in, wait_in, lock_in, present, ceiling_at, ceilings_from};
+ghost use Rattle.schedule_marks.specs.Marks.{pending_in, step_in, refusal_in, release_in, deadline_in, end_in, wait_in, locks_along as locks_from, present, ceiling_at, ceilings_from};
+ghost use Rattle.schedule_marks.specs.Seen.{seen_in};
 
-use crate::held::{ceiling_in_tick, lock_of, present_row, wait_of};
+use crate::held::{ceiling_in_tick, lock_of, present_row, seen_step, wait_of};
 use crate::mark::{
     Mark, deadline_mark, end_mark, pending_mark, refusal_mark, release_mark, step_mark,
 };
@@ -54,6 +55,47 @@ pub(crate) fn add_pending(
     Ok(())
 }
 
+// The steps of the jobs that end after the part begins: no other entry shows a lock in it.
+fn seen_steps(
+    alloc: Global,
+    part: Part,
+    stop: Tick,
+    rows: &[JobRow],
+    entries: &[Entry],
+) -> Result<Vec<Entry>, OutOfMemory>
+    ensures { IfOk result (λ v. v.items ≡ filter_map (seen_in part stop rows.now) entries.now) }
+{
+    let mut into = Vec::new(alloc);
+    for entry in entries {
+        add(&mut into, seen_step(part, stop, rows, entry))?;
+    }
+    Ok(into)
+}
+
+// The locks that entries take, one after another.
+fn locks_along(
+    alloc: Global,
+    set: &CompiledSet,
+    part: Part,
+    stop: Tick,
+    rows: &[JobRow],
+    entries: &[Entry],
+) -> Result<Vec<Mark>, OutOfMemory>
+    ensures { IfOk result (λ v. v.items ≡ locks_from set.now part stop rows.now [] entries.now) }
+{
+    let mut into = Vec::new(alloc);
+    for (i, entry) in entries.iter().enumerate() {
+        let (before, after) = (&entries[..i], &entries[i + 1..]);
+        add(
+            &mut into,
+            lock_of(set, part, stop, rows, before, after, entry),
+        )?;
+    }
+    Ok(into)
+}
+
+/// The locks that entries take which last in the part. It goes over all entries once, for each step over the rows, and for
+/// each lock over the steps of these rows' jobs.
 pub(crate) fn locks(
     alloc: Global,
     set: &CompiledSet,
@@ -62,13 +104,10 @@ pub(crate) fn locks(
     rows: &[JobRow],
     entries: &[Entry],
 ) -> Result<Vec<Mark>, OutOfMemory>
-    ensures { IfOk result (λ v. v.items ≡ filter_map (lock_in set.now part stop rows.now) entries.now) }
+    ensures { IfOk result (λ v. v.items ≡ locks_from set.now part stop rows.now [] entries.now) }
 {
-    let mut into = Vec::new(alloc);
-    for entry in entries {
-        add(&mut into, lock_of(set, part, stop, rows, entry))?;
-    }
-    Ok(into)
+    let steps = seen_steps(alloc, part, stop, rows, entries)?;
+    locks_along(alloc, set, part, stop, rows, &steps)
 }
 
 fn add_ceiling(into: &mut Vec<Mark>, locks: &[Mark], tick: Tick) -> Result<(), OutOfMemory>

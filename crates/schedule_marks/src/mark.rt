@@ -20,7 +20,8 @@ pub enum Mark {
         from: Tick,
         to: Tick,
     },
-    /// A job held a lock on an item, from the step that took it to the job's end.
+    /// A job held a lock on an item, from the step that took it to the job's end, or, if it is a read lock, to the step by which
+    /// the job wrote the item: a write lock takes its place.
     Lock {
         job: JobId,
         item: ItemId,

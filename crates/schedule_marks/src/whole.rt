@@ -89,8 +89,9 @@ fn marks_until(
     Ok(into)
 }
 
-/// The marks of a history in a part, from its entries and the rows of its jobs. It goes a few times over them, for each lock
-/// and refusal over the jobs that are pending in the part, and for each tick of the part over the locks.
+/// The marks of a history in a part, from its entries and the rows of its jobs. It goes a few times over them: for each step and
+/// refusal over the jobs that are pending in the part, for each lock over these jobs' steps, and for each tick of the part over
+/// the locks.
 pub fn marks(
     alloc: Global,
     set: &CompiledSet,
