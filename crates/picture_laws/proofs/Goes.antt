@@ -95,7 +95,7 @@ end_goes n s r e tick le own =
       in_last d [] = inl refl
       in_last d (q ∷ qs) = inr (in_last d qs)
 
-own_later : (s : State) (t : ℕ) (r q : Row) → IsIt s q → IsIt (with_late t s r) q
+pub own_later : (s : State) (t : ℕ) (r q : Row) → IsIt s q → IsIt (with_late t s r) q
 unfolding with_end
 own_later s t r q own c h same =
     let l = left s.rows r.job c h in
@@ -111,12 +111,12 @@ late_goes n t (r ∷ rs) s le own =
 
 -- releases
 
-come : (t : ℕ) (due : List Release) (rows : List (Option Row)) (x : Row) → ((r : Release) → In r due → x.job.tx.0 ≢ r.job.tx.0) → IsPending rows x → IsPending (fold (with_row t) rows (map (λ r. r.job) due)) x
+pub come : (t : ℕ) (due : List Release) (rows : List (Option Row)) (x : Row) → ((r : Release) → In r due → x.job.tx.0 ≢ r.job.tx.0) → IsPending rows x → IsPending (fold (with_row t) rows (map (λ r. r.job) due)) x
 come t [] rows x apart h = h
 come t (r ∷ rs) rows x apart h =
     come t rs (with_row t rows r.job) x (λ q i. apart q (inr i)) (written_other rows r.job.tx.0 (new_row r.job t) x (apart r (inl refl)) h)
 
-full_or_none : (rows : List (Option Row)) (x : Row) (n : ℕ) → IsPending rows x → row_of rows n ≡ None → x.job.tx.0 ≢ n
+pub full_or_none : (rows : List (Option Row)) (x : Row) (n : ℕ) → IsPending rows x → row_of rows n ≡ None → x.job.tx.0 ≢ n
 full_or_none rows x n h e same = let at : row_of rows n ≡ Some x = subst (λ (k : ℕ). row_of rows k ≡ Some x) same h in absurd cc
 
 -- to arrive at a tick
@@ -195,6 +195,15 @@ wait_goes s x on here = record {
 
 -- a plan
 
+-- a job that is planned for the present tick is of a transaction with nothing pending
+pub other_than_planned : (set : Set) (refused : JobId → Bool) (s : State) (tx tick : ℕ) (x : Row) → IsCompiled set → Sound set refused (s.now + 1) s → MayPlan set s tx tick → tick ≡ s.now → IsPending s.rows x → x.job.tx.0 ≢ tx
+other_than_planned set refused s tx tick x ok sound may now h same =
+    let r = sound.calendar.released x h in
+    let p : plans_of s x.job.tx.0 ≡ plans_of s tx = ap (plans_of s) same in
+    let g : (plans_of s tx).last + (txn_of set tx).period ≤ tick = may.gap (omega (arith, r.1, ap (λ q. q.number) p)) in
+    let d : deadline_of set x.job ≤ period_of set x.job = deadline_le set s.rows x ok sound.frame h in
+    omega (arith, r.0, g, d, sound.calendar.alive x h, now, ap (λ q. q.last) p, ap (λ (n : ℕ). (txn_of set n).period) same)
+
 plan_goes_at : (set : Set) (refused : JobId → Bool) (s : State) (tx tick : ℕ) (plans : _) (planned : List Release) (b : Bool) → IsCompiled set → Sound set refused (s.now + 1) s → MayPlan set s tx tick → (tick == s.now) ≡ b
     → Goes s.now s (record s { plans = plans; planned = planned; rows = cond b (with_row tick s.rows (next_job s tx)) s.rows })
 plan_goes_at set refused s tx tick plans planned false ok sound may e = record {
@@ -207,13 +216,7 @@ plan_goes_at set refused s tx tick plans planned true ok sound may e = record {
   new = λ d i. inl i;
   goes_on = λ x h. inl (record {
     row = x;
-    here = written_other s.rows tx (new_row (next_job s tx) tick) x (λ same.
-        let now : tick ≡ s.now = eqb-true _ _ e in
-        let r = sound.calendar.released x h in
-        let p : plans_of s x.job.tx.0 ≡ plans_of s tx = ap (plans_of s) same in
-        let g : (plans_of s tx).last + (txn_of set tx).period ≤ tick = may.gap (omega (arith, r.1, ap (λ q. q.number) p)) in
-        let d : deadline_of set x.job ≤ period_of set x.job = deadline_le set s.rows x ok sound.frame h in
-        omega (arith, r.0, g, d, sound.calendar.alive x h, now, ap (λ q. q.last) p, ap (λ (n : ℕ). (txn_of set n).period) same)) h;
+    here = written_other s.rows tx (new_row (next_job s tx) tick) x (other_than_planned set refused s tx tick x ok sound may (eqb-true _ _ e) h) h;
     job_is = refl;
     release_is = refl;
   });
@@ -236,7 +239,7 @@ pub record StepOf (set : Set) (s : State) (job : JobId) (op : Op) (outcome : Out
 abbrev pub IsAt : Set → State → State → Entry → Type 0
 IsAt set s next (Planned tx tick) = next.now ≡ s.now
 IsAt set s next (Step job op outcome over tick) = StepOf set s job op outcome × (tick ≡ s.now) × (next.now ≡ s.now + 1)
-IsAt set s next (Blocked job op by ceiling tick) = next.now ≡ s.now
+IsAt set s next (Blocked job op by ceiling tick) = (tick ≡ s.now) × (next.now ≡ s.now)
 IsAt set s next (Idle from to) = (next.now ≡ to) × (s.now < to)
 
 pub record Moves (set : Set) (s next : State) (e : Entry) : Type 0 where
@@ -277,7 +280,7 @@ module _ (set : Set) (ok : IsCompiled set) (refused : JobId → Bool) (s : State
       }
   answered_moves x op (Some above) run may e = record {
     goes = subst (λ (n : ℕ). Goes n s (with_wait s x above.holder)) (sym (wait_now s x above.holder)) (wait_goes s x above.holder run.here);
-    at = wait_now s x above.holder;
+    at = (refl, wait_now s x above.holder);
   }
 
   asked_moves : (job : JobId) (op : Op) (x : Row) (b : Bool) → Runs set s.rows refused x → MovesTo set s (option_and_then (asked set s op) (cond b (Some x) None))
@@ -320,47 +323,47 @@ module _ (set : Set) (ok : IsCompiled set) (refused : JobId → Bool) (s : State
 
 -- lists of entries
 
-later_at : (set : Set) (s next : State) (e : Entry) → IsAt set s next e → s.now ≤ next.now
+pub later_at : (set : Set) (s next : State) (e : Entry) → IsAt set s next e → s.now ≤ next.now
 later_at set s next (Planned tx tick) h = omega (arith, h)
 later_at set s next (Step job op outcome over tick) h = omega (arith, h.2)
-later_at set s next (Blocked job op by ceiling tick) h = omega (arith, h)
+later_at set s next (Blocked job op by ceiling tick) h = omega (arith, h.1)
 later_at set s next (Idle from to) h = omega (arith, h.0, h.1)
 
 -- an entry is not before an instant, nor after one
 abbrev pub IsSince : ℕ → Entry → Type 0
 IsSince n (Planned tx tick) = Unit {0}
 IsSince n (Step job op outcome over tick) = n ≤ tick
-IsSince n (Blocked job op by ceiling tick) = Unit {0}
+IsSince n (Blocked job op by ceiling tick) = n ≤ tick
 IsSince n (Idle from to) = Unit {0}
 
 abbrev pub IsUpTo : ℕ → Entry → Type 0
 IsUpTo n (Planned tx tick) = Unit {0}
 IsUpTo n (Step job op outcome over tick) = tick < n
-IsUpTo n (Blocked job op by ceiling tick) = Unit {0}
+IsUpTo n (Blocked job op by ceiling tick) = tick ≤ n
 IsUpTo n (Idle from to) = to ≤ n
 
 since_earlier : (n m : ℕ) (e : Entry) → n ≤ m → IsSince m e → IsSince n e
 since_earlier n m (Planned tx tick) le h = tt
 since_earlier n m (Step job op outcome over tick) le h = omega (arith, le, h)
-since_earlier n m (Blocked job op by ceiling tick) le h = tt
+since_earlier n m (Blocked job op by ceiling tick) le h = omega (arith, le, h)
 since_earlier n m (Idle from to) le h = tt
 
 up_to_later : (n m : ℕ) (e : Entry) → n ≤ m → IsUpTo n e → IsUpTo m e
 up_to_later n m (Planned tx tick) le h = tt
 up_to_later n m (Step job op outcome over tick) le h = omega (arith, le, h)
-up_to_later n m (Blocked job op by ceiling tick) le h = tt
+up_to_later n m (Blocked job op by ceiling tick) le h = omega (arith, le, h)
 up_to_later n m (Idle from to) le h = omega (arith, le, h)
 
 since_at : (set : Set) (s next : State) (e : Entry) → IsAt set s next e → IsSince s.now e
 since_at set s next (Planned tx tick) h = tt
 since_at set s next (Step job op outcome over tick) h = omega (arith, h.1)
-since_at set s next (Blocked job op by ceiling tick) h = tt
+since_at set s next (Blocked job op by ceiling tick) h = omega (arith, h.0)
 since_at set s next (Idle from to) h = tt
 
 up_to_at : (set : Set) (s next : State) (e : Entry) → IsAt set s next e → IsUpTo next.now e
 up_to_at set s next (Planned tx tick) h = tt
 up_to_at set s next (Step job op outcome over tick) h = omega (arith, h.1, h.2)
-up_to_at set s next (Blocked job op by ceiling tick) h = tt
+up_to_at set s next (Blocked job op by ceiling tick) h = omega (arith, h.0, h.1)
 up_to_at set s next (Idle from to) h = omega (arith, h.0)
 
 -- who took a step is pending or has ended

@@ -1,4 +1,9 @@
+pub mod Lists
 pub mod Shown
 pub mod Goes
+pub mod Turns
 pub mod Steps
+pub mod Taken
+pub mod Parts
 pub mod Held
+pub mod Drawn

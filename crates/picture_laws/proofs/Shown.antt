@@ -1,7 +1,8 @@
 -- What the marks of each kind show.
-use Rattle.std.proofs.Common.{◌≡◌, ℕ, zero, suc, ◌+◌, ◌-◌, Bool, true, false, cond, List, [], ◌∷◌, ◌++◌, map, Option, None, Some, refl, ap, sym, ◌∙◌, append-nil}
+use Rattle.std.proofs.Common.{◌≡◌, ℕ, zero, suc, ◌+◌, ◌-◌, Bool, true, false, cond, ◌&&◌, nat_lt, nat_le, ◌<◌, ◌≤◌, List, [], ◌∷◌, ◌++◌, map, Option, None, Some, refl, ap, sym, ◌∙◌, append-nil}
+use Rattle.std.proofs.lemmas.Bool.{and_from, and_parts, ltb-true, leb-true, lt-ltb, le-leb}
 use Rattle.std.proofs.lemmas.List.Elements.{filter_map-append}
-use Rattle.std.specs.List.{filter, filter_map, cons_option}
+use Rattle.std.specs.List.{filter, filter_map, cons_option, list_any}
 use Rattle.std.specs.Option.{option_map, option_and_then}
 use Rattle.rt_base.specs.declared.ids.ItemId.{ItemId}
 use Rattle.rt_base.specs.declared.ids.JobId.{JobId}
@@ -22,8 +23,9 @@ use Rattle.schedule_marks.specs.declared.part.Part.{Part}
 use Rattle.schedule_marks.specs.declared.mark.Mark.{Mark}
 use Rattle.schedule_marks.specs.declared.mark.Mark.TheVariants as mark
 use Rattle.schedule_marks.specs.Parts.{has_tick, has_instant, meets}
-use Rattle.schedule_marks.specs.Marks.{until, until_of, last_instant, pending_in, release_in, deadline_in, end_at, end_in, step_in, refusal_in, wait_in, lock_by, lock_from, lock_in, present, locks_of, ceiling_by, ceilings_from, spans_of, marks_to, marks_of}
+use Rattle.schedule_marks.specs.Marks.{until, until_of, last_instant, pending_in, release_in, deadline_in, end_at, end_in, step_in, refusal_in, wait_in, lock_by, shows_lock, lock_until, lock_mark, lock_from, lock_in, locks_along, present, locks_of, ceiling_by, ceilings_from, spans_of, marks_to, marks_of}
 use Rattle.picture_laws.specs.Ceilings.{Drawn, drawn_of, ceilings_in, ticks_from}
+use Rattle.picture_laws.specs.Drawn.{if_within, lock_shown, wait_shown, job_shown}
 use Rattle.picture_laws.specs.Shown.{granted_of, refused_of, release_of, deadline_of, ending_of, granted_by, refused_by, released_by, due_by, ended_by, ended_as, ShowsEach}
 
 -- ---- lists that are picked from lists that were picked
@@ -32,7 +34,7 @@ picked_at : {A B : Type 0} (p : A → Option B) (o : Option A) (ms : List A) →
 picked_at p None ms = refl
 picked_at p (Some m) ms = refl
 
-picked : {A B C : Type 0} (p : B → Option C) (f : A → Option B) (xs : List A) → filter_map p (filter_map f xs) ≡ filter_map (λ x. option_and_then p (f x)) xs
+pub picked : {A B C : Type 0} (p : B → Option C) (f : A → Option B) (xs : List A) → filter_map p (filter_map f xs) ≡ filter_map (λ x. option_and_then p (f x)) xs
 picked p f [] = refl
 picked p f (x ∷ xs) = picked_at p (f x) (filter_map f xs) ∙ ap (λ l. cons_option (option_and_then p (f x)) l) (picked p f xs)
 
@@ -87,33 +89,45 @@ pub record NoSpan {X : Type 0} (p : Mark → Option X) : Type 0 where
   pub lock : (job : JobId) (item : ItemId) (is_write : Bool) (ceiling from to : ℕ) → p (mark.Lock job item is_write ceiling from to) ≡ None
   pub wait : (job by : JobId) (from to : ℕ) → p (mark.Wait job by from to) ≡ None
 
+pendings_none : {X : Type 0} (p : Mark → Option X) (part : Part) (stop : ℕ) (rows : List JobRow) → ((job : JobId) (from to : ℕ) → p (mark.Pending job from to) ≡ None) → filter_map p (filter_map (pending_in part stop) rows) ≡ []
+pendings_none p part stop rows none = none_picked p (pending_in part stop) rows (λ row. none_if p (meets part row.release (until stop row)) _ (none row.job row.release (until stop row)))
+
+waits_none : {X : Type 0} (p : Mark → Option X) (part : Part) (stop : ℕ) (shown : List JobRow) (entries : List Entry) → ((job by : JobId) (from to : ℕ) → p (mark.Wait job by from to) ≡ None) → filter_map p (filter_map (wait_in part stop shown) entries) ≡ []
+waits_none p part stop shown entries none = none_picked p (wait_in part stop shown) entries at where
+  at : (entry : Entry) → option_and_then p (wait_in part stop shown entry) ≡ None
+  at (Planned tx tick) = refl
+  at (Step job op outcome over tick) = refl
+  at (Blocked job op by ceiling tick) = none_if p _ _ (none job by tick _)
+  at (Idle from to) = refl
+
+module _ {X : Type 0} (p : Mark → Option X) (set : Set) (part : Part) (stop : ℕ) (shown : List JobRow) (none : (job : JobId) (item : ItemId) (is_write : Bool) (ceiling from to : ℕ) → p (mark.Lock job item is_write ceiling from to) ≡ None) where
+  lock_from_none : (to : ℕ) (before after : List Entry) (job : JobId) (tick : ℕ) (o : Option (ItemId × Bool)) → option_and_then p (lock_from set part to before after job tick o) ≡ None
+  lock_from_none to before after job tick None = refl
+  lock_from_none to before after job tick (Some l) = at (list_any (shows_lock job l.0 l.1) before) where
+    at : (b : Bool) → option_and_then p (cond b None (lock_mark set part job l.0 l.1 tick (lock_until job l.0 l.1 to after))) ≡ None
+    at true = refl
+    at false = none_if p (meets part tick (lock_until job l.0 l.1 to after)) _ (none job l.0 l.1 _ tick (lock_until job l.0 l.1 to after))
+
+  lock_none : (before after : List Entry) (entry : Entry) → option_and_then p (lock_in set part stop shown before after entry) ≡ None
+  lock_none before after (Planned tx tick) = refl
+  lock_none before after (Step job op outcome over tick) = lock_from_none (until_of stop shown job) before after job tick (lock_by op outcome)
+  lock_none before after (Blocked job op by ceiling tick) = refl
+  lock_none before after (Idle from to) = refl
+
+  locks_none : (before es : List Entry) → filter_map p (locks_along set part stop shown before es) ≡ []
+  locks_none before [] = refl
+  locks_none before (e ∷ es) =
+      picked_at p (lock_in set part stop shown before es e) (locks_along set part stop shown (before ++ e ∷ []) es)
+      ∙ (ap (λ o. cons_option o (filter_map p (locks_along set part stop shown (before ++ e ∷ []) es))) (lock_none before es e)
+      ∙ locks_none (before ++ e ∷ []) es)
+
 module _ {X : Type 0} (p : Mark → Option X) (set : Set) (part : Part) (stop : ℕ) (rows : List JobRow) (entries : List Entry) (none : NoSpan p) where
-  pending_none : (row : JobRow) → option_and_then p (pending_in part stop row) ≡ None
-  pending_none row = none_if p (meets part row.release (until stop row)) _ (none.pending row.job row.release (until stop row))
-
-  lock_from_none : (job : JobId) (from to : ℕ) (o : Option (ItemId × Bool)) → option_and_then p (lock_from set part job from to o) ≡ None
-  lock_from_none job from to None = refl
-  lock_from_none job from to (Some l) = none_if p (meets part from to) _ (none.lock job l.0 l.1 _ from to)
-
-  lock_none : (shown : List JobRow) (entry : Entry) → option_and_then p (lock_in set part stop shown entry) ≡ None
-  lock_none shown (Planned tx tick) = refl
-  lock_none shown (Step job op outcome over tick) = lock_from_none job tick (until_of stop shown job) (lock_by op outcome)
-  lock_none shown (Blocked job op by ceiling tick) = refl
-  lock_none shown (Idle from to) = refl
-
-  wait_none : (shown : List JobRow) (entry : Entry) → option_and_then p (wait_in part stop shown entry) ≡ None
-  wait_none shown (Planned tx tick) = refl
-  wait_none shown (Step job op outcome over tick) = refl
-  wait_none shown (Blocked job op by ceiling tick) = none_if p _ _ (none.wait job by tick _)
-  wait_none shown (Idle from to) = refl
-
   spans_picked : (ceilings : List X) → filter_map p (ceilings_from (locks_of set part stop rows entries) part.from (part.to - part.from)) ≡ ceilings
       → filter_map p (spans_of set part stop rows entries) ≡ ceilings
   spans_picked ceilings e =
-      joined p _ _ [] _ (none_picked p (pending_in part stop) rows pending_none)
-      (joined p _ _ [] _ (none_picked p (lock_in set part stop (present part stop rows)) entries (lock_none (present part stop rows)))
-      (joined p _ _ ceilings [] e
-      (none_picked p (wait_in part stop (present part stop rows)) entries (wait_none (present part stop rows)))))
+      joined p _ _ [] _ (pendings_none p part stop rows none.pending)
+      (joined p _ _ [] _ (locks_none p set part stop (present part stop rows) none.lock [] entries)
+      (joined p _ _ ceilings [] e (waits_none p part stop (present part stop rows) entries none.wait)))
       ∙ append-nil ceilings
 
   pub all_picked : (ceilings steps refusals releases deadlines ends : List X)
@@ -250,6 +264,74 @@ pub each_tick : (set : Set) (part : Part) (rows : List JobRow) (entries : List E
 each_tick set part rows entries =
     ap (map (λ d. d.tick)) (drawn_are set part rows entries)
     ∙ ticks_shown (locks_of set part (last_instant part.to entries) rows entries) (ticks_from part.from (part.to - part.from))
+
+-- ---- spans
+
+-- a span that shows something in a tick covers it
+pub record IsShownThen {A : Type 0} (tick from to : ℕ) (shown what : A) : Type 0 where
+  pub begins : from ≤ tick
+  pub lasts : tick < to
+  pub is : shown ≡ what
+
+pub shown_then : {A : Type 0} (tick from to : ℕ) (shown is : A) → if_within from to tick is ≡ Some shown → IsShownThen tick from to shown is
+shown_then tick from to shown is h = at (nat_le from tick && nat_lt tick to) refl h where
+  at : (b : Bool) → (nat_le from tick && nat_lt tick to) ≡ b → cond b (Some is) None ≡ Some shown → IsShownThen tick from to shown is
+  at true e k = let p = and_parts (nat_le from tick) (nat_lt tick to) e in record { begins = leb-true _ _ p.0; lasts = ltb-true _ _ p.1; is = cc }
+  at false e k = absurd cc
+
+pub shows_then : {A : Type 0} (tick from to : ℕ) (is : A) → from ≤ tick → tick < to → if_within from to tick is ≡ Some is
+shows_then tick from to is a b = ap (λ (c : Bool). cond c (Some is) None) (and_from _ _ (le-leb _ _ a) (lt-ltb _ _ b))
+
+-- nothing is picked of ceilings, nor of what happens at an instant
+pub record NoInstant {X : Type 0} (p : Mark → Option X) : Type 0 where
+  pub ceiling : (tick ceiling : ℕ) → p (mark.Ceiling tick ceiling) ≡ None
+  pub step : (job : JobId) (op : Op) (tick : ℕ) → p (mark.Step job op tick) ≡ None
+  pub refusal : (job : JobId) (op : Op) (by : JobId) (tick : ℕ) → p (mark.Refusal job op by tick) ≡ None
+  pub release : (job : JobId) (tick : ℕ) → p (mark.Release job tick) ≡ None
+  pub deadline : (job : JobId) (tick : ℕ) → p (mark.Deadline job tick) ≡ None
+  pub ended : (job : JobId) (end : End) (tick : ℕ) → p (mark.Ended job end tick) ≡ None
+
+module _ {X : Type 0} (p : Mark → Option X) (set : Set) (part : Part) (rows : List JobRow) (entries : List Entry) (none : NoInstant p) where
+  spans_left : (stop : ℕ) (jobs locks waits : List X) → filter_map p (filter_map (pending_in part stop) rows) ≡ jobs → filter_map p (locks_of set part stop rows entries) ≡ locks
+      → filter_map p (filter_map (wait_in part stop (present part stop rows)) entries) ≡ waits → filter_map p (marks_to set part stop rows entries) ≡ jobs ++ (locks ++ waits)
+  spans_left stop jobs locks waits a b c =
+      joined p (spans_of set part stop rows entries) _ (jobs ++ (locks ++ waits)) []
+      (joined p (filter_map (pending_in part stop) rows) _ jobs _ a
+      (joined p (locks_of set part stop rows entries) _ locks _ b
+      (joined p (ceilings_from (locks_of set part stop rows entries) part.from (part.to - part.from)) _ [] waits
+      (no_ceiling p (locks_of set part stop rows entries) part.from (part.to - part.from) none.ceiling) c)))
+      (joined p _ _ [] [] (no_step p part none.step entries)
+      (joined p _ _ [] [] (no_refusal p part none.refusal entries)
+      (joined p _ _ [] [] (no_release p part none.release rows)
+      (joined p _ _ [] [] (no_deadline p part set none.deadline rows) (no_end p part none.ended rows)))))
+      ∙ append-nil (jobs ++ (locks ++ waits))
+
+module _ (set : Set) (part : Part) (rows : List JobRow) (entries : List Entry) (tick : ℕ) where
+  abbrev last : ℕ
+  last = last_instant part.to entries
+
+  abbrev seen : List JobRow
+  seen = present part last rows
+
+  pub locks_are : filter_map (lock_shown tick) (marks_of set part rows entries) ≡ filter_map (lock_shown tick) (locks_of set part last rows entries)
+  locks_are =
+      let p = lock_shown tick in
+      spans_left p set part rows entries (record { ceiling = λ t c. refl; step = λ j o t. refl; refusal = λ j o b t. refl; release = λ j t. refl; deadline = λ j t. refl; ended = λ j e t. refl })
+      last [] _ [] (pendings_none p part last rows (λ j f t. refl)) refl (waits_none p part last seen entries (λ j b f t. refl))
+      ∙ append-nil _
+
+  pub waits_are : filter_map (wait_shown tick) (marks_of set part rows entries) ≡ filter_map (wait_shown tick) (filter_map (wait_in part last seen) entries)
+  waits_are =
+      let p = wait_shown tick in
+      spans_left p set part rows entries (record { ceiling = λ t c. refl; step = λ j o t. refl; refusal = λ j o b t. refl; release = λ j t. refl; deadline = λ j t. refl; ended = λ j e t. refl })
+      last [] [] _ (pendings_none p part last rows (λ j f t. refl)) (locks_none p set part last seen (λ j i w c f t. refl) [] entries) refl
+
+  pub jobs_are : filter_map (job_shown tick) (marks_of set part rows entries) ≡ filter_map (job_shown tick) (filter_map (pending_in part last) rows)
+  jobs_are =
+      let p = job_shown tick in
+      spans_left p set part rows entries (record { ceiling = λ t c. refl; step = λ j o t. refl; refusal = λ j o b t. refl; release = λ j t. refl; deadline = λ j t. refl; ended = λ j e t. refl })
+      last _ [] [] refl (locks_none p set part last seen (λ j i w c f t. refl) [] entries) (waits_none p part last seen entries (λ j b f t. refl))
+      ∙ append-nil _
 
 -- ---- the ends of the state
 

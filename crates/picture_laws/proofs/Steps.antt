@@ -137,7 +137,7 @@ noted_on items work (op ∷ ops) i b h = noted_on items (work_after items work o
 
 -- ---- the entries of a job
 
-same_as_self : (a b : JobId) → a ≡ b → same_job a b ≡ true
+pub same_as_self : (a b : JobId) → a ≡ b → same_job a b ≡ true
 same_as_self a b e = ap (λ (k : JobId). same_job a k) (sym e) ∙ and_from _ _ (eq-eqb a.tx.0 a.tx.0 refl) (eq-eqb a.serial a.serial refl)
 
 -- an operation and its outcome, where they are the job's

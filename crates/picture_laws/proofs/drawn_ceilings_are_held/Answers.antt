@@ -1,5 +1,5 @@
 use Rattle.picture_laws.proofs.Shown.{each_tick}
-use Rattle.picture_laws.proofs.Held.{drawn_ceilings_are_held, nothing_later}
+use Rattle.picture_laws.proofs.Drawn.{drawn_ceilings_are_held, nothing_later}
 use Rattle.picture_laws.proofs.drawn_ceilings_are_held.Goals as goal
 
 pub returns-clause-each : goal.returns-clause-each
