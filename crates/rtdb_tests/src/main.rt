@@ -1,5 +1,5 @@
 //! Runs the cases of the files in `data/`, and prints a line for each: `ok` and its name, or what was answered in place of
-//! what is wanted. docs/CASES.md says what the lines of a case mean. Then it runs BASE over journals in memory: new ones, such
+//! what is wanted. bench/INPUTS.md says what the lines of a case mean. Then it runs BASE over journals in memory: new ones, such
 //! as were there already, such as were stopped at a call of the disk once and twice, and such as are bad.
 #![tactic(auto)]
 
@@ -23,13 +23,14 @@ use std::thread::Threads;
 use std::{fs, io};
 
 // The files of cases, in the order in which they are run.
-const FILES: [&str; 8] = [
+const FILES: [&str; 9] = [
     "words.cases",
     "texts.cases",
     "sets.cases",
     "runs.cases",
     "reports.cases",
     "pictures.cases",
+    "tools.cases",
     "faults.cases",
     "long.cases",
 ];

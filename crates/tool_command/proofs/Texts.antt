@@ -2,7 +2,7 @@
 use Rattle.std.proofs.Common.{◌≡◌, ℕ, ◌+◌, Option, sym, ap, ◌∙◌}
 use Rattle.set_admission.specs.declared.error.AdmitError.{AdmitError}
 use Rattle.txn_set.specs.Set.{Set, txn_of}
-use Rattle.txn_slack.specs.declared.slack.Slack.{Slack}
+use Rattle.txn_slack.specs.declared.limits.Slack.{Slack}
 use Rattle.txn_slack.specs.Steps.{barrier_within}
 use Rattle.txn_slack.specs.Slacks.{IsSlack}
 use Rattle.tool_command.specs.Slacks.{slack_at}

@@ -7,8 +7,8 @@ use Rattle.txn_compiler.specs.Refusal.{compile_refusal}
 use Rattle.set_admission.specs.declared.error.AdmitError.{AdmitError}
 use Rattle.set_admission.specs.Admission.{refusal}
 use Rattle.scenario.specs.Shown.{Shown, set_of}
-use Rattle.txn_slack.specs.declared.slack.Slack.{Slack}
-use Rattle.txn_slack.specs.declared.spare.Spare.{Spare}
+use Rattle.txn_slack.specs.declared.limits.Slack.{Slack}
+use Rattle.txn_slack.specs.declared.limits.Spare.{Spare}
 use Rattle.txn_slack.specs.Steps.{barrier_within}
 use Rattle.txn_slack.specs.Slacks.{most_steps}
 use Rattle.txn_slack.specs.Spares.{spare_of}

@@ -1,5 +1,5 @@
 -- Which counts of a transaction's steps are accepted.
-use Rattle.std.proofs.Common.{◌≡◌, ℕ, ◌<◌, ◌≤◌, List, map, length, set, Option, None, refl, sym, ◌∙◌, ap, subst, arith, omega}
+use Rattle.std.proofs.Common.{◌≡◌, ℕ, ◌<◌, ◌≤◌, List, map, length, set, Option, None, refl, sym, ◌∙◌, ap, subst, arith}
 use Rattle.std.specs.List.{All}
 use Rattle.std.proofs.lemmas.List.{set-get_or}
 use Rattle.std.proofs.lemmas.List.Elements.{All-set}
@@ -23,7 +23,7 @@ same_at_own s tx inside = ap (λ (ts : List TxnDecl). record s { txns = ts }) (s
 
 good_count : (s : Set) (tx k : ℕ) → IsCompiled s → IsCount s tx k → HasGoodTimes (stepped (txn_of s tx) k)
 good_count s tx k ok is =
-    let h = ok.times tx no_txn is.tx in
+    let h = ok.times tx no_txn is.there in
     record { prio = h.prio; steps = (omega (arith, is.quiet), is.range); period = h.period; deadline = h.deadline; offset = h.offset; quiet = is.quiet }
 
 pub lists_with : (s : Set) (tx k : ℕ) → IsCompiled s → tx < length s.txns → AreLists (with_steps s tx k)
@@ -31,7 +31,7 @@ lists_with s tx k ok inside = subst AreLists (sym (as_counted s tx k ok inside))
 
 pub compiled_at_counts : CompiledAtCounts
 compiled_at_counts s tx k ok is =
-    let same = as_counted s tx k ok is.tx in
+    let same = as_counted s tx k ok is.there in
     let good : All HasGoodTimes (with_steps s tx k).txns = All-set HasGoodTimes s.txns tx (stepped (txn_of s tx) k) (good_count s tx k ok is) ok.times in
     subst IsCompiled (sym same) (compiled_counted (counts_at s tx k) s ok (subst (λ (t : Set). All HasGoodTimes t.txns) same good))
 
@@ -51,8 +51,8 @@ meets_at s tx k ok inside h =
 
 pub accepted_falls_once : AcceptedFallsOnce
 accepted_falls_once s tx k j ok is le h =
-    let kept = keeps_admitted (counts_at s tx j) (counts_at s tx k) (are_fewer s tx j k le) s (meets_at s tx k ok is.tx h) in
-    let meets : MeetsAdmission (with_steps s tx j) = subst MeetsAdmission (sym (as_counted s tx j ok is.tx)) kept.admitted in
+    let kept = keeps_admitted (counts_at s tx j) (counts_at s tx k) (are_fewer s tx j k le) s (meets_at s tx k ok is.there h) in
+    let meets : MeetsAdmission (with_steps s tx j) = subst MeetsAdmission (sym (as_counted s tx j ok is.there)) kept.admitted in
     let compiled = compiled_at_counts s tx j ok is in
     let d = decided (with_steps s tx j) compiled in
     record { compiled = compiled; admitted = d.by_rule.0 (d.by_found.1 meets) }

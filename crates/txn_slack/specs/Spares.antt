@@ -8,7 +8,7 @@ use Rattle.item_model.specs.Kinds.{validity_of}
 use Rattle.txn_set.specs.declared.decl.TxnDecl.{TxnDecl}
 use Rattle.txn_set.specs.Set.{Set, may_read}
 use Rattle.set_admission.specs.Bounds.{age_of}
-use Rattle.txn_slack.specs.declared.spare.Spare.{Spare}
+use Rattle.txn_slack.specs.declared.limits.Spare.{Spare}
 
 -- an item with another validity; a state item has none
 abbrev pub kind_with : ItemKind → ℕ → ItemKind

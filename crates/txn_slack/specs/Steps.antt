@@ -20,7 +20,7 @@ pub record IsAccepted (set : Set) (tx count : ℕ) : Type 0 where
 
 -- a transaction of the set, and a count of its steps that is within their range and has room for its quiet steps
 pub record IsCount (set : Set) (tx count : ℕ) : Type 0 where
-  pub tx : tx < length set.txns
+  pub there : tx < length set.txns
   pub quiet : (txn_of set tx).quiet < count
   pub range : count ≤ 10000
 

@@ -2,11 +2,12 @@
 ghost use Rattle.std.specs.Prelude.{◌≡◌, ◌+◌, ◌<◌, ◌≤◌, length, None, IfOk};
 ghost use Rattle.txn_set.specs.Set.{IsCompiled};
 ghost use Rattle.txn_compiler.specs.Refusal.{Refuses as RefusesSet};
+ghost use Rattle.set_admission.specs.Admission.{refusal};
 ghost use Rattle.txn_slack.specs.Steps.{IsCount, with_steps as with_steps_of, barrier_at};
 ghost use Rattle.txn_slack.specs.Slacks.{IsSlack, IsBetween};
 
 use crate::declared::{copies_of_sets, txns_with};
-use crate::slack::Slack;
+use crate::limits::Slack;
 use rt_base::{OutOfMemory, Steps, TxId};
 use set_admission::{AdmitError, AdmittedSet, admit};
 use std::alloc::Global;
@@ -46,7 +47,20 @@ fn with_steps(
     }
 }
 
+// Why a set is not admitted.
+fn why_refused(alloc: Global, set: CompiledSet) -> Result<Option<AdmitError>, OutOfMemory>
+    ensures { IfOk result (λ why. why ≡ refusal set) }
+{
+    set.is_compiled();
+    match admit(alloc, set) {
+        Ok(_) => Ok(None),
+        Err((_, AdmitError::OutOfMemory)) => Err(OutOfMemory),
+        Err((_, error)) => Ok(Some(error)),
+    }
+}
+
 // What bars so many steps of a transaction. One look.
+#[tactic(auto, unfolding(crate::specs::Steps::barrier_at))]
 fn barrier<L: Ledger>(
     alloc: Global,
     set: &CompiledSet,
@@ -60,12 +74,7 @@ fn barrier<L: Ledger>(
 {
     steps.look();
     let tried = with_steps(alloc, set, tx, count)?;
-    tried.is_compiled();
-    match admit(alloc, tried) {
-        Ok(_) => Ok(None),
-        Err((_, AdmitError::OutOfMemory)) => Err(OutOfMemory),
-        Err((_, error)) => Ok(Some(error)),
-    }
+    why_refused(alloc, tried)
 }
 
 // What was found among the counts, when so many more are not yet decided: the half of them is left. One look at the most.

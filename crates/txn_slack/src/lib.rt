@@ -5,12 +5,12 @@ ghost use Rattle.txn_slack.specs.Laws.{SameAtOwn, CompiledAtCounts, AcceptedUnle
 
 mod declared;
 mod halving;
-mod slack;
-mod spare;
+mod limits;
+mod reading;
 
 pub use halving::slack;
-pub use slack::Slack;
-pub use spare::{Spare, spare};
+pub use limits::{Slack, Spare};
+pub use reading::spare;
 
 /// With its own steps of a transaction a set is as it was.
 pub fn same_at_own()

@@ -2,18 +2,11 @@
 ghost use Rattle.std.specs.Prelude.{◌≡◌, ◌<◌, length};
 ghost use Rattle.txn_slack.specs.Spares.{is_read as is_read_by, spare_of};
 
+use crate::limits::Spare;
 use item_model::validity;
-use rt_base::{ItemId, Tick};
+use rt_base::ItemId;
 use set_admission::AdmittedSet;
 use txn_set::{TxnDecl, names_item};
-
-/// The validity of an item that somebody reads, and its age bound, to which the validity may fall if all else stays. Both are
-/// in ticks.
-#[derive(Clone, Copy, PartialEq, Eq, Debug)]
-pub struct Spare {
-    pub validity: Tick,
-    pub age: Tick,
-}
 
 // Whether some transaction may read an item, by a scan of what they read.
 fn is_read(txns: &[TxnDecl], item: ItemId) -> bool
