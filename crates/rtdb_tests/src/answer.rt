@@ -9,6 +9,7 @@ use std::sync::Wait;
 use std::sync::atomic::AtomicU64;
 use std::sync::atomic::Ordering::SeqCst;
 use std::thread::Threads;
+use tool_command::rtdb_tool;
 use txn_threads::Gate;
 
 // How often the scripts were asked.
@@ -49,6 +50,8 @@ fn call<R: Threads + Wait + Sync>(
 ) -> Status {
     if case.picture {
         draw_report(alloc, &case.words, source, sink)
+    } else if case.tool {
+        rtdb_tool(alloc, &case.words, source, sink)
     } else if case.plain {
         rtdb_plain(alloc, &case.words, source, sink)
     } else {

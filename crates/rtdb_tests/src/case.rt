@@ -25,6 +25,8 @@ pub struct Case {
     pub plain: bool,
     /// Whether the program that draws is called.
     pub picture: bool,
+    /// Whether the companion program is called.
+    pub tool: bool,
     /// What was said last, in this case or the one before.
     pub said: Vec<u8>,
     /// How often scripts were asked for that.
@@ -47,6 +49,7 @@ impl Case {
             room: ROOM,
             plain: false,
             picture: false,
+            tool: false,
             said: Vec::new(alloc),
             asked: 0,
         }
@@ -63,6 +66,7 @@ impl Case {
         self.room = ROOM;
         self.plain = false;
         self.picture = false;
+        self.tool = false;
         Some(())
     }
 

@@ -73,6 +73,7 @@ fn tune(alloc: Global, case: &mut Case, key: &str, number: u32) -> Option<()> {
     match key {
         "plain" => case.plain = number == 1,
         "picture" => case.picture = number == 1,
+        "tool" => case.tool = number == 1,
         "piece" => case.piece = number as usize,
         "room" => case.room = number as usize,
         "read-fault" => case.read_faults = vec![in alloc; number as u64].ok()?,

@@ -1,6 +1,6 @@
 //! Runs the cases of the files in `data/`, and prints a line for each: `ok` and its name, or what was answered in place of
-//! what is wanted. docs/CASES.md says what the lines of a case mean. Then it runs BASE over journals in memory: new ones, such
-//! as were there already, such as were stopped at a call of the disk once and twice, and such as are bad.
+//! what is wanted. bench/INPUTS.md says what the lines of a case mean. Then it runs BASE over journals in memory: new ones,
+//! such as were there already, such as were stopped at a call of the disk once and twice, and such as are bad.
 #![tactic(auto)]
 
 mod answer;

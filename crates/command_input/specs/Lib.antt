@@ -1,0 +1,4 @@
+pub mod Taken
+pub mod Scenarios
+pub mod Reports
+pub mod Answers

@@ -1,0 +1,8 @@
+//! What a command reads of its source: a scenario, or a legal report; else the reply that says why there is none.
+#![tactic(auto)]
+
+mod report;
+mod scenario;
+
+pub use report::report_from;
+pub use scenario::{SCENARIO_LIMIT, scenario_from};

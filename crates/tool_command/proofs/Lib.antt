@@ -1,0 +1,6 @@
+pub mod Lines
+pub mod Enters
+pub mod Words
+pub mod Texts
+pub mod Replying
+pub mod Due

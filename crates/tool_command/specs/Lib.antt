@@ -1,0 +1,5 @@
+pub mod Commands
+pub mod Shape
+pub mod Asking
+pub mod Slacks
+pub mod Answers

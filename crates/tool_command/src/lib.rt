@@ -1,0 +1,15 @@
+//! What rtdb-tool answers: from words, a source of bytes and a sink to a status.
+#![tactic(auto)]
+
+mod asked;
+mod command;
+mod line;
+mod slack_lines;
+mod slacks;
+mod top;
+
+pub use asked::read_command;
+pub use command::ToolCommand;
+pub use command_replies::Status;
+pub use command_words::Word;
+pub use top::rtdb_tool;

@@ -1,0 +1,54 @@
+//! The reply of `slack` to a scenario.
+ghost use Rattle.std.specs.Prelude.{◌≡◌, IfOk};
+ghost use Rattle.scenario.specs.Shown.{shown};
+ghost use Rattle.scenario.specs.Scenarios.{IsScenario};
+ghost use Rattle.tool_command.specs.Slacks.{slack_text as text_of, SlackReply};
+
+use crate::slack_lines::slack_text;
+use command_replies::{Reply, admitted, compiled, refused_admission, refused_set, written};
+use rt_base::{Names, OutOfMemory, Steps};
+use scenario::Scenario;
+use set_admission::AdmittedSet;
+use std::alloc::Global;
+use std::marker::Brand;
+use std::sync::ledger::{Blank, Ledger};
+
+// The text of a set. The looks of the searches are counted by a counter of its own.
+fn text<L: Ledger>(
+    alloc: Global,
+    names: &Names,
+    set: &AdmittedSet,
+    blank: Blank,
+) -> Result<Vec<u8>, OutOfMemory>
+    requires name { blank.name ≡ L.name }
+    requires parts { blank.parts ≡ L.parts }
+    requires one_part { blank.parts ≡ 1 }
+    ensures { IfOk result (λ text. text.items ≡ text_of names.now set.now) }
+{
+    let mut steps = Steps::<L>::start(blank);
+    slack_text(alloc, names, set, &mut steps)
+}
+
+/// The reply of `slack` to a scenario.
+pub fn slacks(alloc: Global, scenario: Scenario) -> Result<Reply, OutOfMemory>
+    requires { IsScenario (shown scenario) }
+    ensures { IfOk result (λ r. SlackReply (shown scenario) r.status r.text.items) }
+{
+    let Scenario {
+        names,
+        items,
+        txns,
+        together,
+        scripts: _,
+        releases: _,
+        room: _,
+    } = scenario;
+    let set = match compiled(alloc, items, txns, together)? {
+        Ok(set) => set,
+        Err(error) => return refused_set(alloc, &names, error),
+    };
+    match admitted(alloc, set)? {
+        Ok(set) => Ok(written(text::<Brand>(alloc, &names, &set, Blank::new(1))?)),
+        Err(error) => refused_admission(alloc, &names, error),
+    }
+}

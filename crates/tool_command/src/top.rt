@@ -1,0 +1,100 @@
+//! The top call.
+ghost use Rattle.std.specs.Prelude.{◌≡◌, ◌⊎◌, ℕ, List as Many, Option as Maybe, IfOk, Some, None};
+ghost use Rattle.io_edge.specs.Causes.{Rose};
+ghost use Rattle.command_replies.specs.Causes.{HasReadCause, HasWriteCause, HasSourceCause};
+ghost use Rattle.tool_command.specs.Commands.{command_of};
+ghost use Rattle.tool_command.specs.Answers.{IsAnswer, Answers, IsDue};
+
+use crate::asked::read_command;
+use crate::command::ToolCommand;
+use crate::slacks::slacks;
+use command_input::scenario_from;
+use command_replies::{Reply, Status, Unanswered};
+use command_words::Word;
+use io_edge::{Sink, Source, write_all};
+use rt_base::OutOfMemory;
+use std::alloc::Global;
+
+const USAGE: &[u8] = b"usage: rtdb-tool slack\n";
+
+fn ask_slacks<S: Source>(alloc: Global, source: &mut S) -> Result<Reply, Unanswered>
+    ensures said { IfOk result (λ r. IsAnswer (Some ToolCommand.Slack) (S.left source.old) (S.left source.new) r.status r.text.items) }
+    ensures read { HasSourceCause (S.faults source.old) (S.faults source.new) result }
+{
+    match scenario_from(alloc, source)? {
+        Ok(scenario) => Ok(slacks(alloc, scenario)?),
+        Err(reply) => Ok(reply),
+    }
+}
+
+// The reply of a command to what it reads.
+fn reply_to<S: Source>(
+    alloc: Global,
+    command: ToolCommand,
+    source: &mut S,
+) -> Result<Reply, Unanswered>
+    ensures said { IfOk result (λ r. IsAnswer (Some command) (S.left source.old) (S.left source.new) r.status r.text.items) }
+    ensures read { HasSourceCause (S.faults source.old) (S.faults source.new) result }
+{
+    match command {
+        ToolCommand::Slack => ask_slacks(alloc, source),
+    }
+}
+
+fn answer<S: Source, K: Sink>(
+    alloc: Global,
+    command: ToolCommand,
+    source: &mut S,
+    sink: &mut K,
+) -> Status
+    ensures answer { Answers (Some command) (S.left source.old) (S.left source.new) (K.taken sink.old) (K.taken sink.new) result }
+    ensures read { HasReadCause (S.faults source.old) (S.faults source.new) result }
+    ensures write { HasWriteCause (K.faults sink.old) (K.faults sink.new) result }
+{
+    match reply_to(alloc, command, source) {
+        Ok(reply) => match write_all(sink, &reply.text) {
+            Ok(()) => reply.status,
+            Err(_) => Status::WriteFault,
+        },
+        Err(Unanswered::Reading) => Status::ReadFault,
+        Err(Unanswered::Memory) => Status::OutOfMemory,
+    }
+}
+
+fn answer_usage<K: Sink>(sink: &mut K) -> Status
+    ensures answer { (left : Maybe (Many ℕ)) → Answers None left left (K.taken sink.old) (K.taken sink.new) result }
+    ensures read { result ≡ Status.ReadFault → ⊥ }
+    ensures write { HasWriteCause (K.faults sink.old) (K.faults sink.new) result }
+{
+    match write_all(sink, USAGE) {
+        Ok(()) => Status::Usage,
+        Err(_) => Status::WriteFault,
+    }
+}
+
+/// Does what the words say, from the source to the sink. The words are looked at first, then the source is read, then its
+/// bytes are judged, then the text is written, as one piece. It always returns.
+pub fn rtdb_tool<S: Source, K: Sink>(
+    alloc: Global,
+    words: &[Word],
+    source: &mut S,
+    sink: &mut K,
+) -> Status
+    // Which status, and what is written.
+    ensures answer { Answers (command_of words.now) (S.left source.old) (S.left source.new) (K.taken sink.old) (K.taken sink.new) result }
+    // No fault is told unless there was one.
+    ensures read { HasReadCause (S.faults source.old) (S.faults source.new) result }
+    ensures write { HasWriteCause (K.faults sink.old) (K.faults sink.new) result }
+    // Without a command nothing is read, whatever the status is.
+    ensures unread { command_of words.now ≡ None → source.new ≡ source.old }
+    // The status that is due is answered, unless memory runs out.
+    ensures complete { (due : Status) → IsDue (command_of words.now) (S.left source.old) due
+        → ¬ Rose (S.faults source.old) (S.faults source.new) → ¬ Rose (K.faults sink.old) (K.faults sink.new)
+        → (result ≡ due) ⊎ (result ≡ Status.OutOfMemory) }
+{
+    match read_command(alloc, words) {
+        Ok(Some(command)) => answer(alloc, command, source, sink),
+        Ok(None) => answer_usage(sink),
+        Err(OutOfMemory) => Status::OutOfMemory,
+    }
+}

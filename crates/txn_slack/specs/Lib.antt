@@ -1,0 +1,4 @@
+pub mod Steps
+pub mod Slacks
+pub mod Spares
+pub mod Laws
