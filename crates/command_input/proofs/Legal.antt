@@ -1,5 +1,5 @@
 -- What a legal report is, and what is read of it.
-use Rattle.std.proofs.Common.{◌≡◌, ℕ, Bool, true, false, List, Option, Some, None, Result, Ok, Err, refl, sym, ap, subst, ◌∙◌}
+use Rattle.std.proofs.Common.{◌≡◌, ℕ, true, List, Result, Ok, Err, refl, sym, subst, ◌∙◌}
 use Rattle.report_head.specs.IsHead.{IsHead}
 use Rattle.report_reader.specs.declared.document.Document.{Document}
 use Rattle.report_reader.specs.declared.document.DocumentError.{DocumentError}

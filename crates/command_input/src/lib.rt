@@ -2,7 +2,7 @@
 #![tactic(auto)]
 
 mod report;
-mod scenario;
+mod scenarios;
 
 pub use report::report_from;
-pub use scenario::{SCENARIO_LIMIT, scenario_from};
+pub use scenarios::{SCENARIO_LIMIT, scenario_from};

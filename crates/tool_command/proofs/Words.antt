@@ -1,5 +1,5 @@
 -- What clap says of the word that it is asked about is what the definition says.
-use Rattle.std.proofs.Common.{◌≡◌, ◌∙◌, ◌==◌, Bool, true, false, not, List, [], ◌∷◌, Option, Some, None, refl, sym, ap, subst, codes, true≢false}
+use Rattle.std.proofs.Common.{◌≡◌, ◌∙◌, ◌==◌, Bool, true, false, not, List, [], ◌∷◌, Option, Some, None, refl, sym, ap, subst, codes, true≢false, if◌then◌else◌}
 use Rattle.std.specs.Str.{bytes_eq}
 use Rattle.std.proofs.lemmas.Bool.{eqb-true}
 use Rattle.std.proofs.lemmas.Slice.Eq.{bytes_eq-Decides}
@@ -41,8 +41,7 @@ flipped a b e = go (bytes_eq b a) refl
 -- by the name
 
 abbrev chosen : Bool → Option ToolCommand
-chosen true = Some Slack
-chosen false = None
+chosen slack = if slack then Some Slack else None
 
 by_name : (name : Text) → is_name name ≡ true → (slack : Bool) → bytes_eq name (codes "slack") ≡ slack → reply (name ∷ []) ≡ chosen slack
 by_name name first true is = ap (λ n. reply (n ∷ [])) (same name (codes "slack") is) ∙ slack_reply

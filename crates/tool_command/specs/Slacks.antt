@@ -20,12 +20,15 @@ abbrev pub barrier_text : Names → Option AdmitError → List ℕ
 barrier_text names None = codes "-"
 barrier_text names (Some error) = admit_cause names error
 
--- a transaction with its steps and the most of them, and then what bars one more
+-- a transaction with its steps and the most of them, and what bars one more
+abbrev pub slack_line : Names → ℕ → Slack → List ℕ
+slack_line names tx slack = codes "slack" ++ txn names (record { 0 = tx }) ++ number slack.steps ++ number slack.most ++ codes "\n"
+
+abbrev pub barrier_line : Names → ℕ → Slack → List ℕ
+barrier_line names tx slack = codes "barrier" ++ txn names (record { 0 = tx }) ++ word (barrier_text names slack.barrier) ++ codes "\n"
+
 abbrev pub slack_lines : Names → ℕ → Slack → List ℕ
-slack_lines names tx slack =
-    codes "slack" ++ txn names (record { 0 = tx }) ++ number slack.steps ++ number slack.most ++ codes "\n" ++ codes "barrier" ++ txn names (record { 0 = tx })
-    ++ word (barrier_text names slack.barrier)
-    ++ codes "\n"
+slack_lines names tx slack = slack_line names tx slack ++ barrier_line names tx slack
 
 -- an item with its validity and its age bound
 abbrev pub spare_line : Names → ℕ → Option Spare → List ℕ

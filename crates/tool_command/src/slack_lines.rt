@@ -2,7 +2,7 @@
 ghost use Rattle.std.specs.Prelude.{◌≡◌, ◌<◌, ◌++◌, length, IfOk, OnOk};
 ghost use Rattle.refusal_lines.specs.Causes.{item as item_word};
 ghost use Rattle.txn_slack.specs.Spares.{spare_of};
-ghost use Rattle.tool_command.specs.Slacks.{barrier_text, slack_at, slack_lines as lines_of_slack, slack_text as text_of, slacks_of, spare_line, spares_of};
+ghost use Rattle.tool_command.specs.Slacks.{barrier_line, barrier_text, slack_at, slack_line, slack_lines as lines_of_slack, slack_text as text_of, slacks_of, spare_line, spares_of};
 
 use refusal_lines::{put_admit_cause, put_number, put_txn};
 use rt_base::{ItemId, Names, OutOfMemory, Steps, TxId};
@@ -39,14 +39,31 @@ fn put_barrier(
     }
 }
 
-fn put_slack(out: &mut Vec<u8>, names: &Names, tx: TxId, slack: Slack) -> Result<(), OutOfMemory>
-    ensures { OnOk result (out.new.items ≡ out.old.items ++ lines_of_slack names.now tx.0 slack) }
+fn put_slack_line(
+    out: &mut Vec<u8>,
+    names: &Names,
+    tx: TxId,
+    slack: Slack,
+) -> Result<(), OutOfMemory>
+    ensures { OnOk result (out.new.items ≡ out.old.items ++ slack_line names.now tx.0 slack) }
 {
     out.extend_from_slice(b"slack")?;
     put_txn(out, names, tx)?;
     put_number(out, slack.steps)?;
     put_number(out, slack.most)?;
-    out.extend_from_slice(b"\nbarrier")?;
+    out.extend_from_slice(b"\n")?;
+    Ok(())
+}
+
+fn put_barrier_line(
+    out: &mut Vec<u8>,
+    names: &Names,
+    tx: TxId,
+    slack: Slack,
+) -> Result<(), OutOfMemory>
+    ensures { OnOk result (out.new.items ≡ out.old.items ++ barrier_line names.now tx.0 slack) }
+{
+    out.extend_from_slice(b"barrier")?;
     put_txn(out, names, tx)?;
     out.extend_from_slice(b" ")?;
     put_barrier(out, names, slack.barrier)?;
@@ -86,7 +103,8 @@ fn put_slack_of<L: Ledger>(
     ensures { OnOk result (out.new.items ≡ out.old.items ++ lines_of_slack names.now tx.0 (slack_at set.now tx.0)) }
 {
     let slack = slack(alloc, set, tx, steps)?;
-    put_slack(out, names, tx, slack)
+    put_slack_line(out, names, tx, slack)?;
+    put_barrier_line(out, names, tx, slack)
 }
 
 fn put_slacks<L: Ledger>(

@@ -1,5 +1,5 @@
 -- Which counts of a transaction's steps are accepted.
-use Rattle.std.proofs.Common.{◌≡◌, ℕ, ◌<◌, ◌≤◌, List, map, length, set, Option, None, refl, sym, ◌∙◌, ap, subst, arith}
+use Rattle.std.proofs.Common.{◌≡◌, ℕ, ◌<◌, ◌≤◌, List, length, None, sym, ap, subst, arith}
 use Rattle.std.specs.List.{All}
 use Rattle.std.proofs.lemmas.List.{set-get_or}
 use Rattle.std.proofs.lemmas.List.Elements.{All-set}
@@ -7,7 +7,6 @@ use Rattle.txn_set.specs.declared.decl.TxnDecl.{TxnDecl}
 use Rattle.txn_set.specs.Set.{Set, no_txn, txn_of, HasGoodTimes, IsCompiled}
 use Rattle.txn_compiler.specs.Kept.{AreLists}
 use Rattle.set_admission.specs.Bounds.{MeetsAdmission}
-use Rattle.set_admission.specs.Admission.{refusal}
 use Rattle.set_admission.proofs.Admitted.{decided}
 use Rattle.scale_margin.specs.Scaled.{counted}
 use Rattle.scale_margin.proofs.Compiles.{lists_counted, compiled_counted}

@@ -1,5 +1,5 @@
 -- The search by halves finds the slack.
-use Rattle.std.proofs.Common.{◌≡◌, ℕ, zero, suc, ◌+◌, ◌-◌, ◌*◌, ◌%◌, ◌^◌, ◌<◌, ◌≤◌, Bool, true, false, cond, Option, None, Some, is_none, refl, sym, ◌∙◌, ap, subst, ⊎_elim, arith, pow_pos, pow_mono, length}
+use Rattle.std.proofs.Common.{◌≡◌, ℕ, zero, suc, ◌+◌, ◌-◌, ◌*◌, ◌%◌, ◌^◌, ◌<◌, ◌≤◌, true, false, Option, None, Some, is_none, refl, sym, ◌∙◌, ap, subst, ⊎_elim, arith, pow_pos, pow_mono, length}
 use Rattle.std.proofs.Math.Pow.{shl_exact}
 use Rattle.std.proofs.lemmas.Bool.{cases_lt, le-leb, lt-leb}
 use Rattle.set_admission.specs.declared.error.AdmitError.{AdmitError}
@@ -8,7 +8,7 @@ use Rattle.set_admission.specs.Admission.{refusal}
 use Rattle.set_admission.proofs.Admitted.{decided}
 use Rattle.txn_set.specs.Set.{Set, no_txn, txn_of, IsCompiled}
 use Rattle.txn_slack.specs.declared.limits.Slack.{Slack}
-use Rattle.txn_slack.specs.Steps.{with_steps, IsAccepted, IsCount, barrier_at, barrier_within}
+use Rattle.txn_slack.specs.Steps.{IsCount, barrier_at, barrier_within}
 use Rattle.txn_slack.specs.Slacks.{most_from, most_steps, IsSlack, IsBetween}
 use Rattle.txn_slack.proofs.Counts.{same_at_own, accepted_unless_barred, barred_rises}
 

@@ -1,5 +1,5 @@
 -- The slack of a transaction: up to how many steps it alone may grow, by trying each count, and what bars the next.
-use Rattle.std.specs.Prelude.{◌≡◌, ◌↔◌, ℕ, zero, suc, ◌+◌, ◌-◌, ◌≤◌, if◌then◌else◌, Option, None, is_none}
+use Rattle.std.specs.Prelude.{◌≡◌, ◌↔◌, ℕ, zero, suc, ◌+◌, ◌-◌, ◌≤◌, if◌then◌else◌, None, is_none}
 use Rattle.txn_set.specs.Set.{Set, txn_of}
 use Rattle.txn_slack.specs.declared.limits.Slack.{Slack}
 use Rattle.txn_slack.specs.Steps.{IsAccepted, barrier_at, barrier_within}

@@ -1,5 +1,5 @@
 -- How far the validity of an item may fall: to its age bound, if somebody reads it.
-use Rattle.std.specs.Prelude.{ℕ, Bool, List, Option, Some, None, option_map, pos, slice_index_or, slice_set, if◌then◌else◌}
+use Rattle.std.specs.Prelude.{ℕ, Bool, List, Option, None, option_map, pos, slice_index_or, slice_set, if◌then◌else◌}
 use Rattle.std.specs.List.{list_any}
 use Rattle.item_model.specs.declared.decl.ItemDecl.{ItemDecl}
 use Rattle.item_model.specs.declared.decl.ItemKind.{ItemKind}

@@ -1,5 +1,5 @@
 -- A set in which one transaction has other steps.
-use Rattle.std.specs.Prelude.{◌≡◌, ℕ, ◌<◌, ◌≤◌, nat_le, if◌then◌else◌, length, slice_set, Option, None}
+use Rattle.std.specs.Prelude.{ℕ, ◌<◌, ◌≤◌, nat_le, if◌then◌else◌, length, slice_set, Option, None}
 use Rattle.txn_set.specs.declared.decl.TxnDecl.{TxnDecl}
 use Rattle.txn_set.specs.Set.{Set, txn_of, IsCompiled}
 use Rattle.fresh_laws.specs.Ages.{IsAdmitted}

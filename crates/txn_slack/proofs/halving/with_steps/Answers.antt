@@ -1,4 +1,4 @@
-use Rattle.std.proofs.Common.{◌∙◌, sym, ap, subst}
+use Rattle.std.proofs.Common.{◌∙◌, subst}
 use Rattle.txn_compiler.specs.Refusal.{Refuses}
 use Rattle.txn_slack.proofs.Looks.{declared, in_range, kept_is, no_refusal}
 use Rattle.txn_slack.proofs.halving.with_steps.Goals as goal
