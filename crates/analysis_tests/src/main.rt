@@ -4,6 +4,7 @@
 
 mod ladders;
 mod margins;
+mod priorities;
 mod responses;
 mod texts;
 mod words;
@@ -11,6 +12,7 @@ mod words;
 use item_model::{ItemDecl, ItemKind};
 use ladders::ages_text;
 use margins::margin_text;
+use priorities::priorities_text;
 use responses::responses_text;
 use rt_base::{List, TogetherDecl};
 use set_admission::admit;
@@ -49,6 +51,7 @@ fn judged_text(alloc: Global, set: CompiledSet, what: &str) -> Option<String> {
         "set" => set_text(alloc, &set),
         "copy" => set_text(alloc, &set.copy(alloc).ok()?),
         "margin" => margin_text(alloc, &set),
+        "priorities" => priorities_text(alloc, &set),
         "sizes" => String::from_str(alloc, "compiled").ok(),
         _ => match admit(alloc, set) {
             Ok(admitted) => {

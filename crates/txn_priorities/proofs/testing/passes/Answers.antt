@@ -1,0 +1,12 @@
+use Rattle.std.proofs.Common.{sym, ◌∙◌}
+use Rattle.std.proofs.lemmas.Bool.{not-false}
+use Rattle.priority_laws.specs.Pass.{is_placed}
+use Rattle.txn_priorities.specs.Limits.{limit}
+use Rattle.txn_priorities.proofs.Tested.{passes-placed}
+use Rattle.txn_priorities.proofs.testing.passes.Goals as goal
+
+pub returns-else-is_free-clause-passes : goal.returns-else-is_free-clause-passes
+returns-else-is_free-clause-passes g c =
+    sym
+    (passes-placed c.args.set.now (limit c.args.set.now) c.args.prios.now c.args.tx
+    (not-false (is_placed c.args.prios.now c.args.tx) (sym c.is_free.ensures ∙ c.if-is_free.false)))
