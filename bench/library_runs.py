@@ -18,8 +18,8 @@ SANITIZED = ["-g", "-fsanitize=address,undefined", "-fno-sanitize-recover=all"]
 VALGRIND = ["valgrind", "-q", "--error-exitcode=99", "--leak-check=full", "--errors-for-leak-kinds=all"]
 
 # What a program is linked with besides, and its words.
-LINKED = {"growths": ["-Wl,--wrap=malloc,--wrap=realloc,--wrap=free"], "real_tank": ["-pthread"], "plant": ["-pthread"],
-          "plant_growths": ["-Wl,--wrap=malloc,--wrap=realloc,--wrap=free"]}
+WRAPPED = ["-Wl,--wrap=malloc,--wrap=realloc,--wrap=free"]
+LINKED = {"growths": WRAPPED, "plant_growths": WRAPPED, "log_growths": WRAPPED, "real_tank": ["-pthread"], "plant": ["-pthread"]}
 WORDS = {"cost": ["job", "64"], "drive": ["8", "64", "ahead"], "real_tank": ["1"]}
 
 # How long the real tanks run, in seconds, and the setpoint that their operators are told.
