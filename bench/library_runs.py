@@ -130,10 +130,16 @@ def try_new_user(folder, room, check):
     """In a folder with only the installed one, the code and the commands of the page make the programs of the page."""
     home = room / "user"
     shutil.copytree(folder, home / "FOLDER", ignore=shutil.ignore_patterns("target", "Cargo.lock"))
-    for path, command, tool in (("embed/first.c", shown_command(r"cc first\.c "), "cc"), ("rust/examples/first.rs", "cargo run", "cargo")):
+    by_pkg_config = re.search(r"`(PKG_CONFIG_PATH=FOLDER [^`]*)`", PAGE)[1] + " && ./first"
+    ways = (
+        ("embed/first.c", shown_command(r"cc first\.c "), "cc"),
+        ("embed/first.c", by_pkg_config, "pkg-config"),
+        ("rust/examples/first.rs", "cargo run", "cargo"),
+    )
+    for path, command, tool in ways:
         code = shown_code(path)
         check(code == (TOP / path).read_text(), f"the page shows other code than {path}")
-        check(command in PAGE, f"the page has no command {command}")
+        check(command.removesuffix(" && ./first") in PAGE, f"the page has no command {command}")
         if shutil.which(tool) is None:
             print(f"library: {path} as a new user is left out, there is no {tool}")
             continue
