@@ -18,8 +18,8 @@ SANITIZED = ["-g", "-fsanitize=address,undefined", "-fno-sanitize-recover=all"]
 VALGRIND = ["valgrind", "-q", "--error-exitcode=99", "--leak-check=full", "--errors-for-leak-kinds=all"]
 
 # What a program is linked with besides, and its words.
-LINKED = {"growths": ["-Wl,--wrap=malloc,--wrap=realloc,--wrap=free"], "real_tank": ["-pthread"], "plant": ["-pthread"],
-          "plant_growths": ["-Wl,--wrap=malloc,--wrap=realloc,--wrap=free"]}
+WRAPPED = ["-Wl,--wrap=malloc,--wrap=realloc,--wrap=free"]
+LINKED = {"growths": WRAPPED, "plant_growths": WRAPPED, "log_growths": WRAPPED, "real_tank": ["-pthread"], "plant": ["-pthread"]}
 WORDS = {"cost": ["job", "64"], "drive": ["8", "64", "ahead"], "real_tank": ["1"]}
 
 # How long the real tanks run, in seconds, and the setpoint that their operators are told.
@@ -130,10 +130,16 @@ def try_new_user(folder, room, check):
     """In a folder with only the installed one, the code and the commands of the page make the programs of the page."""
     home = room / "user"
     shutil.copytree(folder, home / "FOLDER", ignore=shutil.ignore_patterns("target", "Cargo.lock"))
-    for path, command, tool in (("embed/first.c", shown_command(r"cc first\.c "), "cc"), ("rust/examples/first.rs", "cargo run", "cargo")):
+    by_pkg_config = re.search(r"`(PKG_CONFIG_PATH=FOLDER [^`]*)`", PAGE)[1] + " && ./first"
+    ways = (
+        ("embed/first.c", shown_command(r"cc first\.c "), "cc"),
+        ("embed/first.c", by_pkg_config, "pkg-config"),
+        ("rust/examples/first.rs", "cargo run", "cargo"),
+    )
+    for path, command, tool in ways:
         code = shown_code(path)
         check(code == (TOP / path).read_text(), f"the page shows other code than {path}")
-        check(command in PAGE, f"the page has no command {command}")
+        check(command.removesuffix(" && ./first") in PAGE, f"the page has no command {command}")
         if shutil.which(tool) is None:
             print(f"library: {path} as a new user is left out, there is no {tool}")
             continue

@@ -26,6 +26,7 @@ struct plant {
     rtdb db;
     uint32_t n;
     uint32_t jobs;
+    rtdb_step_answer answer; /* of the last step */
     struct progress at[MOST_TXNS];
 };
 
@@ -90,13 +91,13 @@ static struct operation operation_at(uint32_t n, rtdb_job job, const struct prog
 static int ask(struct plant *p, rtdb_job job) {
     struct progress *at = &p->at[job.transaction];
     struct operation asked = operation_at(p->n, job, at);
-    rtdb_step_answer answer = {0, 0, {0, 0}, 0, 0, 0, 0, 0, 0, {0, 0, 0, 0}};
-    if (rtdb_step(&p->db, job, asked.code, asked.item, asked.value, &answer) != RTDB_OK) return 0;
-    if (answer.reply == RTDB_BLOCKED) return 1;
-    if (answer.reply != RTDB_DONE) return 0;
+    const rtdb_step_answer *answer = &p->answer;
+    if (rtdb_step(&p->db, job, asked.code, asked.item, asked.value, &p->answer) != RTDB_OK) return 0;
+    if (answer->reply == RTDB_BLOCKED) return 1;
+    if (answer->reply != RTDB_DONE) return 0;
     at->place++;
-    if (answer.outcome == RTDB_GOT) at->last = answer.value;
-    if (answer.over.kind != RTDB_NOT_ENDED) {
+    if (answer->outcome == RTDB_GOT) at->last = answer->value;
+    if (answer->over.kind != RTDB_NOT_ENDED) {
         at->place = 0;
         if (at->planned < p->jobs && plan_next(p, job.transaction)) at->planned++;
     }

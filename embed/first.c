@@ -14,48 +14,37 @@ static const rtdb_transaction transactions[] = {
 /* What the sampler writes, what the controller reads, what it writes. */
 static const uint32_t numbers[] = {LEVEL, LEVEL, VALVE};
 static const rtdb_together no_sets[1] = {{0, 0, 0}};
-
-static int admit(rtdb *db) {
-    rtdb_refusal why = {0, 0, 0, 0, 0};
-    rtdb_status status = rtdb_open(db, items, 2, transactions, 2, no_sets, 0, numbers, 3, 64, &why);
-    if (status != RTDB_OK) printf("refused: status %u, rule %u\n", (unsigned)status, (unsigned)why.rule);
-    return status == RTDB_OK;
-}
-
-/* The job asks for its next operation, after so many that were granted. */
-static rtdb_status ask(rtdb *db, rtdb_job job, unsigned granted, int64_t level, rtdb_step_answer *answer) {
-    if (job.transaction == SAMPLER && granted == 0) return rtdb_step(db, job, RTDB_WRITE, LEVEL, 52 + 4 * (int64_t)job.serial, answer);
-    if (job.transaction == CONTROLLER && granted == 0) return rtdb_step(db, job, RTDB_READ, LEVEL, 0, answer);
-    if (job.transaction == CONTROLLER && granted == 1) return rtdb_step(db, job, RTDB_WRITE, VALVE, level - 50, answer);
-    return rtdb_step(db, job, RTDB_COMMIT, 0, 0, answer);
-}
-
-static int run(rtdb *db) {
-    rtdb_time time = {0, {0, 0}, 0, 0};
-    unsigned granted[] = {0, 0};
-    int64_t level = 0;
-    for (rtdb_job job = {0, 0};;) {
-        rtdb_step_answer answer = {0};
-        if (rtdb_running(db, &job) != RTDB_OK) {
-            if (rtdb_idle(db, &time) != RTDB_OK || time.reply != RTDB_ADVANCED) return time.reply == RTDB_NONE_PLANNED;
-            continue;
-        }
-        if (ask(db, job, granted[job.transaction], level, &answer) != RTDB_OK) return 0;
-        if (answer.reply == RTDB_BLOCKED) continue;
-        if (answer.reply != RTDB_DONE) return 0;
-        if (answer.outcome == RTDB_GOT) level = answer.value;
-        granted[job.transaction] = answer.over.kind == RTDB_NOT_ENDED ? granted[job.transaction] + 1 : 0;
-    }
-}
+/* What a job of each asks for, in order. */
+static const uint32_t bodies[2][3] = {{RTDB_WRITE, RTDB_COMMIT}, {RTDB_READ, RTDB_WRITE, RTDB_COMMIT}};
 
 int main(void) {
     rtdb db = RTDB_INIT;
-    rtdb_time time = {0, {0, 0}, 0, 0};
-    rtdb_stored level = {0, 0}, valve = {0, 0};
-    if (!admit(&db)) return 1;
+    rtdb_refusal why = {0};
+    rtdb_status status = rtdb_open(&db, items, 2, transactions, 2, no_sets, 0, numbers, 3, 64, &why);
+    if (status != RTDB_OK) return (int)status;
+
+    rtdb_time time = {0};
+    rtdb_job job = {0};
+    rtdb_step_answer answer = {0};
+    rtdb_stored level = {0}, valve = {0};
+    unsigned granted[] = {0, 0};
+    int64_t got = 0;
     for (unsigned k = 0; k < 4; k++) rtdb_plan(&db, SAMPLER, 10 * k, &time);
     for (unsigned k = 0; k < 2; k++) rtdb_plan(&db, CONTROLLER, 8 + 20 * k, &time);
-    if (!run(&db) || rtdb_peek(&db, LEVEL, &level) != RTDB_OK || rtdb_peek(&db, VALVE, &valve) != RTDB_OK) return 1;
+    do {
+        while (rtdb_running(&db, &job) == RTDB_OK) {
+            uint32_t t = job.transaction, operation = bodies[t][granted[t]];
+            uint32_t item = t == CONTROLLER && operation == RTDB_WRITE ? VALVE : LEVEL;
+            int64_t value = t == SAMPLER ? 52 + 4 * (int64_t)job.serial : got - 50;
+            if (rtdb_step(&db, job, operation, item, value, &answer) != RTDB_OK) return 1;
+            if (answer.reply == RTDB_BLOCKED) continue;
+            if (answer.reply != RTDB_DONE) return 1;
+            if (answer.outcome == RTDB_GOT) got = answer.value;
+            granted[t] = answer.over.kind == RTDB_NOT_ENDED ? granted[t] + 1 : 0;
+        }
+        rtdb_idle(&db, &time);
+    } while (time.reply == RTDB_ADVANCED);
+    if (rtdb_peek(&db, LEVEL, &level) != RTDB_OK || rtdb_peek(&db, VALVE, &valve) != RTDB_OK) return 1;
     printf("level %d of tick %d, valve %d of tick %d\n", (int)level.value, (int)level.stamp, (int)valve.value, (int)valve.stamp);
     return rtdb_close(&db) == RTDB_OK ? 0 : 1;
 }

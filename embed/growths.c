@@ -1,44 +1,11 @@
 /* Refuses each growth of memory of an opening in turn, and of a margin, and counts what is held: of a set that is admitted, of one that
  * is not, of one that is not compiled, and of a trial. A refused opening says so, leaves the handle closed and holds nothing; a refused
  * margin says so, and leaves its answer as it was; a margin holds nothing when it returns. After the opening no other call takes
- * memory, and the closing gives all back. It is linked with -Wl,--wrap=malloc,--wrap=realloc,--wrap=free, which gives these functions
- * in place of those of the C library. */
+ * memory, and the closing gives all back. */
 #include <stdio.h>
-#include <stdlib.h>
 
+#include "refusing.h"
 #include "rtdb.h"
-
-void *__real_malloc(size_t size);
-void *__real_realloc(void *at, size_t size);
-void __real_free(void *at);
-void *__wrap_malloc(size_t size);
-void *__wrap_realloc(void *at, size_t size);
-void __wrap_free(void *at);
-
-static long held;          /* blocks */
-static long growths;       /* so far */
-static long refused = -1;  /* the growth that is refused */
-
-static int is_refused(void) {
-    return growths++ == refused;
-}
-
-void *__wrap_malloc(size_t size) {
-    void *at = is_refused() ? NULL : __real_malloc(size);
-    if (at != NULL) held++;
-    return at;
-}
-
-void *__wrap_realloc(void *at, size_t size) {
-    if (is_refused()) return NULL;
-    if (at == NULL) held++;
-    return __real_realloc(at, size);
-}
-
-void __wrap_free(void *at) {
-    if (at != NULL) held--;
-    __real_free(at);
-}
 
 static const rtdb_item items[] = {{RTDB_SENSOR, 20, 0}, {RTDB_DERIVED, 60, 0}, {RTDB_STATE, 0, 0}};
 static const uint32_t numbers[] = {0, 0, 1, 2, 0, 1};

@@ -1,41 +1,9 @@
 /* Refuses each growth of memory of `rtdb_plant_open` and `rtdb_seat_open` in turn, and counts what is held, as growths.c does for
  * `rtdb_open`. A seat that could not be opened is opened by the next try; the last seat that is closed gives all back. */
 #include <stdio.h>
-#include <stdlib.h>
 
+#include "refusing.h"
 #include "rtdb.h"
-
-void *__real_malloc(size_t size);
-void *__real_realloc(void *at, size_t size);
-void __real_free(void *at);
-void *__wrap_malloc(size_t size);
-void *__wrap_realloc(void *at, size_t size);
-void __wrap_free(void *at);
-
-static long held;          /* blocks */
-static long growths;       /* so far */
-static long refused = -1;  /* the growth that is refused */
-
-static int is_refused(void) {
-    return growths++ == refused;
-}
-
-void *__wrap_malloc(size_t size) {
-    void *at = is_refused() ? NULL : __real_malloc(size);
-    if (at != NULL) held++;
-    return at;
-}
-
-void *__wrap_realloc(void *at, size_t size) {
-    if (is_refused()) return NULL;
-    if (at == NULL) held++;
-    return __real_realloc(at, size);
-}
-
-void __wrap_free(void *at) {
-    if (at != NULL) held--;
-    __real_free(at);
-}
 
 static const rtdb_item items[] = {{RTDB_SENSOR, 20, 0}, {RTDB_DERIVED, 60, 0}, {RTDB_STATE, 0, 0}};
 static const uint32_t numbers[] = {0, 0, 1, 2, 0, 1};

@@ -1,3 +1,5 @@
 pub mod Back
 pub mod Putting
 pub mod Ranges
+pub mod Over
+pub mod Told

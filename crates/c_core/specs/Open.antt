@@ -1,21 +1,28 @@
 -- What contracts see of a core over an admitted set or over one that was not admitted.
-use Rattle.std.specs.Prelude.{List, Option, None, Some, IfSome}
+use Rattle.std.specs.Prelude.{◌≡◌, List, Option, Some, IfSome}
 use Rattle.step_journal.specs.declared.entry.Entry.{Entry}
-use Rattle.txn_set.specs.Set.{Set}
+use Rattle.txn_set.specs.Set.{Set, IsCompiled}
+use Rattle.set_admission.specs.Bounds.{MeetsAdmission}
 use Rattle.set_admission.specs.Laws.{KeepsBounds}
 use Rattle.lock_core.specs.Seen.{CoreSeen}
-use Rattle.c_core.specs.declared.open_core.OpenCore.{OpenCore}
-use Rattle.c_core.specs.declared.open_core.OpenCore.TheVariants.{Admitted, Trial}
 
-abbrev pub board_of : OpenCore → CoreSeen
-board_of (Admitted core) = core.board
-board_of (Trial core) = core
+-- the core, and the set that was admitted, if one was
+pub record OpenSeen : Type 0 where
+  pub board : CoreSeen
+  pub admitted : Option Set
 
--- the set that was admitted, if one was
-abbrev pub admitted_of : OpenCore → Option Set
-admitted_of (Admitted core) = Some core.admitted
-admitted_of (Trial core) = None
+-- the core is over the admitted set
+pub record IsOver (o : OpenSeen) : Type 0 where
+  pub same : (set : Set) → o.admitted ≡ Some set → o.board.set ≡ set
+  pub compiled : (set : Set) → o.admitted ≡ Some set → IsCompiled set
+  pub meets : (set : Set) → o.admitted ≡ Some set → MeetsAdmission set
+
+abbrev pub board_of : OpenSeen → CoreSeen
+board_of o = o.board
+
+abbrev pub admitted_of : OpenSeen → Option Set
+admitted_of o = o.admitted
 
 -- a history keeps the bounds of the admitted set
-abbrev pub KeepsBoundsOf : OpenCore → List Entry → Type 0
-KeepsBoundsOf core story = IfSome (admitted_of core) (λ set. KeepsBounds set story)
+abbrev pub KeepsBoundsOf : OpenSeen → List Entry → Type 0
+KeepsBoundsOf o story = IfSome (admitted_of o) (λ set. KeepsBounds set story)

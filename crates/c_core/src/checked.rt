@@ -1,6 +1,6 @@
 //! A core whose calls test each number that they are given. Such a call answers a status: OK where the core was called,
 //! and else why it was not; then nothing is changed.
-ghost use Rattle.std.specs.Prelude.{◌≡◌, ◌≢◌, ℕ, ◌+◌, ◌≤◌, ◌^◌, [], List, length, IfOk, IfErr, Some, None, slice_get, nat_lt, ◌<◌, ◌++◌, min, map, take, drop, vec_capacity, if◌then◌else◌};
+ghost use Rattle.std.specs.Prelude.{◌≡◌, ◌≢◌, ◌+◌, ◌≤◌, ◌^◌, [], List, length, IfOk, IfErr, Some, None, slice_get, nat_lt, ◌<◌, ◌++◌, min, map, take, drop, vec_capacity};
 ghost use Rattle.rt_base.specs.declared.operation.Op.{Op as Asked};
 ghost use Rattle.step_journal.specs.declared.entry.Entry.{Entry as Noted};
 ghost use Rattle.step_journal.specs.History.{state_of};
@@ -17,19 +17,17 @@ ghost use Rattle.board.specs.Stories.{IfBlocked};
 ghost use Rattle.c_core.specs.Open.{board_of, admitted_of, KeepsBoundsOf};
 ghost use Rattle.c_core.specs.Rows.{set_of_tables, FitTables};
 ghost use Rattle.c_core.specs.Refusals.{WhyNotOpened, WhyNotTried};
-ghost use Rattle.c_core.specs.Forms.{op_named, job_of, form_of_job, form_of_step, form_of_plan, form_of_plan_next, form_of_idle, form_of_entry};
+ghost use Rattle.c_core.specs.Forms.{op_named, job_of, form_of_step, form_of_plan, form_of_plan_next, form_of_idle, form_of_entry};
 ghost use Rattle.c_core.specs.Calls.{tx_status, item_status, step_status, step_reply_of, IsRunning, IsAgeOf, bound_status};
 
 use crate::entries::{EntryForm, put_entries};
 use crate::forms::{
-    JobForm, StepForm, TimeForm, idle_form, job_form, op_of, plan_form, plan_next_form, step_form,
+    JobForm, StepForm, TimeForm, idle_form, job_form, op_of, plan_form, plan_next_form, put_step,
 };
 use crate::open_core::OpenCore;
 use crate::refusals::{NOT_ADMITTED, Refused};
 use crate::tables::{Tables, compiled};
-use admitted_core::AdmittedCore;
-use lock_core::TrialCore;
-use rt_base::{ItemId, JobId, Op, OutOfMemory, TxId};
+use rt_base::{ItemId, JobId, OutOfMemory, TxId};
 use set_admission::{AdmittedSet, admit};
 use std::alloc::Global;
 use step_journal::Entry;
@@ -63,7 +61,7 @@ pub struct CheckedCore {
 
 /// A value and its stamp.
 #[repr(C)]
-#[derive(Clone, Copy, PartialEq, Eq, Debug)]
+#[derive(Clone, Copy)]
 pub struct StoredForm {
     pub value: i64,
     pub stamp: u64,
@@ -135,11 +133,8 @@ impl CheckedCore {
         let Ok(spare) = Vec::with_capacity(alloc, PLACES) else {
             return Err((set, OutOfMemory));
         };
-        match AdmittedCore::new(alloc, set, room) {
-            Ok(core) => Ok(CheckedCore {
-                core: OpenCore::Admitted(core),
-                spare,
-            }),
+        match OpenCore::over(alloc, set, room) {
+            Ok(core) => Ok(CheckedCore { core, spare }),
             Err(e) => {
                 drop(spare);
                 Err(e)
@@ -160,11 +155,8 @@ impl CheckedCore {
         let Ok(spare) = Vec::with_capacity(alloc, PLACES) else {
             return Err((set, OutOfMemory));
         };
-        match TrialCore::new(alloc, set, room) {
-            Ok(core) => Ok(CheckedCore {
-                core: OpenCore::Trial(core),
-                spare,
-            }),
+        match OpenCore::trial(alloc, set, room) {
+            Ok(core) => Ok(CheckedCore { core, spare }),
             Err(e) => {
                 drop(spare);
                 Err(e)
@@ -215,7 +207,7 @@ impl CheckedCore {
             tx: TxId(job.tx),
             serial: job.serial,
         };
-        *answer = step_form(self.core.step(job, op));
+        put_step(self.core.step(job, op), answer);
         OK
     }
 

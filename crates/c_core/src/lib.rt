@@ -11,10 +11,10 @@ mod refusals;
 mod tables;
 
 pub use checked::{CheckedCore, NO_ITEM, NO_OPERATION, NO_TRANSACTION, NOTHING, OK, StoredForm};
-pub use entries::{EntryForm, entry_form, put_entries};
+pub use entries::{EntryForm, put_entries, put_entry};
 pub use forms::{
     EndForm, JobForm, StepForm, TimeForm, end_form, idle_form, job_form, op_of, plan_form,
-    plan_next_form, step_form,
+    plan_next_form, put_step,
 };
 pub use laws::records_lose_nothing;
 pub use open_core::OpenCore;

@@ -1,5 +1,5 @@
 //! A core over an admitted set, or over one that was not admitted.
-ghost use Rattle.std.specs.Prelude.{◌≡◌, ◌+◌, ◌-◌, ◌<◌, ◌++◌, List, length, min, take, drop, vec_len, vec_capacity, Some, None, MatchOption, slice_get};
+ghost use Rattle.std.specs.Prelude.{◌≡◌, ◌≤◌, ◌^◌, ◌+◌, ◌-◌, ◌<◌, ◌++◌, [], List, length, min, take, drop, vec_len, vec_capacity, Some, None, MatchOption, IfOk, IfErr, slice_get};
 ghost use Rattle.step_journal.specs.declared.entry.Entry.{Entry as Noted};
 ghost use Rattle.step_journal.specs.History.{state_of};
 ghost use Rattle.board.specs.Stories.{noted, plan_entry, plan_next_entry, step_entry, idle_entry, plan_answer, plan_next_answer, step_answer, idle_answer, now_of, running_of, pending_of, ended_of, planned_of};
@@ -8,31 +8,96 @@ ghost use Rattle.lock_core.specs.Stands.{Stands};
 ghost use Rattle.board.specs.Stories.{IfBlocked};
 ghost use Rattle.c_core.specs.Open.{board_of, admitted_of, KeepsBoundsOf};
 
-use admitted_core::AdmittedCore;
+use admitted_core::{AdmittedBoard, AdmittedCore};
 use board::{Board, IdleReply, StepReply};
-use lock_core::TrialCore;
-use rt_base::{ItemId, JobId, Op, PlanRefused, Tick, TxId, Value};
+use lock_core::Core;
+use rt_base::{ItemId, JobId, Op, OutOfMemory, PlanRefused, Tick, TxId, Value};
 use set_admission::AdmittedSet;
+use std::alloc::Global;
+use std::marker::Model;
 use step_journal::Entry;
 use txn_set::CompiledSet;
 
 /// A core over an admitted set, or over one that was not admitted: of that one nothing is promised of deadlines and ages.
 /// Each call is that of the core.
 #[derive(Drop)]
-pub enum OpenCore {
-    Admitted(AdmittedCore),
-    Trial(TrialCore),
+pub struct OpenCore {
+    core: Core,
+    admitted: Option<AdmittedSet>,
+}
+
+impl Model for OpenCore {
+    ghost use Rattle.c_core.specs.Open.{OpenSeen, IsOver};
+
+    ghost Value = { OpenSeen };
+
+    ghost view = { λ o. record { board = o.core; admitted = o.admitted } };
+
+    ghost invariant = { λ o. IsOver (record { board = o.core; admitted = o.admitted }) };
 }
 
 impl OpenCore {
+    /// A core over an admitted set at the opening state, whose journal has room for so many entries. After want of memory
+    /// the set is handed back. No later call takes memory.
+    pub fn over(
+        alloc: Global,
+        set: AdmittedSet,
+        room: usize,
+    ) -> Result<OpenCore, (AdmittedSet, OutOfMemory)>
+        requires { room ≤ 2 ^ 20 }
+        ensures ok { IfOk result (λ o. (admitted_of o ≡ Some set) × ((board_of o).set ≡ set) × ((board_of o).journal ≡ record { room = room; first = 0; kept = [] }) × Stands (board_of o) []) }
+        ensures err { IfErr result (λ e. e.0 ≡ set) }
+    {
+        let Ok(copy) = set.set().copy(alloc) else {
+            return Err((set, OutOfMemory));
+        };
+        match Core::new(alloc, copy, room) {
+            Ok(core) => {
+                set.is_admitted();
+                Ok(OpenCore {
+                    core,
+                    admitted: Some(set),
+                })
+            }
+            Err((_, e)) => Err((set, e)),
+        }
+    }
+
+    /// The same over a set that is not admitted.
+    pub fn trial(
+        alloc: Global,
+        set: CompiledSet,
+        room: usize,
+    ) -> Result<OpenCore, (CompiledSet, OutOfMemory)>
+        requires { room ≤ 2 ^ 20 }
+        ensures ok { IfOk result (λ o. (admitted_of o ≡ None) × ((board_of o).set ≡ set) × ((board_of o).journal ≡ record { room = room; first = 0; kept = [] }) × Stands (board_of o) []) }
+        ensures err { IfErr result (λ e. e.0 ≡ set) }
+    {
+        match Core::new(alloc, set, room) {
+            Ok(core) => Ok(OpenCore {
+                core,
+                admitted: None,
+            }),
+            Err(e) => Err(e),
+        }
+    }
+
+    /// The core over its admitted set; None where the set was not admitted.
+    pub fn into_admitted(self) -> Option<AdmittedCore>
+        ensures { MatchOption result (admitted_of self ≡ None) (λ a. (a.board ≡ board_of self) × (admitted_of self ≡ Some a.admitted)) }
+    {
+        let OpenCore { core, admitted } = self;
+        match admitted {
+            Some(set) => Some(AdmittedBoard::of(core, set)),
+            None => None,
+        }
+    }
+
     /// That each history of the core keeps the bounds of the admitted set, if it has one. It does nothing.
     pub fn keeps_bounds(&self)
         ensures { (story : List Noted) → Stands (board_of self.now) story → KeepsBoundsOf self.now story }
     {
-        match self {
-            OpenCore::Admitted(core) => core.keeps_bounds(),
-            OpenCore::Trial(_) => (),
-        }
+        let _core = &self.core;
     }
 
     /// Plans as the core does.
@@ -44,10 +109,9 @@ impl OpenCore {
         ensures after { (story : List Noted) → Stands (board_of self.old) story → Stands (board_of self.new) (noted story (plan_entry tx tick result)) }
         ensures bounds { (story : List Noted) → Stands (board_of self.new) story → KeepsBoundsOf self.new story }
     {
-        match self {
-            OpenCore::Admitted(core) => core.plan(tx, tick),
-            OpenCore::Trial(core) => Board::plan(core, tx, tick),
-        }
+        let reply = Board::plan(&mut self.core, tx, tick);
+        self.keeps_bounds();
+        reply
     }
 
     /// Plans as the core does for the earliest tick.
@@ -59,10 +123,9 @@ impl OpenCore {
         ensures after { (story : List Noted) → Stands (board_of self.old) story → Stands (board_of self.new) (noted story (plan_next_entry tx result)) }
         ensures bounds { (story : List Noted) → Stands (board_of self.new) story → KeepsBoundsOf self.new story }
     {
-        match self {
-            OpenCore::Admitted(core) => core.plan_next(tx),
-            OpenCore::Trial(core) => Board::plan_next(core, tx),
-        }
+        let reply = Board::plan_next(&mut self.core, tx);
+        self.keeps_bounds();
+        reply
     }
 
     /// A job asks for an operation, as of the core.
@@ -75,10 +138,9 @@ impl OpenCore {
         ensures blocked_once { (story : List Noted) → Stands (board_of self.old) story → IfBlocked result (IsFirstRefusal (board_of self.old).set story job) }
         ensures bounds { (story : List Noted) → Stands (board_of self.new) story → KeepsBoundsOf self.new story }
     {
-        match self {
-            OpenCore::Admitted(core) => core.step(job, op),
-            OpenCore::Trial(core) => core.step(job, op),
-        }
+        let reply = self.core.step(job, op);
+        self.keeps_bounds();
+        reply
     }
 
     /// The time goes on as on the core.
@@ -89,10 +151,9 @@ impl OpenCore {
         ensures after { (story : List Noted) → Stands (board_of self.old) story → Stands (board_of self.new) (noted story (idle_entry (now_of (board_of self.old).set story) result)) }
         ensures bounds { (story : List Noted) → Stands (board_of self.new) story → KeepsBoundsOf self.new story }
     {
-        match self {
-            OpenCore::Admitted(core) => core.idle(),
-            OpenCore::Trial(core) => Board::idle(core),
-        }
+        let reply = Board::idle(&mut self.core);
+        self.keeps_bounds();
+        reply
     }
 
     /// Moves the oldest kept entries to the end of `into` as the core does.
@@ -106,10 +167,9 @@ impl OpenCore {
         ensures after { (story : List Noted) → Stands (board_of self.old) story → Stands (board_of self.new) story }
         ensures bounds { (story : List Noted) → Stands (board_of self.new) story → KeepsBoundsOf self.new story }
     {
-        match self {
-            OpenCore::Admitted(core) => core.drain(most, into),
-            OpenCore::Trial(core) => Board::drain(core, most, into),
-        }
+        let count = Board::drain(&mut self.core, most, into);
+        self.keeps_bounds();
+        count
     }
 
     /// An item's installed value and stamp.
@@ -117,30 +177,21 @@ impl OpenCore {
         requires { item.0 < length (board_of self.now).set.items }
         ensures { (story : List Noted) → Stands (board_of self.now) story → slice_get (state_of (board_of self.now).set story).items item.0 ≡ Some (record { value = result.0; stamp = result.1 }) }
     {
-        match self {
-            OpenCore::Admitted(core) => Board::peek(core, item),
-            OpenCore::Trial(core) => Board::peek(core, item),
-        }
+        Board::peek(&self.core, item)
     }
 
     /// The present tick.
     pub fn now(&self) -> Tick
         ensures { (story : List Noted) → Stands (board_of self.now) story → result ≡ now_of (board_of self.now).set story }
     {
-        match self {
-            OpenCore::Admitted(core) => Board::now(core),
-            OpenCore::Trial(core) => Board::now(core),
-        }
+        Board::now(&self.core)
     }
 
     /// The running job; None exactly where nothing is pending.
     pub fn running(&self) -> Option<JobId>
         ensures { (story : List Noted) → Stands (board_of self.now) story → result ≡ running_of (board_of self.now).set story }
     {
-        match self {
-            OpenCore::Admitted(core) => Board::running(core),
-            OpenCore::Trial(core) => Board::running(core),
-        }
+        Board::running(&self.core)
     }
 
     /// The transaction's pending job.
@@ -148,10 +199,7 @@ impl OpenCore {
         requires { tx.0 < length (board_of self.now).set.txns }
         ensures { (story : List Noted) → Stands (board_of self.now) story → result ≡ pending_of (board_of self.now).set story tx.0 }
     {
-        match self {
-            OpenCore::Admitted(core) => Board::pending(core, tx),
-            OpenCore::Trial(core) => Board::pending(core, tx),
-        }
+        Board::pending(&self.core, tx)
     }
 
     /// How many jobs of the transaction have ended.
@@ -159,59 +207,41 @@ impl OpenCore {
         requires { tx.0 < length (board_of self.now).set.txns }
         ensures { (story : List Noted) → Stands (board_of self.now) story → result ≡ ended_of (board_of self.now).set story tx.0 }
     {
-        match self {
-            OpenCore::Admitted(core) => Board::ended(core, tx),
-            OpenCore::Trial(core) => Board::ended(core, tx),
-        }
+        Board::ended(&self.core, tx)
     }
 
     /// How many releases are planned and did not take place yet.
     pub fn planned(&self) -> usize
         ensures { (story : List Noted) → Stands (board_of self.now) story → result ≡ planned_of (board_of self.now).set story }
     {
-        match self {
-            OpenCore::Admitted(core) => Board::planned(core),
-            OpenCore::Trial(core) => Board::planned(core),
-        }
+        Board::planned(&self.core)
     }
 
     /// The kept entries.
     pub fn entries(&self) -> &[Entry]
         ensures { result.now ≡ (board_of self.now).journal.kept }
     {
-        match self {
-            OpenCore::Admitted(core) => Board::entries(core),
-            OpenCore::Trial(core) => Board::entries(core),
-        }
+        Board::entries(&self.core)
     }
 
     /// How many entries were drained in all.
     pub fn first(&self) -> u64
         ensures { result ≡ (board_of self.now).journal.first }
     {
-        match self {
-            OpenCore::Admitted(core) => Board::first(core),
-            OpenCore::Trial(core) => Board::first(core),
-        }
+        Board::first(&self.core)
     }
 
     /// The set of the history.
     pub fn set(&self) -> &CompiledSet
         ensures { result.now ≡ (board_of self.now).set }
     {
-        match self {
-            OpenCore::Admitted(core) => Board::set(core),
-            OpenCore::Trial(core) => Board::set(core),
-        }
+        Board::set(&self.core)
     }
 
     /// The admitted set, with its bounds; None where the set was not admitted.
     pub fn admitted(&self) -> Option<&AdmittedSet>
         ensures { MatchOption result (admitted_of self.now ≡ None) (λ set. admitted_of self.now ≡ Some set.now) }
     {
-        match self {
-            OpenCore::Admitted(core) => Some(core.admitted()),
-            OpenCore::Trial(_) => None,
-        }
+        self.admitted.as_ref()
     }
 }

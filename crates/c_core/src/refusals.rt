@@ -7,7 +7,7 @@ use set_admission::AdmitError;
 use txn_compiler::{CompileError, Which};
 
 /// Why there is no database over some tables.
-#[derive(Clone, Copy, PartialEq, Eq, Debug)]
+#[derive(Clone, Copy)]
 pub enum Refused {
     /// The first row of the items whose kind is none.
     BadKind { row: usize },
@@ -40,7 +40,7 @@ impl From<OutOfMemory> for Refused {
 
 /// A refusal. `rule` says which rule is broken, by the numbers of rtdb.h, and the other fields where.
 #[repr(C)]
-#[derive(Clone, Copy, PartialEq, Eq, Debug)]
+#[derive(Clone, Copy)]
 pub struct RefusalForm {
     pub rule: u32,
     pub which: u32,

@@ -17,7 +17,7 @@ use txn_set::{CompiledSet, TxnDecl};
 /// An item: `kind` is 0 for a sensor item, 1 for a derived one, 2 for a state item. The validity is in ticks; that of a
 /// state item is not read.
 #[repr(C)]
-#[derive(Clone, Copy, PartialEq, Eq, Debug)]
+#[derive(Clone, Copy)]
 pub struct ItemRow {
     pub kind: u32,
     pub validity: u64,
@@ -26,7 +26,7 @@ pub struct ItemRow {
 
 /// A transaction: its times in ticks, and of each of its lists the place in the numbers at which it begins, and its length.
 #[repr(C)]
-#[derive(Clone, Copy, PartialEq, Eq, Debug)]
+#[derive(Clone, Copy)]
 pub struct TxnRow {
     pub prio: u32,
     pub reads_at: u32,
@@ -42,7 +42,7 @@ pub struct TxnRow {
 
 /// A relative set: the place of its list in the numbers, its length, and its interval in ticks.
 #[repr(C)]
-#[derive(Clone, Copy, PartialEq, Eq, Debug)]
+#[derive(Clone, Copy)]
 pub struct TogetherRow {
     pub items_at: u32,
     pub items: u32,

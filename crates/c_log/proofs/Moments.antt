@@ -1,5 +1,5 @@
 -- How calls go on.
-use Rattle.std.proofs.Common.{◌≡◌, inl, inr, ⊎_elim, ℕ, ◌+◌, ◌≤◌, List, [], ◌∷◌, ◌++◌, length, reverse, take, refl, sym, ap, ◌∙◌, subst, arith, length-append, Ok}
+use Rattle.std.proofs.Common.{◌≡◌, inl, inr, ⊎_elim, ℕ, ◌+◌, List, [], ◌∷◌, ◌++◌, length, reverse, take, refl, sym, ap, ◌∙◌, subst, arith, length-append, Ok}
 use Rattle.std.proofs.lemmas.List.{length-reverse, reverse-append}
 use Rattle.durable_disk.specs.Images.{Torn}
 use Rattle.durable_disk.specs.Device.{AfterWrite, Follows, Elapses, NoMore}

@@ -1,5 +1,5 @@
 -- What was said of a disk, said of its queue.
-use Rattle.std.proofs.Common.{◌≡◌, ℕ, ◌+◌, List, [], reverse, Bool, false, Some, Result, Ok, Err, IfOk, IfErr, IsErrAnd, sym, subst}
+use Rattle.std.proofs.Common.{◌≡◌, ℕ, List, [], reverse, Bool, false, Some, Result, Ok, Err, IfOk, IfErr, IsErrAnd, sym, subst}
 use Rattle.rt_base.specs.declared.name.Names.{Names}
 use Rattle.txn_set.specs.Set.{Set}
 use Rattle.step_journal.specs.declared.entry.Entry.{Entry}
@@ -7,7 +7,7 @@ use Rattle.durable_journal.specs.Log.{Stood}
 use Rattle.c_log.specs.Calls.{MayLeave, held}
 use Rattle.c_log.specs.Device.{Device, Queued}
 use Rattle.c_log.specs.Kept.{Holds}
-use Rattle.c_log.specs.Opening.{Declares, IsUnread, WhyNotOpened, WhyUnread}
+use Rattle.c_log.specs.Opening.{Declares, WhyNotOpened, WhyUnread}
 use Rattle.c_log.specs.declared.opening.Found.{Found}
 use Rattle.c_log.specs.declared.refused.LogRefused.{LogRefused}
 use Rattle.c_log.specs.declared.refused.LogRefused.TheVariants as refused

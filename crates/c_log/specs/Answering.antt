@@ -1,5 +1,5 @@
 -- What the answers to calls do.
-use Rattle.std.specs.Prelude.{◌≡◌, ℕ, ◌+◌, ◌<◌, ◌⊎◌, List, [], length, reverse, Option, Some, None, slice_get, Bool, true, false, if◌then◌else◌}
+use Rattle.std.specs.Prelude.{◌≡◌, ◌+◌, ◌<◌, ◌⊎◌, List, [], length, reverse, Option, None, slice_get, if◌then◌else◌}
 use Rattle.c_log.specs.declared.call.Call.{Call}
 use Rattle.c_log.specs.Calls.{held}
 use Rattle.txn_set.specs.Set.{Set}

@@ -1,5 +1,5 @@
 //! A piece of entries, put to the calls that are to be made on a file.
-ghost use Rattle.std.specs.Prelude.{◌≡◌, ℕ, ◌+◌, ◌<◌, ◌≤◌, ◌^◌, ◌++◌, [], List as Many, length, reverse, IfErr, OnErr, OnOk};
+ghost use Rattle.std.specs.Prelude.{◌≡◌, ℕ, ◌+◌, ◌<◌, ◌^◌, ◌++◌, [], List as Many, length, reverse, IfErr, OnErr, OnOk};
 ghost use Rattle.std.specs.List.{All};
 ghost use Rattle.rt_base.specs.Names.{AreNames};
 ghost use Rattle.txn_set.specs.Set.{Set};

@@ -4,7 +4,7 @@ ghost use Rattle.std.proofs.Common.{inl};
 ghost use Rattle.std.specs.Io.{ReadsAtMost};
 ghost use Rattle.io_edge.specs.Causes.{HasCause, counted};
 ghost use Rattle.durable_disk.specs.Images.{Torn};
-ghost use Rattle.durable_disk.specs.Device.{AfterWrite, BothTold, Elapses, Follows, IsRead, NoMore, Only};
+ghost use Rattle.durable_disk.specs.Device.{AfterWrite, Elapses, Follows, IsRead, NoMore, Only};
 ghost use Rattle.c_log.specs.Calls.{LeftSince, MayLeave, held, left_now, only_now};
 
 use crate::queue::Queue;

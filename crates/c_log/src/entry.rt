@@ -1,5 +1,5 @@
 //! The entry that a record says, and whether it names what there is.
-ghost use Rattle.std.specs.Prelude.{◌≡◌, ◌≤◌, ◌↔◌, ◌++◌, ◌<◌, ◌==◌, if◌then◌else◌, [], length, map, Some, None, IsTrue, true, false, vec_capacity};
+ghost use Rattle.std.specs.Prelude.{◌≡◌, ◌≤◌, ◌↔◌, ◌<◌, ◌==◌, if◌then◌else◌, [], length, map, Some, None, IsTrue, true, false, vec_capacity};
 ghost use Rattle.std.specs.List.{All};
 ghost use Rattle.journal_text.specs.Lines.{Answers, IsWritable, KnownEnd, KnownOp, KnownOver};
 ghost use Rattle.c_core.specs.Forms.{job_of};

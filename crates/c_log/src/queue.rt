@@ -1,5 +1,5 @@
 //! The calls that are to be made on a file.
-ghost use Rattle.std.specs.Prelude.{◌≡◌, ◌+◌, ◌-◌, ◌<◌, ◌≤◌, ◌↔◌, ◌++◌, [], ◌∷◌, false, take, drop, min, length, reverse, IfOk, OnErr, OnOk, vec_capacity, vec_len};
+ghost use Rattle.std.specs.Prelude.{◌≡◌, ◌+◌, ◌-◌, ◌<◌, ◌≤◌, ◌++◌, [], ◌∷◌, false, take, drop, min, length, reverse, IfOk, OnErr, OnOk, vec_capacity, vec_len};
 ghost use Rattle.std.specs.List.{All};
 ghost use Rattle.durable_disk.specs.Memory.{after_write};
 ghost use Rattle.c_log.specs.Calls.{EndsWithin, IsWriteOf, after, held, held_all};

@@ -21,7 +21,7 @@ pub enum LogRefused {
 }
 
 /// Why entries are not taken.
-#[derive(Clone, Copy, Debug, PartialEq, Eq)]
+#[derive(Clone, Copy)]
 pub enum AppendRefused {
     /// A call failed.
     Stopped,

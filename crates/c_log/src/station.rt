@@ -1,5 +1,5 @@
 //! A log whose calls another program makes on its file.
-ghost use Rattle.std.specs.Prelude.{◌≡◌, ◌+◌, ◌<◌, ◌≤◌, [], length, map, reverse, slice_get, option_map, true, false, Some, None, IfOk, IfErr, OnOk, OnErr, if◌then◌else◌, vec_capacity};
+ghost use Rattle.std.specs.Prelude.{◌≡◌, ◌+◌, ◌<◌, ◌≤◌, [], length, map, option_map, true, false, None, IfOk, IfErr, OnOk, OnErr, vec_capacity};
 ghost use Rattle.c_core.specs.Back.{entry_of as entry_of_form};
 ghost use Rattle.c_log.specs.Opening.{IsOpenedBy, WhyNotOpened};
 ghost use Rattle.c_log.specs.Appending.{Appended, WhyNotAppended};

@@ -6,7 +6,6 @@ use Rattle.txn_compiler.specs.declared.error.CompileError.TheVariants as rule
 use Rattle.set_admission.specs.declared.error.AdmitError.TheVariants as admission
 use Rattle.scale_margin.specs.declared.barrier.Barrier.{Barrier}
 use Rattle.scale_margin.specs.declared.barrier.Barrier.TheVariants.{Compile, Admit}
-use Rattle.scale_margin.specs.declared.barrier.Margin.{Margin}
 use Rattle.scale_margin.specs.Barriers.{IsCause}
 use Rattle.c_margin.specs.Margins.{form_of_margin}
 use Rattle.c_margin.specs.Laws.{barrier_of, MarginsComeBack}

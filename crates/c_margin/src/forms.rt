@@ -8,7 +8,7 @@ use scale_margin::{Barrier, Margin};
 /// The greatest percentage of its steps at which a set is admitted, and what bars the next one: a status, 0 if nothing does,
 /// and the refusal with its numbers.
 #[repr(C)]
-#[derive(Clone, Copy, PartialEq, Eq, Debug)]
+#[derive(Clone, Copy)]
 pub struct MarginForm {
     pub percent: u32,
     pub barrier: u32,

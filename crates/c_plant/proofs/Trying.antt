@@ -1,14 +1,14 @@
--- The three ways in which a try ends, and what a seat keeps.
-use Rattle.std.proofs.Common.{◌≡◌, ◌≢◌, ℕ, List, Option, refl, sym, ap, subst, ◌∙◌, inl, inr, arith}
+-- A try that had the turn, and what a seat keeps.
+use Rattle.std.proofs.Common.{◌≡◌, ℕ, List, Option, refl, sym, ap, subst, ◌∙◌, inl, arith}
 use Rattle.rt_base.specs.declared.ids.TxId.{TxId}
 use Rattle.step_journal.specs.declared.entry.Entry.{Entry}
 use Rattle.txn_set.specs.Set.{Set, IsCompiled}
 use Rattle.set_admission.specs.Bounds.{MeetsAdmission}
 use Rattle.set_admission.proofs.Kept.{keeps_bounds}
 use Rattle.shared_plant.specs.Seats.{PlantFacts, SeatFacts, IsOf}
-use Rattle.shared_plant.specs.Answers.{Answered, missed_once}
+use Rattle.shared_plant.specs.Answers.{Answered}
 use Rattle.c_plant.specs.Seats.{SeatSeen, seen_of, HasPlaces, IsStation}
-use Rattle.c_plant.specs.Tries.{Tries, passed_over, HadItsTurn}
+use Rattle.c_plant.specs.Tries.{Tries, HadItsTurn}
 
 pub still_of : (p : PlantFacts) (old new : SeatFacts) → new.plant ≡ old.plant → new.tx ≡ old.tx → IsOf p old → IsOf p new
 still_of p old new plant tx is = (plant ∙ is.0, λ t e. is.1 t (sym tx ∙ e))
@@ -28,10 +28,6 @@ still_station p old new others spare places txns items h plant tx = record {
   items_are = h.items_are;
 }
 
-pub missed_station : (p : PlantFacts) (old new : SeatFacts) (others : List SeatFacts) (spare : List Entry) (places txns items : ℕ)
-    → IsStation p old others spare places txns items → new ≡ missed_once old → IsStation p new others spare places txns items
-missed_station p old new others spare places txns items h e = still_station p old new others spare places txns items h (ap (λ (s : SeatFacts). s.plant) e) (ap (λ (s : SeatFacts). s.tx) e)
-
 module _ {F : List Entry → ℕ → Type 0} {O : List Entry → Option Entry} where
   pub turned_station : (set : Set) (p : PlantFacts) (old new : SeatFacts) (others : List SeatFacts) (spare : List Entry) (places txns items : ℕ)
       → IsStation p old others spare places txns items → Answered set F O old new → IsStation p new others spare places txns items
@@ -43,22 +39,6 @@ module _ {F : List Entry → ℕ → Type 0} {O : List Entry → Option Entry} w
   had_turn p old new left compiled meets a = record { same = refl; answered = a; bounds = keeps_bounds p.set new.seen compiled meets a.legal }
 
 module _ {K : Type 0} {S : SeatSeen → SeatSeen → Type 0} where
-  pub refuses : (r n : ℕ) (old new : SeatSeen) → r ≡ n → n ≢ 0 → new ≡ old → K → Tries r n K S old new
-  refuses r n old new e some same k = record {
-    refused = λ _. (sym e, same, k);
-    tried = λ none. absurd (some (sym e ∙ none));
-    busy = λ none. absurd (some (sym e ∙ none));
-    told = λ none. absurd (some (sym e ∙ none));
-  }
-
-  pub misses : (r : ℕ) (old new : SeatSeen) → r ≡ 0 → new ≡ passed_over old → K → Tries r 26 K S old new
-  misses r old new e same k = record {
-    refused = λ some. absurd (some e);
-    tried = λ _. inr refl;
-    busy = λ _ _. (same, k);
-    told = λ _ no. absurd (omega (arith, no));
-  }
-
   pub tells : (r : ℕ) (old new : SeatSeen) → r ≡ 0 → S old new → Tries r 0 K S old new
   tells r old new e said = record {
     refused = λ some. absurd (some e);

@@ -1,7 +1,6 @@
 //! A plant over tables.
 ghost use Rattle.std.specs.Prelude.{◌≡◌, [], IfOk, IfErr, Some};
 ghost use Rattle.lock_core.specs.Stands.{Stands};
-ghost use Rattle.c_core.specs.declared.open_core.OpenCore.TheVariants.{Admitted};
 ghost use Rattle.c_core.specs.Open.{board_of, admitted_of};
 ghost use Rattle.c_core.specs.Refusals.{WhyNotOpened};
 ghost use Rattle.c_plant.specs.Seats.{IsStarted, PlantOpened};
@@ -9,7 +8,7 @@ ghost use Rattle.c_plant.specs.Seats.{IsStarted, PlantOpened};
 use crate::station::SeatStation;
 use admitted_core::AdmittedCore;
 use board::Board;
-use c_core::{CheckedCore, OpenCore, Refused, Tables};
+use c_core::{CheckedCore, Refused, Tables};
 use rt_base::OutOfMemory;
 use shared_plant::Plant;
 use std::alloc::Global;
@@ -30,14 +29,14 @@ impl Past<Entry> for NoEntry {
 // The core of a set that was admitted.
 fn admitted_core(core: CheckedCore) -> AdmittedCore
     requires { admitted_of core.core ≡ Some (board_of core.core).set }
-    ensures core { core.core ≡ Admitted result }
+    ensures core { result.board ≡ board_of core.core }
     ensures same { result.admitted ≡ result.board.set }
 {
     let CheckedCore { core, spare } = core;
     drop(spare);
-    match core {
-        OpenCore::Admitted(core) => core,
-        OpenCore::Trial(_) => unreachable!(),
+    match core.into_admitted() {
+        Some(core) => core,
+        None => unreachable!(),
     }
 }
 

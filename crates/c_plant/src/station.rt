@@ -3,14 +3,14 @@
 //! was. No call takes memory but `open_next`, and none waits.
 ghost use Rattle.std.specs.Prelude.{◌≡◌, ◌<◌, [], IfOk, IfErr, None, Some, length};
 ghost use Rattle.rt_base.specs.declared.ids.TxId.{TxId as Transaction};
-ghost use Rattle.shared_plant.specs.Seats.{newcomer, tx_of};
+ghost use Rattle.shared_plant.specs.Seats.{newcomer};
 ghost use Rattle.c_plant.specs.Seats.{SeatSeen, HandsOut, WhyNoneHanded};
 ghost use Rattle.c_plant.specs.Tries.{SeatStepped, SeatPlanned, SeatPlannedNext, SeatIdled, SeatPeeked, SeatDrained};
 
 use admitted_core::AdmittedCore;
 use c_core::{
     EntryForm, NO_ITEM, NO_MEMORY, NO_OPERATION, NO_TRANSACTION, NOTHING, OK, StepForm, StoredForm,
-    TimeForm, idle_form, op_of, plan_form, plan_next_form, put_entries, step_form,
+    TimeForm, idle_form, op_of, plan_form, plan_next_form, put_entries, put_step,
 };
 use rt_base::{ItemId, TxId};
 use shared_plant::{Plant, Seat, Tried};
@@ -146,7 +146,7 @@ impl SeatStation {
         let Tried::Said(reply) = self.plant.try_step(&mut self.seat, serial, op) else {
             return BUSY;
         };
-        *answer = step_form(reply);
+        put_step(reply, answer);
         OK
     }
 

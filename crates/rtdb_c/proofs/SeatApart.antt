@@ -28,7 +28,6 @@ use Rattle.std.specs.contracts.alloc.Global as heap
 use Rattle.std.proofs.alloc.Global.TheLaws as heap_laws
 use Rattle.std.specs.contracts.impls.GlobalAllocator.TheImpl.{ghosts}
 use Rattle.std.proofs.GlobalToken.{dealloc_token-Testable}
-use Rattle.c_plant.specs.Seats.{SeatSeen}
 use Rattle.c_plant.specs.contracts.station.SeatStation as station
 use Rattle.raw_box.proofs.Apart.{two, as_two, block_of, in_its_block}
 use Rattle.rtdb_c.specs.Seated.{seated}

@@ -1,5 +1,5 @@
 -- A call by the handle of a log: `closed` where it is closed and stays so, and else `call` of the station before and after.
-use Rattle.std.specs.Prelude.{◌≡◌, ◌≢◌, ◌+◌, ◌<◌, ◌≤◌, ◌++◌, ℕ, [], List, length, drop, Option, None, Some, slice_get, true, false}
+use Rattle.std.specs.Prelude.{◌≡◌, ◌≢◌, ◌+◌, ◌<◌, ◌≤◌, ◌++◌, ℕ, List, length, drop, Option, None, Some, slice_get, true, false}
 use Rattle.step_journal.specs.declared.entry.Entry.{Entry}
 use Rattle.c_core.specs.declared.entries.EntryForm.{EntryForm}
 use Rattle.c_core.specs.declared.refusals.RefusalForm.{RefusalForm}

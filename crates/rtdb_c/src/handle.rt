@@ -71,11 +71,12 @@ impl Handle {
         }
     }
 
-    /// Puts a core in. What the handle had is freed.
+    /// Puts a core in. The handle is closed, so that it has nothing to be freed.
     pub fn put(&mut self, core: Box<CheckedCore>)
+        requires { self.old.core ≡ None }
         ensures { self.new.core ≡ Some core.value }
     {
-        drop(mem::replace(self, Handle::of(RawBox::of(core))));
+        mem::forget(mem::replace(self, Handle::of(RawBox::of(core))));
     }
 }
 

@@ -1,5 +1,5 @@
 //! The log of a database for programs in C: the functions of the last section of embed/rtdb.h.
-ghost use Rattle.std.specs.Prelude.{◌≡◌, ◌≢◌, ◌≤◌, ◌<◌, ◌++◌, drop, length, map, None, MatchOption, IfOk, IfErr, IfSome, IsSomeAnd};
+ghost use Rattle.std.specs.Prelude.{◌≡◌, ◌≢◌, ◌<◌, drop, map, None, MatchOption, IfOk, IfErr, IfSome, IsSomeAnd};
 ghost use Rattle.c_core.specs.Back.{entry_of};
 ghost use Rattle.c_log.specs.Opening.{WhyNotOpened};
 ghost use Rattle.c_log.specs.declared.refused.LogRefused.TheVariants.{OutOfMemory as WantOfMemory};
@@ -8,7 +8,7 @@ ghost use Rattle.rtdb_c.specs.Logged.{LogCalled, LogOpened, LogToldWhy, LogAppen
 use crate::log_handle::LogHandle;
 use crate::{CLOSED, OPEN};
 use c_core::{
-    EntryForm, NO_MEMORY, NO_ROOM, NOTHING, OK, RefusalForm, Refused, entry_form, refusal_form,
+    EntryForm, NO_MEMORY, NO_ROOM, NOTHING, OK, RefusalForm, Refused, put_entry, refusal_form,
 };
 use c_log::{AppendRefused, Call, LogRefused, LogStation};
 use std::alloc::Global;
@@ -33,7 +33,7 @@ pub const FULL: u32 = 25;
 
 /// A call that is to be made on the file of a log: `kind` is 0 for a write of `count` bytes at `offset`, 1 for a sync.
 #[repr(C)]
-#[derive(Clone, Copy, PartialEq, Eq, Debug)]
+#[derive(Clone, Copy)]
 pub struct CallForm {
     pub kind: u32,
     pub offset: u64,
@@ -162,7 +162,7 @@ fn found(station: &LogStation, place: usize, entry: &mut EntryForm) -> u32
 {
     match station.found().get(place) {
         Some(found) => {
-            *entry = entry_form(*found);
+            put_entry(*found, entry);
             OK
         }
         None => NOTHING,

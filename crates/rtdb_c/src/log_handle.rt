@@ -71,11 +71,12 @@ impl LogHandle {
         }
     }
 
-    /// Puts a station in. What the handle had is freed.
+    /// Puts a station in. The handle is closed, so that it has nothing to be freed.
     pub fn put(&mut self, station: Box<LogStation>)
+        requires { self.old.station ≡ None }
         ensures { self.new.station ≡ Some station.value }
     {
-        drop(mem::replace(self, LogHandle::of(RawBox::of(station))));
+        mem::forget(mem::replace(self, LogHandle::of(RawBox::of(station))));
     }
 }
 

@@ -71,11 +71,12 @@ impl SeatHandle {
         }
     }
 
-    /// Puts a seat in. What the handle had is freed.
+    /// Puts a seat in. The handle is closed, so that it has nothing to be freed.
     pub fn put(&mut self, station: Box<SeatStation>)
+        requires { self.old.seat ≡ None }
         ensures { self.new.seat ≡ Some station.value }
     {
-        drop(mem::replace(self, SeatHandle::of(RawBox::of(station))));
+        mem::forget(mem::replace(self, SeatHandle::of(RawBox::of(station))));
     }
 }
 

@@ -1,5 +1,4 @@
-use Rattle.std.proofs.Common.{◌≡◌, ◌+◌, ◌++◌, ◌∙◌, List, ℕ, length, arith, sym, subst}
-use Rattle.step_journal.specs.declared.entry.Entry.{Entry}
+use Rattle.std.proofs.Common.{◌∙◌, List, ℕ, arith, subst}
 use Rattle.durable_records.specs.Records.{HasFirst, Reads}
 use Rattle.durable_records.specs.Standing.{Stands}
 use Rattle.durable_records.proofs.Calls.{at_rest}

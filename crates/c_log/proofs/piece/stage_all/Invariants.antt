@@ -1,4 +1,4 @@
-use Rattle.std.proofs.Common.{◌≡◌, ℕ, ◌≤◌, ◌↔◌, List, [], length, take, IsSome}
+use Rattle.std.proofs.Common.{◌≡◌, ℕ, ◌↔◌, List, [], length, take, IsSome}
 use Rattle.std.specs.List.{AllByRecursion}
 use Rattle.durable_disk.specs.Device.{LeavesOnly}
 use Rattle.durable_records.specs.Records.{Reads}

@@ -23,7 +23,7 @@ pub returns-clause-answer : goal.returns-clause-answer
 returns-clause-answer c asked story _ named stands =
     let core = board_of c.args.self.now.core in
     let e : c.in-Some.op ≡ asked = same_op c.in-Some.op asked (sym c.in-Some.is ∙ c.op_of.ensures ∙ ap (λ (v : ℤ). op_named c.args.code c.args.item v) (to_z-of_z c.ranges.value) ∙ named) in
-    c.step_form.ensures ∙ ap form_of_step (c.step.ensures.answer story stands ∙ ap (λ (o : Op). step_reply_of core story c.args.job o) e)
+    c.put_step.ensures ∙ ap form_of_step (c.step.ensures.answer story stands ∙ ap (λ (o : Op). step_reply_of core story c.args.job o) e)
 
 pub returns-clause-after : goal.returns-clause-after
 returns-clause-after c asked story _ named stands =

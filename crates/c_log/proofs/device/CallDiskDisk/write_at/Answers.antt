@@ -1,4 +1,4 @@
-use Rattle.std.proofs.Common.{List, reverse, length, subst}
+use Rattle.std.proofs.Common.{reverse, length, subst}
 use Rattle.durable_disk.specs.Images.{Torn}
 use Rattle.durable_disk.specs.Device.{Follows}
 use Rattle.c_log.specs.Calls.{MayLeave}
