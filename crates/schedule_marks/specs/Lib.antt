@@ -1,2 +1,4 @@
 pub mod Parts
 pub mod Marks
+pub mod Lanes
+pub mod Shown
