@@ -7,7 +7,7 @@ use Rattle.txn_compiler.specs.declared.error.CompileError.{CompileError}
 use Rattle.txn_compiler.specs.declared.error.CompileError.TheVariants as compiling
 use Rattle.txn_compiler.specs.Refusal.{Refuses, compile_refusal}
 use Rattle.step_journal.specs.declared.entry.Entry.{Entry}
-use Rattle.step_journal.specs.History.{IsLegal}
+use Rattle.step_journal.specs.History.{IsLegal, state_of}
 use Rattle.serial_replay.specs.declared.serial.ReplayError.{ReplayError}
 use Rattle.serial_replay.specs.declared.serial.ReplayError.TheVariants as replaying
 use Rattle.serial_replay.specs.Replays.{Explains}
@@ -26,16 +26,16 @@ use Rattle.rt_base.specs.declared.name.Names.{Names}
 use Rattle.job_rows.specs.declared.row.JobRow.{JobRow}
 use Rattle.job_rows.specs.Rows.{job_rows}
 use Rattle.schedule_marks.specs.declared.part.Part.{Part}
-use Rattle.schedule_marks.specs.declared.mark.Mark.{Mark}
-use Rattle.schedule_marks.specs.Marks.{marks_of}
-use Rattle.picture_text.specs.Texts.{text_of}
+use Rattle.schedule_marks.specs.declared.shown.Limits.{Limits}
+use Rattle.schedule_marks.specs.declared.shown.Shown.{Shown}
+use Rattle.schedule_marks.specs.Shown.{shown_of}
 use Rattle.picture_command.specs.Parts.{part_of}
 use Rattle.command_replies.specs.declared.status.Status.{Status}
 use Rattle.command_replies.specs.declared.status.Status.TheVariants as statuses
 use Rattle.command_replies.specs.Verdicts.{status_of}
 use Rattle.command_replies.specs.Replies.{VerdictReply}
 use Rattle.picture_command.specs.declared.wanted.Wanted.{Wanted}
-use Rattle.picture_command.specs.Answers.{is_ok, picture_of, picture_in, DrawnReply, PictureReply}
+use Rattle.picture_command.specs.Answers.{is_ok, drawing, drawing_of, picture_of, picture_in, DrawnReply, PictureReply}
 
 -- a verdict whose status is Ok is Legal
 by_status : (input : List ℕ) (v : Verdict) → IsVerdict input v → is_ok (status_of v) ≡ true → IsVerdict input Legal
@@ -120,23 +120,27 @@ pub verdict_line : (wanted : Wanted) (input : List ℕ) (status : Status) (text 
     → VerdictReply input status text → PictureReply wanted input status text
 verdict_line wanted input status text e v = subst (λ (b : Bool). DrawnReply b wanted input status text) (sym e) v
 
-pub drawing : (wanted : Wanted) (input : List ℕ) (d : Document) (status : Status) (text : List ℕ) → Tells input d
+pub is_drawn : (wanted : Wanted) (input : List ℕ) (d : Document) (status : Status) (text : List ℕ) → Tells input d
     → input ≡ report_for d → status ≡ statuses.Ok → text ≡ picture_in d wanted → PictureReply wanted input status text
-drawing wanted input d status text tells whole is picture =
+is_drawn wanted input d status text tells whole is picture =
     subst (λ (s : Status). PictureReply wanted input s text) (sym is)
     (record { document = d; tells = tells; legal = whole; picture = picture })
 
--- the text of the part, the rows and the marks that were found
-pub whole_picture : (names : Names) (set : Set) (entries : List Entry) (wanted : Wanted) (part : Part) (rows : List JobRow)
-    (marks : List Mark) → part ≡ part_of wanted entries → rows ≡ job_rows set entries → marks ≡ marks_of set part rows entries
-    → text_of names set part marks ≡ picture_of names set entries wanted
-whole_picture names set entries wanted part rows marks p r m =
-    ap (λ (l : List Mark). text_of names set part l) (m ∙ ap (λ (q : List JobRow). marks_of set part q entries) r)
-    ∙ ap (λ (q : Part). text_of names set q (marks_of set q (job_rows set entries) entries)) p
+-- what is drawn of the part, the rows and what is shown, as they were found
+pub whole_picture : (names : Names) (set : Set) (limits : Limits) (entries : List Entry) (wanted : Wanted) (part : Part)
+    (rows : List JobRow) (shown : Shown) → part ≡ part_of wanted.ticks entries → rows ≡ job_rows set entries
+    → shown ≡ shown_of set part limits rows entries
+    → drawing names set limits rows (state_of set entries).items part shown wanted.page ≡ picture_of names set limits entries wanted
+whole_picture names set limits entries wanted part rows shown p r s =
+    ap (λ (h : Shown). drawing names set limits rows (state_of set entries).items part h wanted.page) s
+    ∙ (ap (λ (q : List JobRow). drawing names set limits q (state_of set entries).items part (shown_of set part limits q entries) wanted.page) r
+    ∙ ap (λ (q : Part). drawing_of names set limits entries q wanted.page) p)
 
 -- the picture of what the parts of a document hold
-pub parts_picture : (names own : Names) (set its : Set) (entries all : List Entry) (wanted : Wanted)
-    → names ≡ own → set ≡ its → entries ≡ all → picture_of names set entries wanted ≡ picture_of own its all wanted
-parts_picture names own set its entries all wanted n s e =
-    ap (λ (l : List Entry). picture_of names set l wanted) e
-    ∙ (ap (λ (q : Set). picture_of names q all wanted) s ∙ ap (λ (m : Names). picture_of m its all wanted) n)
+pub parts_picture : (names own : Names) (set its : Set) (limits found : Limits) (entries all : List Entry) (wanted : Wanted)
+    → names ≡ own → set ≡ its → limits ≡ found → entries ≡ all
+    → picture_of names set limits entries wanted ≡ picture_of own its found all wanted
+parts_picture names own set its limits found entries all wanted n s l e =
+    ap (λ (q : List Entry). picture_of names set limits q wanted) e
+    ∙ (ap (λ (q : Limits). picture_of names set q all wanted) l
+    ∙ (ap (λ (q : Set). picture_of names q found all wanted) s ∙ ap (λ (m : Names). picture_of m its found all wanted) n))

@@ -1,4 +1,5 @@
 pub mod Legal
 pub mod Telling
-pub mod OtherWords
 pub mod Due
+pub mod Admitting
+pub mod Firsts

@@ -4,6 +4,9 @@ use Rattle.std.specs.Io.KnownBytes.{Consumes, IsAtEnd, Keeps, Appends}
 use Rattle.rt_base.specs.declared.name.Names.{Names}
 use Rattle.txn_set.specs.Set.{Set}
 use Rattle.step_journal.specs.declared.entry.Entry.{Entry}
+use Rattle.step_journal.specs.History.{state_of}
+use Rattle.item_model.specs.declared.stored.Stored.{Stored}
+use Rattle.job_rows.specs.declared.row.JobRow.{JobRow}
 use Rattle.job_rows.specs.Rows.{job_rows}
 use Rattle.report_head.specs.IsHead.{set_of}
 use Rattle.report_reader.specs.declared.document.Document.{Document}
@@ -14,19 +17,33 @@ use Rattle.command_replies.specs.declared.status.Status.TheVariants as statuses
 use Rattle.command_replies.specs.Texts.{refused_line}
 use Rattle.command_replies.specs.Replies.{Reply, VerdictReply}
 use Rattle.command_replies.specs.Verdicts.{status_of}
-use Rattle.schedule_marks.specs.Marks.{marks_of}
+use Rattle.schedule_marks.specs.declared.part.Part.{Part}
+use Rattle.schedule_marks.specs.declared.shown.Limits.{Limits}
+use Rattle.schedule_marks.specs.declared.shown.Shown.{Shown}
+use Rattle.schedule_marks.specs.Shown.{shown_of}
 use Rattle.picture_text.specs.Texts.{text_of}
+use Rattle.picture_page.specs.Page.{page_text}
 use Rattle.picture_command.specs.declared.wanted.Wanted.{Wanted}
 use Rattle.picture_command.specs.Parts.{part_of}
+use Rattle.picture_command.specs.Limits.{limits_of}
 
--- the picture of the wanted part of a history: that of the marks of its entries and of the rows of its jobs
-abbrev pub picture_of : Names → Set → List Entry → Wanted → List ℕ
-picture_of names set entries wanted =
-    text_of names set (part_of wanted entries) (marks_of set (part_of wanted entries) (job_rows set entries) entries)
+-- a page, or a picture alone
+abbrev pub drawing : Names → Set → Limits → List JobRow → List Stored → Part → Shown → Bool → List ℕ
+drawing names set limits rows items part shown true = page_text names set part limits rows items shown
+drawing names set limits rows items part shown false = text_of names set part limits shown
 
--- the picture of a document
+-- that of a part of a history: from the rows of its jobs, its last items, and what is shown of the part
+abbrev pub drawing_of : Names → Set → Limits → List Entry → Part → Bool → List ℕ
+drawing_of names set limits entries part page =
+    drawing names set limits (job_rows set entries) (state_of set entries).items part
+    (shown_of set part limits (job_rows set entries) entries) page
+
+abbrev pub picture_of : Names → Set → Limits → List Entry → Wanted → List ℕ
+picture_of names set limits entries wanted = drawing_of names set limits entries (part_of wanted.ticks entries) wanted.page
+
+-- the picture of a document, with the bounds of its set, unless it is of a trial
 abbrev pub picture_in : Document → Wanted → List ℕ
-picture_in d wanted = picture_of d.head.names (set_of d.head) d.entries wanted
+picture_in d wanted = picture_of d.head.names (set_of d.head) (limits_of (set_of d.head) d.head.admitted) d.entries wanted
 
 -- the input is a legal report, and the text is its picture
 pub record Draws (wanted : Wanted) (input text : List ℕ) : Type 0 where
@@ -65,7 +82,7 @@ InputReply goes true status text = (status ≡ statuses.TooLong) × (text ≡ re
 InputReply goes false status text = goes status text
 
 abbrev pub usage_text : List ℕ
-usage_text = codes "usage: rtdb-picture [--from TICK --to TICK]\n"
+usage_text = codes "usage: rtdb-picture [--page] [--from TICK --to TICK]\n"
 
 -- all there is was taken, or more than the limit
 abbrev pub TakesAll : Option (List ℕ) → Option (List ℕ) → List ℕ → Type 0

@@ -1,22 +1,28 @@
 //! The picture of a report.
-ghost use Rattle.std.specs.Prelude.{◌≡◌, ◌≤◌, length, None, IfOk};
-ghost use Rattle.step_journal.specs.History.{IsLegal};
+ghost use Rattle.std.specs.Prelude.{◌≡◌, ◌<◌, ◌≤◌, ◌^◌, length, None, true, IfOk};
+ghost use Rattle.step_journal.specs.History.{IsLegal, state_of};
 ghost use Rattle.job_rows.specs.Rows.{job_rows};
 ghost use Rattle.report_head.specs.IsHead.{IsHead, set_of};
 ghost use Rattle.report_verdict.specs.declared.verdict.Verdict.TheVariants.{Legal as LegalReport};
 ghost use Rattle.report_verdict.specs.Verdict.{IsVerdict, Tells, set_refusal, report_for};
+ghost use Rattle.picture_command.specs.Limits.{limits_of};
 ghost use Rattle.picture_command.specs.Parts.{IsEarly};
-ghost use Rattle.picture_command.specs.Answers.{picture_of as picture_of_history, picture_in, is_ok as is_ok_status, PictureReply};
+ghost use Rattle.picture_command.specs.Answers.{drawing, picture_of as picture_of_history, picture_in, is_ok as is_ok_status, PictureReply};
 
+use crate::limits::with_limits;
 use crate::wanted::{Wanted, part_in};
 use command_replies::{REPORT_LIMIT, Reply, Status, replayed, written};
+use item_model::Items;
 use job_rows::JobRow;
+use name_table::NameTables;
+use picture_page::page;
 use picture_text::picture;
+use report_head::Head;
 use report_reader::{Document, DocumentError, read_document};
 use rt_base::{List, Names, OutOfMemory};
 use run_report::compile_head;
-use schedule_marks::marks;
-use serial_replay::{ReplayError, replay};
+use schedule_marks::{Limits, Part, Shown, show};
+use serial_replay::{ReplayError, last_items, replay};
 use std::alloc::Global;
 use step_journal::Entry;
 use txn_compiler::CompileError;
@@ -44,21 +50,96 @@ fn rows_of(alloc: Global, set: &CompiledSet, entries: &[Entry]) -> Result<List<J
     }
 }
 
+// The last items of a legal history.
+#[tactic(auto, using(crate::proofs::Legal::replaying_wants))]
+fn items_of(alloc: Global, set: &CompiledSet, entries: &[Entry]) -> Result<Items, OutOfMemory>
+    requires { IsLegal set.now entries.now }
+    ensures { IfOk result (λ items. items ≡ (state_of set.now entries.now).items) }
+{
+    match last_items(alloc, set, entries) {
+        Ok(items) => Ok(items),
+        Err(error) => Err(not_replayed(error)),
+    }
+}
+
+// The page, with the last items of the history.
+fn page_of(
+    alloc: Global,
+    names: &Names,
+    set: &CompiledSet,
+    limits: &Limits,
+    rows: &[JobRow],
+    entries: &[Entry],
+    part: Part,
+    shown: &Shown,
+) -> Result<Vec<u8>, OutOfMemory>
+    requires legal { IsLegal set.now entries.now }
+    requires early { part.from < 2 ^ 63 }
+    ensures { IfOk result (λ text. text.items ≡ drawing names.now set.now limits.now rows.now (state_of set.now entries.now).items part shown.now true) }
+{
+    let items = items_of(alloc, set, entries)?;
+    page(
+        alloc,
+        names,
+        set,
+        part,
+        limits,
+        rows,
+        items.as_slice(),
+        shown,
+    )
+}
+
+// A page, or a picture alone.
+fn drawing_of(
+    alloc: Global,
+    names: &Names,
+    set: &CompiledSet,
+    limits: &Limits,
+    rows: &[JobRow],
+    entries: &[Entry],
+    part: Part,
+    shown: &Shown,
+    as_page: bool,
+) -> Result<Vec<u8>, OutOfMemory>
+    requires legal { IsLegal set.now entries.now }
+    requires early { part.from < 2 ^ 63 }
+    ensures { IfOk result (λ text. text.items ≡ drawing names.now set.now limits.now rows.now (state_of set.now entries.now).items part shown.now as_page) }
+{
+    if as_page {
+        page_of(alloc, names, set, limits, rows, entries, part, shown)
+    } else {
+        picture(alloc, names, set, part, limits, shown)
+    }
+}
+
 fn picture_of(
     alloc: Global,
     names: &Names,
     set: &CompiledSet,
+    limits: &Limits,
     entries: &[Entry],
     wanted: Wanted,
 ) -> Result<Vec<u8>, OutOfMemory>
     requires legal { IsLegal set.now entries.now }
     requires early { IsEarly wanted }
-    ensures { IfOk result (λ text. text.items ≡ picture_of_history names.now set.now entries.now wanted) }
+    ensures { IfOk result (λ text. text.items ≡ picture_of_history names.now set.now limits.now entries.now wanted) }
 {
     let rows = rows_of(alloc, set, entries)?;
-    let part = part_in(wanted, entries);
-    let marks = marks(alloc, set, part, rows.as_slice(), entries)?;
-    picture(alloc, names, set, part, &marks)
+    let rows = rows.as_slice();
+    let part = part_in(wanted.ticks, entries);
+    let shown = show(alloc, set, part, limits, rows, entries)?;
+    drawing_of(
+        alloc,
+        names,
+        set,
+        limits,
+        rows,
+        entries,
+        part,
+        &shown,
+        wanted.page,
+    )
 }
 
 // Why declarations that are not refused are not compiled.
@@ -71,8 +152,22 @@ fn not_compiled(error: CompileError) -> OutOfMemory
     }
 }
 
-// The picture of a document that is a legal report.
+// The declarations of a report that are not refused, with their names.
 #[tactic(auto, using(crate::proofs::Legal::compiling_wants))]
+fn compiled(alloc: Global, head: Head) -> Result<(NameTables, CompiledSet), OutOfMemory>
+    requires good { IsHead head }
+    requires not_refused { set_refusal head ≡ None }
+    ensures names { IfOk result (λ r. r.0 ≡ head.names) }
+    ensures set { IfOk result (λ r. r.1 ≡ set_of head) }
+{
+    match compile_head(alloc, head) {
+        Ok(compiled) => Ok(compiled),
+        Err(error) => Err(not_compiled(error)),
+    }
+}
+
+// The picture of a document that is a legal report.
+#[tactic(auto, using(crate::proofs::Admitting::not_refused_in))]
 fn picture_of_document(
     alloc: Global,
     document: Document,
@@ -90,10 +185,17 @@ fn picture_of_document(
         entries,
         first: _,
     } = document;
-    match compile_head(alloc, head) {
-        Ok((tables, set)) => picture_of(alloc, tables.names(), &set, entries.as_slice(), wanted),
-        Err(error) => Err(not_compiled(error)),
-    }
+    let admitted = head.admitted;
+    let (tables, set) = compiled(alloc, head)?;
+    let (set, limits) = with_limits(alloc, set, admitted)?;
+    picture_of(
+        alloc,
+        tables.names(),
+        &set,
+        &limits,
+        entries.as_slice(),
+        wanted,
+    )
 }
 
 // Why a legal report is not read.
@@ -132,7 +234,7 @@ fn is_ok(status: Status) -> bool
 }
 
 /// The picture of a legal report, or else the verdict's line.
-#[tactic(auto, using(crate::proofs::Legal::is_legal, crate::proofs::Legal::verdict_line, crate::proofs::Legal::drawing))]
+#[tactic(auto, using(crate::proofs::Legal::is_legal, crate::proofs::Legal::verdict_line, crate::proofs::Legal::is_drawn))]
 pub fn drawn(alloc: Global, input: &[u8], wanted: Wanted) -> Result<Reply, OutOfMemory>
     requires short { length input.now ≤ REPORT_LIMIT }
     requires early { IsEarly wanted }

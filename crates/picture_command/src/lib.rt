@@ -2,10 +2,11 @@
 #![tactic(auto)]
 
 mod drawn;
+mod limits;
 mod top;
 mod wanted;
 
 pub use command_replies::Status;
 pub use command_words::Word;
 pub use top::draw_report;
-pub use wanted::Wanted;
+pub use wanted::{Ticks, Wanted};

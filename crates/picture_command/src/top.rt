@@ -12,7 +12,7 @@ use command_words::Word;
 use io_edge::{ReadError, Sink, Source, read_all, write_all};
 use std::alloc::Global;
 
-const USAGE: &[u8] = b"usage: rtdb-picture [--from TICK --to TICK]\n";
+const USAGE: &[u8] = b"usage: rtdb-picture [--page] [--from TICK --to TICK]\n";
 
 // The reply to the report that is read.
 fn reply_to<S: Source>(alloc: Global, wanted: Wanted, source: &mut S) -> Result<Reply, Unanswered>

@@ -1,4 +1,3 @@
-pub mod Svg
-pub mod Places
 pub mod Legend
+pub mod Ages
 pub mod Texts

@@ -1,113 +1,76 @@
-//! What stands around the marks: the head, the legend, the time line, and the name of each row.
+//! What stands around the marks: the head, the time line, and the lines of the rows.
 ghost use Rattle.std.specs.Prelude.{◌≡◌, ◌<◌, ◌≤◌, ◌^◌, ◌++◌, length, OnOk};
-ghost use Rattle.picture_text.specs.Texts.{right as right_of, whole_width, whole_height, below, row_edges, row_title, row_level, row_text, row_of, tick_of, number_text, number_of, numbers_shown, numbers_text, head, backdrop, sheet, caption, frame};
+ghost use Rattle.picture_text.specs.Texts.{right as right_of, whole_width, whole_height, below, row_text, row_of, rows_text, tick_of, number_text, number_of, numbers_shown, numbers_text, head, about_text, about, backdrop, sheet};
 
-use crate::legend::add_legend;
-use crate::place::{ceiling_y, name, own_ceiling_y, priority, shown, step, top, x, y, y_below};
-use crate::svg::{add, add_count, add_line, add_number, add_rect, add_words};
-use rt_base::{Names, OutOfMemory, Prio, Tick, TxId};
+use crate::legend::{add_arrows, add_legend, add_style};
+use picture_places::{
+    View, add, add_count, add_line, add_number, add_rect, item_y, own_ceiling_y, shown, step, top,
+    x, y,
+};
+use rt_base::{ItemId, OutOfMemory, Tick, TxId};
 use schedule_marks::Part;
 use txn_set::CompiledSet;
 
-fn right(part: Part) -> u64
-    ensures value { result ≡ right_of part }
-    ensures most { result ≤ 200250 }
+/// Where the part ends.
+pub fn right(view: View) -> u64
+    ensures value { result ≡ right_of view }
+    ensures most { result ≤ 300000 }
 {
-    x(part, part.to)
+    x(view, view.part.to)
 }
 
-fn full_width(part: Part) -> u64
-    ensures { result ≡ whole_width part }
+/// The width of the whole.
+pub(crate) fn full_width(view: View) -> u64
+    ensures { result ≡ whole_width view }
 {
-    (right(part) + 70).max(900)
+    (right(view) + 50).max(900)
 }
 
-fn full_height(set: &CompiledSet) -> u64
+/// The height of the whole.
+pub fn full_height(set: &CompiledSet) -> u64
     ensures value { result ≡ whole_height set.now }
-    ensures most { result ≤ 62584 }
+    ensures most { result ≤ 79100 }
 {
-    y_below(set, 0) + 10
+    set.is_compiled();
+    item_y(set, ItemId(set.items().len() as u32)) + 24
 }
 
-// The edge of a row, and the line on which its steps stand.
-fn add_edges(into: &mut Vec<u8>, part: Part, y: u64) -> Result<(), OutOfMemory>
+// The edge of a row, the line on which its steps stand, and the level of the ceiling that its priority is.
+fn add_row(into: &mut Vec<u8>, view: View, y: u64, level: u64) -> Result<(), OutOfMemory>
     requires { y ≤ 1000000 }
-    ensures { OnOk result (into.new.items ≡ into.old.items ++ row_edges part y) }
+    ensures { OnOk result (into.new.items ≡ into.old.items ++ row_text view y level) }
 {
-    add_line(into, b"b", 0, y, right(part), y)?;
-    add_line(into, b"h", 250, y + 44, right(part), y + 44)
-}
-
-fn add_title(into: &mut Vec<u8>, name: &[u8], prio: Prio, y: u64) -> Result<(), OutOfMemory>
-    requires { y ≤ 1000000 }
-    ensures { OnOk result (into.new.items ≡ into.old.items ++ row_title name.now prio y) }
-{
-    add_words(into, b"n", 10, y + 30, name, b"")?;
-    add_count(into, b"s", 10, y + 44, b"priority ", prio as u64)
-}
-
-// The level of the ceiling that the priority of a row is.
-fn add_level(into: &mut Vec<u8>, part: Part, name: &[u8], level: u64) -> Result<(), OutOfMemory>
-    requires { level ≤ 1000000 }
-    ensures { OnOk result (into.new.items ≡ into.old.items ++ row_level part name.now level) }
-{
-    add_line(into, b"g", 250, level, right(part), level)?;
-    add_words(into, b"s e", 244, level + 4, name, b"")
-}
-
-fn add_row(
-    into: &mut Vec<u8>,
-    part: Part,
-    name: &[u8],
-    prio: Prio,
-    y: u64,
-    level: u64,
-) -> Result<(), OutOfMemory>
-    requires { (y ≤ 1000000) × (level ≤ 1000000) }
-    ensures { OnOk result (into.new.items ≡ into.old.items ++ row_text part name.now prio y level) }
-{
-    add_edges(into, part, y)?;
-    add_title(into, name, prio, y)?;
-    add_level(into, part, name, level)?;
+    let left = view.left as u64;
+    let right = right(view);
+    add_line(into, b"b", left, y, right, y)?;
+    add_line(into, b"h", left, y + 44, right, y + 44)?;
+    add_line(into, b"g", left, level, right, level)?;
     Ok(())
 }
 
 fn add_row_of(
     into: &mut Vec<u8>,
-    names: &Names,
     set: &CompiledSet,
-    part: Part,
+    view: View,
     tx: TxId,
 ) -> Result<(), OutOfMemory>
-    ensures { OnOk result (into.new.items ≡ into.old.items ++ row_of names.now set.now part tx.0) }
+    ensures { OnOk result (into.new.items ≡ into.old.items ++ row_of set.now view tx.0) }
 {
-    let name = name(names.txns.as_slice(), tx.0);
-    add_row(
-        into,
-        part,
-        name,
-        priority(set, tx),
-        y(set, tx),
-        own_ceiling_y(set, tx),
-    )
+    add_row(into, view, y(set, tx), own_ceiling_y(set, tx))
 }
 
-fn add_rows(
-    into: &mut Vec<u8>,
-    names: &Names,
-    set: &CompiledSet,
-    part: Part,
-) -> Result<(), OutOfMemory>
-    ensures { OnOk result (into.new.items ≡ into.old.items ++ below (row_of names.now set.now part) (length set.now.txns)) }
+/// The lines of the rows.
+pub(crate) fn add_rows(into: &mut Vec<u8>, set: &CompiledSet, view: View) -> Result<(), OutOfMemory>
+    ensures { OnOk result (into.new.items ≡ into.old.items ++ rows_text set.now view) }
 {
     set.is_compiled();
     for i in 0..set.txns().len() {
-        add_row_of(into, names, set, part, TxId(i as u32))?;
+        add_row_of(into, set, view, TxId(i as u32))?;
     }
     Ok(())
 }
 
-// A number of the time line, and the line down from it.
+// A number of the time line, above and below, and the line between.
 fn add_tick(
     into: &mut Vec<u8>,
     tick: Tick,
@@ -117,8 +80,10 @@ fn add_tick(
 ) -> Result<(), OutOfMemory>
     ensures { OnOk result (into.new.items ≡ into.old.items ++ number_text tick x top bottom) }
 {
-    add_line(into, b"g", x, 76, x, bottom)?;
-    add_count(into, b"s m", x, top.saturating_sub(8), b"", tick)
+    add_line(into, b"g", x, 96, x, bottom.saturating_sub(20))?;
+    add_count(into, b"s m", x, top.saturating_sub(8), b"", tick)?;
+    add_count(into, b"s m", x, bottom.saturating_sub(8), b"", tick)?;
+    Ok(())
 }
 
 // How many numbers the time line has.
@@ -143,23 +108,28 @@ fn number_tick(part: Part, i: u64) -> Tick
 fn add_number_of(
     into: &mut Vec<u8>,
     set: &CompiledSet,
-    part: Part,
+    view: View,
     i: u64,
 ) -> Result<(), OutOfMemory>
-    requires early { part.from < 2 ^ 63 }
+    requires early { view.part.from < 2 ^ 63 }
     requires few { i ≤ 10000 }
-    ensures { OnOk result (into.new.items ≡ into.old.items ++ number_of set.now part i) }
+    ensures { OnOk result (into.new.items ≡ into.old.items ++ number_of set.now view i) }
 {
-    let tick = number_tick(part, i);
-    add_tick(into, tick, x(part, tick), top(set), full_height(set))
+    let tick = number_tick(view.part, i);
+    add_tick(into, tick, x(view, tick), top(set), full_height(set))
 }
 
-fn add_numbers(into: &mut Vec<u8>, set: &CompiledSet, part: Part) -> Result<(), OutOfMemory>
-    requires { part.from < 2 ^ 63 }
-    ensures { OnOk result (into.new.items ≡ into.old.items ++ numbers_text set.now part) }
+/// The time line.
+pub(crate) fn add_numbers(
+    into: &mut Vec<u8>,
+    set: &CompiledSet,
+    view: View,
+) -> Result<(), OutOfMemory>
+    requires { view.part.from < 2 ^ 63 }
+    ensures { OnOk result (into.new.items ≡ into.old.items ++ numbers_text set.now view) }
 {
-    for i in 0..number_count(part) {
-        add_number_of(into, set, part, i)?;
+    for i in 0..number_count(view.part) {
+        add_number_of(into, set, view, i)?;
     }
     Ok(())
 }
@@ -169,7 +139,7 @@ fn add_head(into: &mut Vec<u8>, width: u64, height: u64) -> Result<(), OutOfMemo
 {
     add_number(
         into,
-        b"<svg xmlns='http://www.w3.org/2000/svg' width='",
+        b"<svg xmlns='http://www.w3.org/2000/svg' role='img' aria-labelledby='about more' width='",
         width,
     )?;
     add_number(into, b"' height='", height)?;
@@ -179,47 +149,47 @@ fn add_head(into: &mut Vec<u8>, width: u64, height: u64) -> Result<(), OutOfMemo
     Ok(())
 }
 
-fn add_backdrop(into: &mut Vec<u8>, width: u64, height: u64) -> Result<(), OutOfMemory>
-    ensures { OnOk result (into.new.items ≡ into.old.items ++ backdrop width height) }
+fn add_about_text(into: &mut Vec<u8>, from: Tick, to: Tick, count: u64) -> Result<(), OutOfMemory>
+    ensures { OnOk result (into.new.items ≡ into.old.items ++ about_text from to count) }
 {
-    add_rect(into, b"bg", 0, 64, width, height.saturating_sub(64))
-}
-
-// The head, the legend and what all else is drawn on.
-fn add_sheet(into: &mut Vec<u8>, width: u64, height: u64) -> Result<(), OutOfMemory>
-    ensures { OnOk result (into.new.items ≡ into.old.items ++ sheet width height) }
-{
-    add_head(into, width, height)?;
-    add_legend(into)?;
-    add_backdrop(into, width, height)?;
+    add_number(into, b"<title id='about'>Schedule from tick ", from)?;
+    add_number(into, b" to tick ", to)?;
+    add_number(into, b"</title>\n<desc id='more'>A row for each of ", count)?;
+    add(
+        into,
+        b" transactions, in falling priority; time goes from left to right.</desc>\n",
+    )?;
     Ok(())
 }
 
-fn add_whole_sheet(into: &mut Vec<u8>, set: &CompiledSet, part: Part) -> Result<(), OutOfMemory>
-    ensures { OnOk result (into.new.items ≡ into.old.items ++ sheet (whole_width part) (whole_height set.now)) }
+/// What a screen reader says.
+pub fn add_about(into: &mut Vec<u8>, set: &CompiledSet, part: Part) -> Result<(), OutOfMemory>
+    ensures { OnOk result (into.new.items ≡ into.old.items ++ about set.now part) }
 {
-    add_sheet(into, full_width(part), full_height(set))
+    add_about_text(into, part.from, part.to, set.txns().len() as u64)
 }
 
-fn add_caption(into: &mut Vec<u8>, set: &CompiledSet) -> Result<(), OutOfMemory>
-    ensures { OnOk result (into.new.items ≡ into.old.items ++ caption set.now) }
+fn add_backdrop(into: &mut Vec<u8>, width: u64, height: u64) -> Result<(), OutOfMemory>
+    ensures { OnOk result (into.new.items ≡ into.old.items ++ backdrop width height) }
 {
-    add_words(into, b"n", 10, ceiling_y(set, 0) + 4, b"ceiling", b"")
+    add_rect(into, b"bg", 0, 0, width, height)
 }
 
-/// What stands before the marks.
-pub(crate) fn add_frame(
+/// The head, what all else is drawn on, and the legend.
+pub(crate) fn add_sheet(
     into: &mut Vec<u8>,
-    names: &Names,
     set: &CompiledSet,
     part: Part,
+    width: u64,
+    height: u64,
 ) -> Result<(), OutOfMemory>
-    requires { part.from < 2 ^ 63 }
-    ensures { OnOk result (into.new.items ≡ into.old.items ++ frame names.now set.now part) }
+    ensures { OnOk result (into.new.items ≡ into.old.items ++ sheet set.now part width height) }
 {
-    add_whole_sheet(into, set, part)?;
-    add_numbers(into, set, part)?;
-    add_rows(into, names, set, part)?;
-    add_caption(into, set)?;
+    add_head(into, width, height)?;
+    add_about(into, set, part)?;
+    add_style(into)?;
+    add_arrows(into)?;
+    add_backdrop(into, width, height)?;
+    add_legend(into)?;
     Ok(())
 }

@@ -1,32 +1,35 @@
 //! The elements of each mark.
 ghost use Rattle.std.specs.Prelude.{◌≡◌, ◌++◌, ◌≤◌, OnOk};
-ghost use Rattle.picture_text.specs.Texts.{span, op_class, op_letter, letter_class, letter as letter_text, step_width, block, step_text, end_class, end_word, lock_class, lock_text, ceiling_text, wait_text, refusal_text, release_text, deadline_text, ended_text, mark_text, marks_text};
+ghost use Rattle.picture_text.specs.Texts.{span, op_class, op_letter, letter_class, letter as letter_text, step_width, block, step_text, end_class, end_letter, disc, ended_text, lock_class, lock_text, ceiling_text, cut_by, label_end as end_of_label, wait_bars, wait_label, wait_text, refusal_text, release_text, deadline_text, mark_text, marks_text, link_text, link_of, links_text};
 
-use crate::place::{ceiling_y, lock_y, name, width, x, y};
-use crate::svg::{add_circle, add_count, add_line, add_rect, add_word, add_words};
-use rt_base::{End, Names, Op, OutOfMemory, Tick};
-use schedule_marks::{Mark, Part};
+use itoa::Buffer;
+use picture_places::{
+    View, add_circle, add_fitting, add_line, add_rect, add_word, ceiling_y, deadline, lock_y,
+    middle, name, width, x, y,
+};
+use rt_base::{End, Names, Op, OutOfMemory, Tick, TxId};
+use schedule_marks::Mark;
 use txn_set::CompiledSet;
 
 // A field over the ticks from one up to another.
 fn add_span(
     into: &mut Vec<u8>,
-    part: Part,
+    view: View,
     class: &[u8],
     from: Tick,
     to: Tick,
     y: u64,
     height: u64,
 ) -> Result<(), OutOfMemory>
-    ensures { OnOk result (into.new.items ≡ into.old.items ++ span part class.now from to y height) }
+    ensures { OnOk result (into.new.items ≡ into.old.items ++ span view class.now from to y height) }
 {
-    let left = x(part, from);
+    let left = x(view, from);
     add_rect(
         into,
         class,
         left,
         y,
-        x(part, to).saturating_sub(left),
+        x(view, to).saturating_sub(left),
         height,
     )
 }
@@ -59,9 +62,9 @@ fn class_of_letter(op: Op) -> &'static [u8]
     ensures { result.now ≡ letter_class op }
 {
     match op {
-        Op::Read(_) => b"m",
+        Op::Read(_) => b"j",
         Op::Write(_, _) => b"z",
-        Op::Compute => b"m",
+        Op::Compute => b"j",
         Op::Commit => b"z",
         Op::Quit => b"z",
     }
@@ -79,7 +82,7 @@ fn add_letter(into: &mut Vec<u8>, width: u64, op: Op, x: u64, y: u64) -> Result<
         into,
         class_of_letter(op),
         x + width / 2,
-        y + 36,
+        y + 40,
         letter_of(op),
     )
 }
@@ -120,17 +123,17 @@ fn class_of_end(end: End) -> &'static [u8]
     }
 }
 
-// What is written beside an end; nothing beside a commit.
-fn word_of_end(end: End) -> &'static [u8]
-    ensures { result.now ≡ end_word end }
+// The letter of an end; none of a commit.
+fn letter_of_end(end: End) -> &'static [u8]
+    ensures { result.now ≡ end_letter end }
 {
     match end {
         End::Committed => b"",
-        End::Overrun => b"overrun",
-        End::Late => b"late",
-        End::Stale { .. } => b"stale",
-        End::Apart { .. } => b"apart",
-        End::Quit => b"quit",
+        End::Overrun => b"O",
+        End::Late => b"L",
+        End::Stale { .. } => b"S",
+        End::Apart { .. } => b"A",
+        End::Quit => b"Q",
     }
 }
 
@@ -142,7 +145,7 @@ fn class_of_lock(is_write: bool) -> &'static [u8]
 
 fn add_lock(
     into: &mut Vec<u8>,
-    part: Part,
+    view: View,
     item: &[u8],
     is_write: bool,
     from: Tick,
@@ -150,10 +153,13 @@ fn add_lock(
     y: u64,
 ) -> Result<(), OutOfMemory>
     requires { y ≤ 1000000 }
-    ensures { OnOk result (into.new.items ≡ into.old.items ++ lock_text part item.now is_write from to y) }
+    ensures { OnOk result (into.new.items ≡ into.old.items ++ lock_text view item.now is_write from to y) }
 {
-    add_span(into, part, class_of_lock(is_write), from, to, y, 12)?;
-    add_words(into, b"s", x(part, from) + 3, y + 10, item, b"")
+    let left = x(view, from);
+    let room = x(view, to).saturating_sub(left);
+    add_span(into, view, class_of_lock(is_write), from, to, y, 12)?;
+    add_fitting(into, b"s", left + 3, y + 10, room, item, b"")?;
+    Ok(())
 }
 
 fn add_ceiling(into: &mut Vec<u8>, width: u64, x: u64, y: u64, base: u64) -> Result<(), OutOfMemory>
@@ -164,68 +170,163 @@ fn add_ceiling(into: &mut Vec<u8>, width: u64, x: u64, y: u64, base: u64) -> Res
     add_line(into, b"t", x, y, x + width, y)
 }
 
+// Where a later wait on a job of the transaction cuts a label off.
+fn cut(tx: TxId, from: Tick, to: Tick, mark: Mark) -> Tick
+    ensures { result ≡ cut_by tx.0 from to mark }
+{
+    match mark {
+        Mark::Wait {
+            by,
+            from: start,
+            ..
+        } => {
+            if by.tx.0 == tx.0 && from < start {
+                start.min(to)
+            } else {
+                to
+            }
+        }
+        Mark::Pending { .. } => to,
+        Mark::Lock { .. } => to,
+        Mark::Ceiling { .. } => to,
+        Mark::Step { .. } => to,
+        Mark::Refusal { .. } => to,
+        Mark::Release { .. } => to,
+        Mark::Deadline { .. } => to,
+        Mark::Ended { .. } => to,
+    }
+}
+
+// Where the label of a wait ends: the next one on the same transaction may begin earlier than this one ends.
+fn label_end(tx: TxId, from: Tick, to: Tick, marks: &[Mark]) -> Tick
+    ensures { result ≡ end_of_label tx.0 from to marks.now }
+{
+    let mut end = to;
+    for mark in marks {
+        end = cut(tx, from, end, *mark);
+    }
+    end
+}
+
 // On the row of the job that waits, and on that of the other.
-fn add_wait(
+fn add_wait_bars(
     into: &mut Vec<u8>,
-    part: Part,
-    waiting: &[u8],
+    view: View,
     from: Tick,
     to: Tick,
     y: u64,
     other: u64,
 ) -> Result<(), OutOfMemory>
     requires { (y ≤ 1000000) × (other ≤ 1000000) }
-    ensures { OnOk result (into.new.items ≡ into.old.items ++ wait_text part waiting.now from to y other) }
+    ensures { OnOk result (into.new.items ≡ into.old.items ++ wait_bars view from to y other) }
 {
-    add_span(into, part, b"o", from, to, y + 21, 22)?;
-    add_span(into, part, b"i", from, to, other + 46, 12)?;
-    add_words(into, b"s", x(part, from) + 3, other + 56, b"as ", waiting)
+    add_span(into, view, b"o", from, to, y + 21, 22)?;
+    add_span(into, view, b"i", from, to, other + 60, 12)
 }
 
+// Whose priority the other has, if there is room.
+fn add_wait_label(
+    into: &mut Vec<u8>,
+    view: View,
+    waiting: &[u8],
+    from: Tick,
+    to: Tick,
+    y: u64,
+) -> Result<(), OutOfMemory>
+    requires { y ≤ 1000000 }
+    ensures { OnOk result (into.new.items ≡ into.old.items ++ wait_label view waiting.now from to y) }
+{
+    let left = x(view, from);
+    let room = x(view, to).saturating_sub(left);
+    add_fitting(into, b"s", left + 3, y + 70, room, b"as ", waiting)
+}
+
+fn add_wait(
+    into: &mut Vec<u8>,
+    view: View,
+    waiting: &[u8],
+    from: Tick,
+    to: Tick,
+    until: Tick,
+    y: u64,
+    other: u64,
+) -> Result<(), OutOfMemory>
+    requires { (y ≤ 1000000) × (other ≤ 1000000) }
+    ensures { OnOk result (into.new.items ≡ into.old.items ++ wait_text view waiting.now from to until y other) }
+{
+    add_wait_bars(into, view, from, to, y, other)?;
+    add_wait_label(into, view, waiting, from, until, other)
+}
+
+// From the step that is refused, and to that of the job that is waited on.
 fn add_refusal(into: &mut Vec<u8>, x: u64, y: u64, other: u64) -> Result<(), OutOfMemory>
-    requires { (x ≤ 1000000) × (y ≤ 1000000) × (other ≤ 1000000) }
+    requires { (y ≤ 1000000) × (other ≤ 1000000) }
     ensures { OnOk result (into.new.items ≡ into.old.items ++ refusal_text x y other) }
 {
-    add_line(into, b"v", x + 2, y + 32, x + 2, other + 24)
+    add_line(into, b"vs", x, y + 32, x, y + 44)?;
+    add_line(into, b"v", x, other + 12, x, other + 27)
 }
 
 fn add_deadline(into: &mut Vec<u8>, x: u64, y: u64) -> Result<(), OutOfMemory>
     requires { y ≤ 1000000 }
     ensures { OnOk result (into.new.items ≡ into.old.items ++ deadline_text x y) }
 {
-    let x = x.saturating_sub(2);
-    add_line(into, b"d", x, y + 4, x, y + 44)
+    add_line(into, b"d", x, y + 4, x, y + 20)
 }
 
-fn add_release(into: &mut Vec<u8>, x: u64, y: u64, serial: u32) -> Result<(), OutOfMemory>
+// An arrow up, and the job's serial, if there is room for it before the deadline.
+fn add_release(
+    into: &mut Vec<u8>,
+    view: View,
+    deadline: Tick,
+    x: u64,
+    y: u64,
+    serial: u32,
+) -> Result<(), OutOfMemory>
     requires { (x ≤ 1000000) × (y ≤ 1000000) }
-    ensures { OnOk result (into.new.items ≡ into.old.items ++ release_text x y serial) }
+    ensures { OnOk result (into.new.items ≡ into.old.items ++ release_text view deadline x y serial) }
 {
-    add_line(into, b"u", x + 2, y + 44, x + 2, y + 4)?;
-    add_count(into, b"s", x + 7, y + 15, b"#", serial as u64)
+    let room = (width(view) * deadline.min(1000)).saturating_sub(6);
+    let mut digits = Buffer::new();
+    let digits = digits.format(serial as u64).as_bytes();
+    add_line(into, b"u", x, y + 20, x, y + 4)?;
+    add_fitting(into, b"f", x + 6, y + 14, room, b"#", digits)
 }
 
-fn add_end(into: &mut Vec<u8>, x: u64, y: u64, end: End) -> Result<(), OutOfMemory>
-    requires { (x ≤ 1000000) × (y ≤ 1000000) }
-    ensures { OnOk result (into.new.items ≡ into.old.items ++ ended_text x y end) }
+fn add_disc(into: &mut Vec<u8>, end: End, x: u64, y: u64) -> Result<(), OutOfMemory>
+    requires { y ≤ 1000000 }
+    ensures { OnOk result (into.new.items ≡ into.old.items ++ disc end x y) }
 {
-    add_circle(into, class_of_end(end), x, y + 44)?;
-    add_word(into, b"s", x + 8, y + 56, word_of_end(end))
+    add_circle(into, class_of_end(end), x, y + 52)?;
+    add_word(into, b"l", x, y + 55, letter_of_end(end))
+}
+
+// A disc, or a short field where ticks are narrow.
+fn add_end(into: &mut Vec<u8>, width: u64, x: u64, y: u64, end: End) -> Result<(), OutOfMemory>
+    requires { y ≤ 1000000 }
+    ensures { OnOk result (into.new.items ≡ into.old.items ++ ended_text width x y end) }
+{
+    if width >= 8 {
+        add_disc(into, end, x, y)
+    } else {
+        add_rect(into, class_of_end(end), x, y + 46, width.min(2), 12)
+    }
 }
 
 fn add_mark(
     into: &mut Vec<u8>,
     names: &Names,
     set: &CompiledSet,
-    part: Part,
+    view: View,
+    marks: &[Mark],
     mark: Mark,
 ) -> Result<(), OutOfMemory>
-    ensures { OnOk result (into.new.items ≡ into.old.items ++ mark_text names.now set.now part mark) }
+    ensures { OnOk result (into.new.items ≡ into.old.items ++ mark_text names.now set.now view marks.now mark) }
 {
     match mark {
         Mark::Pending { job, from, to } => {
             let y = y(set, job.tx) + 20;
-            add_span(into, part, b"p", from, to, y, 24)
+            add_span(into, view, b"p", from, to, y, 24)
         }
         Mark::Lock {
             job,
@@ -237,27 +338,47 @@ fn add_mark(
         } => {
             let y = lock_y(set, job.tx, item, is_write);
             let name = name(names.items.as_slice(), item.0);
-            add_lock(into, part, name, is_write, from, to, y)
+            add_lock(into, view, name, is_write, from, to, y)
         }
         Mark::Ceiling { tick, ceiling } => {
             let y = ceiling_y(set, ceiling);
-            add_ceiling(into, width(part), x(part, tick), y, ceiling_y(set, 0))
+            add_ceiling(into, width(view), x(view, tick), y, ceiling_y(set, 0))
         }
         Mark::Wait { job, by, from, to } => {
             let name = name(names.txns.as_slice(), job.tx.0);
-            add_wait(into, part, name, from, to, y(set, job.tx), y(set, by.tx))
+            let until = label_end(by.tx, from, to, marks);
+            add_wait(
+                into,
+                view,
+                name,
+                from,
+                to,
+                until,
+                y(set, job.tx),
+                y(set, by.tx),
+            )
         }
         Mark::Step { job, op, tick } => {
-            add_step(into, width(part), op, x(part, tick), y(set, job.tx))
+            add_step(into, width(view), op, x(view, tick), y(set, job.tx))
         }
         Mark::Refusal { job, by, tick, .. } => {
-            add_refusal(into, x(part, tick), y(set, job.tx), y(set, by.tx))
+            add_refusal(into, middle(view, tick), y(set, job.tx), y(set, by.tx))
         }
         Mark::Release { job, tick } => {
-            add_release(into, x(part, tick), y(set, job.tx), job.serial)
+            let deadline = deadline(set, job.tx);
+            add_release(
+                into,
+                view,
+                deadline,
+                x(view, tick),
+                y(set, job.tx),
+                job.serial,
+            )
         }
-        Mark::Deadline { job, tick } => add_deadline(into, x(part, tick), y(set, job.tx)),
-        Mark::Ended { job, end, tick } => add_end(into, x(part, tick), y(set, job.tx), end),
+        Mark::Deadline { job, tick } => add_deadline(into, x(view, tick), y(set, job.tx)),
+        Mark::Ended { job, end, tick } => {
+            add_end(into, width(view), x(view, tick), y(set, job.tx), end)
+        }
     }
 }
 
@@ -266,13 +387,58 @@ pub(crate) fn add_marks(
     into: &mut Vec<u8>,
     names: &Names,
     set: &CompiledSet,
-    part: Part,
+    view: View,
     marks: &[Mark],
 ) -> Result<(), OutOfMemory>
-    ensures { OnOk result (into.new.items ≡ into.old.items ++ marks_text names.now set.now part marks.now) }
+    ensures { OnOk result (into.new.items ≡ into.old.items ++ marks_text names.now set.now view marks.now) }
 {
     for mark in marks {
-        add_mark(into, names, set, part, *mark)?;
+        add_mark(into, names, set, view, marks, *mark)?;
+    }
+    Ok(())
+}
+
+fn add_link_line(into: &mut Vec<u8>, x: u64, y: u64, other: u64) -> Result<(), OutOfMemory>
+    requires { (y ≤ 1000000) × (other ≤ 1000000) }
+    ensures { OnOk result (into.new.items ≡ into.old.items ++ link_text x y other) }
+{
+    add_line(into, b"vb", x, y + 44, x, other + 12)
+}
+
+fn add_link(
+    into: &mut Vec<u8>,
+    set: &CompiledSet,
+    view: View,
+    mark: Mark,
+) -> Result<(), OutOfMemory>
+    ensures { OnOk result (into.new.items ≡ into.old.items ++ link_of set.now view mark) }
+{
+    match mark {
+        Mark::Refusal { job, by, tick, .. } => {
+            add_link_line(into, middle(view, tick), y(set, job.tx), y(set, by.tx))
+        }
+        Mark::Pending { .. } => Ok(()),
+        Mark::Lock { .. } => Ok(()),
+        Mark::Ceiling { .. } => Ok(()),
+        Mark::Wait { .. } => Ok(()),
+        Mark::Step { .. } => Ok(()),
+        Mark::Release { .. } => Ok(()),
+        Mark::Deadline { .. } => Ok(()),
+        Mark::Ended { .. } => Ok(()),
+    }
+}
+
+/// What the rows cover: the lines from refused steps to the jobs that they wait on.
+pub(crate) fn add_links(
+    into: &mut Vec<u8>,
+    set: &CompiledSet,
+    view: View,
+    marks: &[Mark],
+) -> Result<(), OutOfMemory>
+    ensures { OnOk result (into.new.items ≡ into.old.items ++ links_text set.now view marks.now) }
+{
+    for mark in marks {
+        add_link(into, set, view, *mark)?;
     }
     Ok(())
 }

@@ -1,3 +1,5 @@
 pub mod Parts
 pub mod Marks
 pub mod Seen
+pub mod Lanes
+pub mod Shown

@@ -3,11 +3,15 @@
 #![tactic(auto)]
 
 mod held;
+mod lanes;
 mod lists;
 mod mark;
 mod part;
+mod shown;
 mod whole;
 
+pub use lanes::{AgeRead, AgeSpan, Bound, age_reads, age_spans, bound_marks, commits};
 pub use mark::Mark;
 pub use part::Part;
+pub use shown::{Limits, Shown, show};
 pub use whole::{last_instant, marks};

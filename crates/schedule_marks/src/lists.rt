@@ -16,7 +16,8 @@ use std::alloc::Global;
 use step_journal::Entry;
 use txn_set::CompiledSet;
 
-fn add<T: Copy>(into: &mut Vec<T>, one: Option<T>) -> Result<(), OutOfMemory>
+/// Adds what there is.
+pub(crate) fn add<T: Copy>(into: &mut Vec<T>, one: Option<T>) -> Result<(), OutOfMemory>
     ensures { OnOk result (into.new.items ≡ into.old.items ++ option_to_list one) }
 {
     if let Some(one) = one {

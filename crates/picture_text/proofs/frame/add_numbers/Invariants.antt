@@ -3,4 +3,4 @@ use Rattle.picture_text.specs.Texts.{below, number_of}
 use Rattle.picture_text.proofs.frame.add_numbers.Given as goal
 
 abbrev pub invariant-loop-i : goal.invariant-loop-i
-invariant-loop-i l = l.into.items ≡ l.fn.into.items ++ below (number_of l.set l.part) l.i
+invariant-loop-i l = l.into.items ≡ l.fn.into.items ++ below (number_of l.set l.view) l.i

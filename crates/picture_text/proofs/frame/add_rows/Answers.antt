@@ -4,5 +4,4 @@ use Rattle.picture_text.proofs.frame.add_rows.Goals as goal
 
 pub loop-i-preserved : goal.loop-i-preserved
 loop-i-preserved c =
-    below_more (row_of c.args.names.now c.args.set.now c.args.part) _ _ _ c.loop-i.i c.in_ok-add_row_of.ensures
-    c.loop-i.invariant
+    below_more (row_of c.args.set.now c.args.view) _ _ _ c.loop-i.i c.in_ok-add_row_of.ensures c.loop-i.invariant

@@ -1,5 +1,5 @@
-use Rattle.std.proofs.Common.{◌≡◌, ◌++◌, [], codes, length}
-use Rattle.picture_text.specs.Legend.{release_head, deadline_head, refusal_head, hatching}
+use Rattle.std.proofs.Common.{◌++◌, ◌≡◌}
+use Rattle.picture_text.specs.Legend.{deadline_head, hatching, refusal_head, release_head}
 use Rattle.picture_text.proofs.Sums.{back}
 use Rattle.picture_text.proofs.legend.add_arrows.Goals as goal
 

@@ -5,5 +5,5 @@ use Rattle.picture_text.proofs.marks.add_marks.Given as goal
 
 abbrev pub invariant-loop-mark : goal.invariant-loop-mark
 invariant-loop-mark l =
-    l.into.items ++ flat_map (mark_text l.names l.set l.part) (drop l.mark-index l.marks)
-    ≡ l.fn.into.items ++ flat_map (mark_text l.names l.set l.part) l.marks
+    l.into.items ++ flat_map (mark_text l.names l.set l.view l.marks) (drop l.mark-index l.marks)
+    ≡ l.fn.into.items ++ flat_map (mark_text l.names l.set l.view l.marks) l.marks
