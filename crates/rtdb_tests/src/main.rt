@@ -23,13 +23,14 @@ use std::thread::Threads;
 use std::{fs, io};
 
 // The files of cases, in the order in which they are run.
-const FILES: [&str; 8] = [
+const FILES: [&str; 9] = [
     "words.cases",
     "texts.cases",
     "sets.cases",
     "runs.cases",
     "reports.cases",
     "pictures.cases",
+    "tools.cases",
     "faults.cases",
     "long.cases",
 ];
