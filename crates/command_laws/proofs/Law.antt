@@ -28,7 +28,9 @@ use Rattle.command_replies.specs.Replies.{Reply, Compiling, Admitting, VerdictRe
 use Rattle.command_replies.specs.Verdicts.{status_of, verdict_text}
 use Rattle.scenario_run.specs.Runs.{IsRunText}
 use Rattle.scenario_run.specs.Replies.{Ran, RunReply, RunText}
-use Rattle.rtdb_command.specs.Replies.{Reading, InputReply, DataReply, JudgedReply, names_in, scenario_limit, report_limit}
+use Rattle.command_input.specs.Taken.{scenario_limit, report_limit, InputReply}
+use Rattle.command_input.specs.Scenarios.{Reading, DataReply, names_in}
+use Rattle.rtdb_command.specs.Replies.{JudgedReply}
 use Rattle.command_laws.specs.Laws.{IsLegalReply, RunTextsAreLegal, RunsAreLegal}
 
 -- ---- what status 0 tells

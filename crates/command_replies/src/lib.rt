@@ -16,4 +16,4 @@ pub use reply::{
 pub use sets::{admitted, bounds, ceilings, compiled};
 pub use status::Status;
 pub use unanswered::Unanswered;
-pub use verdict::{REPORT_LIMIT, replayed};
+pub use verdict::{REPORT_LIMIT, replayed, verdict_reply};

@@ -3,7 +3,7 @@ ghost use Rattle.std.specs.Prelude.{◌≡◌, ◌≤◌, [], ◌++◌, codes, l
 ghost use Rattle.std.specs.Fmt.{decimal};
 ghost use Rattle.report_verdict.specs.Verdict.{names_of};
 ghost use Rattle.command_replies.specs.Replies.{VerdictReply};
-ghost use Rattle.command_replies.specs.Verdicts.{set_cause, verdict_words, status_of};
+ghost use Rattle.command_replies.specs.Verdicts.{set_cause, verdict_words, verdict_text, status_of};
 
 use crate::reply::{Reply, no_names};
 use crate::status::Status;
@@ -90,15 +90,23 @@ fn status(verdict: &Verdict) -> Status
     }
 }
 
+/// The reply of `replay` to a report with this verdict: its line, and Ok or NotLegal.
+pub fn verdict_reply(alloc: Global, input: &[u8], verdict: &Verdict) -> Result<Reply, OutOfMemory>
+    requires { length input.now ≤ REPORT_LIMIT }
+    ensures { IfOk result (λ r. (r.status ≡ status_of verdict.now) × (r.text.items ≡ verdict_text (names_of input.now) verdict.now)) }
+{
+    let mut text = Vec::new(alloc);
+    put_words(alloc, &mut text, input, verdict)?;
+    text.extend_from_slice(b"\n")?;
+    let status = status(verdict);
+    Ok(Reply { status, text })
+}
+
 /// The reply of `replay` to a report.
 pub fn replayed(alloc: Global, input: &[u8]) -> Result<Reply, OutOfMemory>
     requires { length input.now ≤ REPORT_LIMIT }
     ensures { IfOk result (λ r. VerdictReply input.now r.status r.text.items) }
 {
     let verdict = check_document(alloc, input)?;
-    let mut text = Vec::new(alloc);
-    put_words(alloc, &mut text, input, &verdict)?;
-    text.extend_from_slice(b"\n")?;
-    let status = status(&verdict);
-    Ok(Reply { status, text })
+    verdict_reply(alloc, input, &verdict)
 }

@@ -26,6 +26,9 @@ use Rattle.report_verdict.specs.declared.verdict.Verdict.{Verdict}
 use Rattle.report_verdict.specs.declared.verdict.Verdict.TheVariants.{Legal, BadLine, Unfinished, BadSet, NotALegalStep, WrongLine, WrongItem}
 use Rattle.report_verdict.specs.Compared.{compared}
 use Rattle.report_verdict.specs.Verdict.{refusal_in, set_refusal, report_for, difference, Declares, Tells, IsVerdict, HasParts}
+use Rattle.report_verdict.specs.declared.judged.Judged.{Judged}
+use Rattle.report_verdict.specs.declared.judged.Judged.TheVariants as judged
+use Rattle.report_verdict.specs.Judged.{IsJudged}
 use Rattle.report_verdict.proofs.Documents.{is_read}
 use Rattle.report_verdict.proofs.Whole.{EndedBy, append_ended, end_ended, same_bytes, same_lines, IsDifference, is_difference}
 
@@ -54,14 +57,20 @@ not_admitted found (admitting.TooApart tx place age) h some = h
 abbrev compile_part : Option CompileError → Option SetError
 compile_part o = option_map (λ error. Compile error) o
 
-pub bad_compile : (bytes : List ℕ) (d : Document) (error : CompileError) (v : Verdict) → document_of bytes ≡ Ok d
-    → RefusesSet (compile_refusal (set_of d.head)) error → (v ≡ BadSet (Compile error)) × (error ≢ compiling.OutOfMemory)
-    → IsVerdict bytes v
-bad_compile bytes d error v read refused said =
-    let found : compile_refusal (set_of d.head) ≡ Some error = set_refused (compile_refusal (set_of d.head)) error refused said.1 in
+bad_compile_verdict : (bytes : List ℕ) (d : Document) (error : CompileError) → document_of bytes ≡ Ok d
+    → RefusesSet (compile_refusal (set_of d.head)) error → error ≢ compiling.OutOfMemory
+    → IsVerdict bytes (BadSet (Compile error))
+bad_compile_verdict bytes d error read refused some =
+    let found : compile_refusal (set_of d.head) ≡ Some error = set_refused (compile_refusal (set_of d.head)) error refused some in
     let so : set_refusal d.head ≡ Some (Compile error) =
     ap (λ (o : Option CompileError). first_of_both (compile_part o) (refusal_in d.head.admitted (set_of d.head))) found in
-    subst (IsVerdict bytes) (sym said.0) (d, read, so)
+    (d, read, so)
+
+pub bad_compile : (bytes : List ℕ) (d : Document) (error : CompileError) (j : Judged) → document_of bytes ≡ Ok d
+    → RefusesSet (compile_refusal (set_of d.head)) error → (j ≡ judged.Other (BadSet (Compile error))) × (error ≢ compiling.OutOfMemory)
+    → IsJudged bytes j
+bad_compile bytes d error j read refused said =
+    subst (IsJudged bytes) (sym said.0) (record { verdict = bad_compile_verdict bytes d error read refused said.1; other = refl })
 
 -- where the set is compiled, only its admission may be refused
 refusal_is : (bytes : List ℕ) (names : Names) (set : Set) (admitted : Bool) (entries : List Entry) (first : ℕ)
@@ -72,14 +81,20 @@ refusal_is bytes names set admitted entries first h =
     ∙ (ap (λ (b : Bool). refusal_in b (set_of h.document.head)) (sym h.mode_is)
     ∙ ap (λ (s : Set). refusal_in admitted s) (sym h.set_is))
 
-pub bad_admit : (bytes : List ℕ) (names : Names) (set : Set) (entries : List Entry) (first : ℕ) (error : AdmitError) (v : Verdict)
-    → HasParts bytes names set true entries first → Refuses (refusal set) error
-    → (v ≡ BadSet (Admit error)) × (error ≢ admitting.OutOfMemory) → IsVerdict bytes v
-bad_admit bytes names set entries first error v h refused said =
-    let found : refusal set ≡ Some error = not_admitted (refusal set) error refused said.1 in
+bad_admit_verdict : (bytes : List ℕ) (names : Names) (set : Set) (entries : List Entry) (first : ℕ) (error : AdmitError)
+    → HasParts bytes names set true entries first → Refuses (refusal set) error → error ≢ admitting.OutOfMemory
+    → IsVerdict bytes (BadSet (Admit error))
+bad_admit_verdict bytes names set entries first error h refused some =
+    let found : refusal set ≡ Some error = not_admitted (refusal set) error refused some in
     let so : set_refusal h.document.head ≡ Some (Admit error) =
     refusal_is bytes names set true entries first h ∙ ap (λ (o : Option AdmitError). option_map (λ e. Admit e) o) found in
-    subst (IsVerdict bytes) (sym said.0) (h.document, h.read, so)
+    (h.document, h.read, so)
+
+pub bad_admit : (bytes : List ℕ) (names : Names) (set : Set) (entries : List Entry) (first : ℕ) (error : AdmitError) (j : Judged)
+    → HasParts bytes names set true entries first → Refuses (refusal set) error
+    → (j ≡ judged.Other (BadSet (Admit error))) × (error ≢ admitting.OutOfMemory) → IsJudged bytes j
+bad_admit bytes names set entries first error j h refused said =
+    subst (IsJudged bytes) (sym said.0) (record { verdict = bad_admit_verdict bytes names set entries first error h refused said.1; other = refl })
 
 declares : (bytes : List ℕ) (names : Names) (set : Set) (admitted : Bool) (entries : List Entry) (first : ℕ)
     → (h : HasParts bytes names set admitted entries first) → refusal_in admitted set ≡ None → Declares bytes h.document

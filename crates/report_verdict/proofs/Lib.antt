@@ -5,3 +5,4 @@ pub mod Judging
 pub mod OneOnly
 pub mod Sound
 pub mod Between
+pub mod Parts

@@ -1,3 +1,4 @@
 pub mod Compared
 pub mod Verdict
 pub mod Laws
+pub mod Judged

@@ -7,9 +7,11 @@ use set_admission::admitted_unless_refused;
 use txn_compiler::compiled_unless_refused;
 
 mod compared;
+mod judged;
 mod verdict;
 
-pub use verdict::{SetError, Verdict, check_document};
+pub use judged::{Judged, LegalReport, ReportedSet};
+pub use verdict::{SetError, Verdict, check_document, judge_document};
 
 /// No document has two verdicts, so each verdict comes exactly where it is said, but for want of memory.
 pub fn one_verdict_at_most()

@@ -27,8 +27,11 @@ use Rattle.command_replies.specs.Verdicts.{status_of}
 use Rattle.command_replies.specs.Replies.{Reply, Compiling, Admitting, CeilingsReply, AdmitReply, VerdictReply}
 use Rattle.command_replies.specs.Analysis.{Rating, RatesReply, MarginReply}
 use Rattle.scenario_run.specs.Replies.{RunReply, RunText}
-use Rattle.rtdb_command.specs.Replies.{Reading, DataReply, InputReply, AskedReply, JudgedReply, names_in, scenario_limit, report_limit}
-use Rattle.rtdb_command.specs.Answers.{TakesAll, Judged, IsAnswer, CutShort, Answers, IsReadFrom, IsRead, IsReadAdmitted, IsReadRated, IsGood}
+use Rattle.command_input.specs.Taken.{scenario_limit, report_limit, TakesAll, InputReply}
+use Rattle.command_input.specs.Scenarios.{Reading, DataReply, AskedReply, names_in, IsReadFrom}
+use Rattle.command_input.specs.Answers.{Judged, CutShort}
+use Rattle.rtdb_command.specs.Replies.{JudgedReply}
+use Rattle.rtdb_command.specs.Answers.{IsAnswer, Answers, IsRead, IsReadAdmitted, IsReadRated, IsGood}
 
 -- an input within the limit is judged
 within : (goes : Reply) (limit : ℕ) (input : List ℕ) (status : Status) (text : List ℕ) → length input ≤ limit → goes status text

@@ -1,12 +1,11 @@
 -- What the top call did.
-use Rattle.std.specs.Prelude.{◌≡◌, ◌⊎◌, ℕ, ◌≤◌, Bool, true, false, List, [], length, take, Option, Some, None, Ok, Err, nat_lt}
+use Rattle.std.specs.Prelude.{◌≡◌, ◌⊎◌, ℕ, ◌≤◌, Bool, true, false, List, length, Option, Some, None, Ok}
 use Rattle.std.specs.Option.{option_and_then}
-use Rattle.std.specs.Io.KnownBytes.{Consumes, IsAtEnd, Keeps, Appends}
+use Rattle.std.specs.Io.KnownBytes.{Keeps}
 use Rattle.txn_compiler.specs.Refusal.{compile_refusal}
 use Rattle.set_admission.specs.Admission.{refusal}
 use Rattle.update_rates.specs.Refusal.{rate_refusal}
 use Rattle.scenario.specs.Shown.{Shown, set_of}
-use Rattle.scenario.specs.Scenarios.{IsScenario}
 use Rattle.scenario_reader.specs.Reading.{data_of, scenario_in}
 use Rattle.report_verdict.specs.declared.verdict.Verdict.TheVariants as verdicts
 use Rattle.report_verdict.specs.Verdict.{IsVerdict}
@@ -16,11 +15,10 @@ use Rattle.command_words.specs.declared.command.PlainCommand.TheVariants.{Ceilin
 use Rattle.command_words.specs.Commands.{command_of}
 use Rattle.command_replies.specs.declared.status.Status.{Status}
 use Rattle.command_replies.specs.declared.status.Status.TheVariants as statuses
-use Rattle.command_replies.specs.Replies.{Reply, Refused}
-use Rattle.serde_json.specs.Data.{Data}
-use Rattle.refusal_lines.specs.Causes.{scenario_cause}
-use Rattle.scenario_reader.specs.declared.error.ScenarioError.{ScenarioError}
-use Rattle.rtdb_command.specs.Replies.{Replies, names_in, InputReply, scenario_limit, report_limit}
+use Rattle.command_replies.specs.Replies.{Reply}
+use Rattle.command_input.specs.Taken.{scenario_limit, report_limit, TakesAll, TakesNone}
+use Rattle.command_input.specs.Answers.{Judged, Told, CutShort}
+use Rattle.rtdb_command.specs.Replies.{Replies}
 
 -- the commands that `rtdb_plain` takes
 abbrev pub if_plain : Command → Option Command
@@ -30,13 +28,6 @@ if_plain (Load n workers) = None
 
 abbrev pub plain_command_of : List (List ℕ) → Option Command
 plain_command_of words = option_and_then if_plain (command_of words)
-
--- all there is was taken, or more than the limit
-abbrev pub TakesAll : ℕ → Option (List ℕ) → Option (List ℕ) → List ℕ → Type 0
-TakesAll limit old new input = Consumes old new input × (length input ≤ limit → IsAtEnd new)
-
-abbrev pub TakesNone : Option (List ℕ) → Option (List ℕ) → List ℕ → Type 0
-TakesNone old new input = Keeps old new × (input ≡ [])
 
 -- The input that a command takes. Without a command, to generate and to load, nothing is taken.
 abbrev pub Takes : Option Command → Option (List ℕ) → Option (List ℕ) → List ℕ → Type 0
@@ -62,28 +53,8 @@ TakesNoInput (Some (Plain Margin)) = ⊥
 TakesNoInput (Some (Run trial workers)) = ⊥
 TakesNoInput (Some (Load n workers)) = Unit {0}
 
--- an input that was taken has this status and this text
-pub record Judged (Took : List ℕ → Type 0) (IsReply : List ℕ → Reply) (status : Status) (text : List ℕ) : Type 0 where
-  pub input : List ℕ
-  pub took : Took input
-  pub reply : IsReply input status text
-
 abbrev pub IsAnswer : Option Command → Option (List ℕ) → Option (List ℕ) → Reply
 IsAnswer command old new = Judged (Takes command old new) (Replies command)
-
--- that status was answered, and the whole text was written
-pub record Told (Answer : Reply) (taken taken' : Option (List ℕ)) (status : Status) : Type 0 where
-  pub text : List ℕ
-  pub is : Answer status text
-  pub written : Appends taken taken' text
-
--- a prefix of the text was written, whatever status it has
-pub record CutShort (Answer : Reply) (taken taken' : Option (List ℕ)) : Type 0 where
-  pub status : Status
-  pub text : List ℕ
-  pub is : Answer status text
-  pub count : ℕ
-  pub written : Appends taken taken' (take count text)
 
 -- Memory ran out. Only a run may have written by then, a prefix of its text.
 abbrev pub RanOut : Option Command → Reply → Option (List ℕ) → Option (List ℕ) → Type 0
@@ -107,26 +78,6 @@ AnswersBy command answer taken taken' statuses.BadJournal = Told answer taken ta
 -- what a command did to a source and a sink, and the status that it answered
 abbrev pub Answers : Option Command → Option (List ℕ) → Option (List ℕ) → Option (List ℕ) → Option (List ℕ) → Status → Type 0
 Answers command old new taken taken' status = AnswersBy command (IsAnswer command old new) taken taken' status
-
--- the scenario that was read of the input that was taken
-pub record IsReadFrom (old new : Option (List ℕ)) (s : Shown) : Type 0 where
-  pub is : IsScenario s
-  pub input : List ℕ
-  pub took : TakesAll scenario_limit old new input
-  pub short : nat_lt scenario_limit (length input) ≡ false
-  pub read : scenario_in (data_of input) ≡ Ok s
-
--- the first refusal of the data, and its line
-pub record IsRefused (d : Option Data) (status : Status) (text : List ℕ) : Type 0 where
-  pub error : ScenarioError
-  pub is : scenario_in d ≡ Err error
-  pub reply : Refused (scenario_cause (names_in d) error) status text
-
--- why no scenario was read of the input that was taken
-pub record IsRefusedFrom (old new : Option (List ℕ)) (status : Status) (text : List ℕ) : Type 0 where
-  pub input : List ℕ
-  pub took : TakesAll scenario_limit old new input
-  pub reply : InputReply (IsRefused (data_of input)) (nat_lt scenario_limit (length input)) status text
 
 -- the scenario is read
 pub record IsRead (input : List ℕ) : Type 0 where

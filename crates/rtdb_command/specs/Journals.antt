@@ -13,8 +13,11 @@ use Rattle.durable_journal.specs.Log.{OpensAs}
 use Rattle.journal_out.specs.Compared.{Begins}
 use Rattle.journal_run.specs.Replies.{JournalReply, HoldsRun, first_eager}
 use Rattle.journal_run.specs.Left.{IsKept, LeavesSo}
-use Rattle.rtdb_command.specs.Replies.{AskedReply, usage_text, scenario_limit}
-use Rattle.rtdb_command.specs.Answers.{TakesAll, TakesNone, Judged, Told, CutShort, IsReadFrom, IsReadAdmitted, IsWithin}
+use Rattle.command_input.specs.Taken.{scenario_limit, TakesAll, TakesNone}
+use Rattle.command_input.specs.Scenarios.{AskedReply, IsReadFrom}
+use Rattle.command_input.specs.Answers.{Judged, Told, CutShort}
+use Rattle.rtdb_command.specs.Replies.{usage_text}
+use Rattle.rtdb_command.specs.Answers.{IsReadAdmitted, IsWithin}
 
 -- not empty, and without a minus at its beginning
 abbrev pub is_path : List ℕ → Bool

@@ -6,7 +6,8 @@ ghost use Rattle.journal_run.specs.Replies.{LeavesDisk};
 ghost use Rattle.journal_run.specs.Left.{IsSameFile};
 ghost use Rattle.rtdb_command.specs.Journals.{is_path as is_path_of, is_journal as is_journal_of, IsAnswerFor, JournalAnswers, HoldsFrom, KeptFrom, IsGoodFor, IsMute};
 
-use crate::top::{answer_no_command, scenario_from};
+use crate::top::answer_no_command;
+use command_input::scenario_from;
 use command_replies::{Reply, Status, Unanswered};
 use command_words::Word;
 use durable_disk::Disk;

@@ -23,7 +23,7 @@ use std::thread::Threads;
 use std::{fs, io};
 
 // The files of cases, in the order in which they are run.
-const FILES: [&str; 9] = [
+const FILES: [&str; 10] = [
     "words.cases",
     "texts.cases",
     "sets.cases",
@@ -31,6 +31,7 @@ const FILES: [&str; 9] = [
     "reports.cases",
     "pictures.cases",
     "tools.cases",
+    "retold.cases",
     "faults.cases",
     "long.cases",
 ];

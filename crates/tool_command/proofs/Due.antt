@@ -3,6 +3,11 @@ use Rattle.std.proofs.Common.{◌≡◌, ◌⊎◌, inl, inr, ℕ, ◌<◌, ◌�
 use Rattle.std.proofs.lemmas.Bool.{lt-ltb, cases_lt}
 use Rattle.std.proofs.lemmas.List.{append-nil, length-append}
 use Rattle.rt_base.specs.declared.name.Names.{Names}
+use Rattle.txn_set.specs.Set.{Set}
+use Rattle.priority_laws.specs.Assigned.{with_prios}
+use Rattle.priority_laws.specs.Pass.{prio_at, pass}
+use Rattle.txn_priorities.specs.Limits.{limit}
+use Rattle.run_report.specs.Bounds.{admitted_of}
 use Rattle.txn_compiler.specs.declared.error.CompileError.{CompileError}
 use Rattle.txn_compiler.specs.Refusal.{compile_refusal}
 use Rattle.set_admission.specs.declared.error.AdmitError.{AdmitError}
@@ -13,12 +18,25 @@ use Rattle.scenario_reader.specs.Reading.{data_of, scenario_in}
 use Rattle.command_replies.specs.declared.status.Status.{Status}
 use Rattle.command_replies.specs.declared.status.Status.TheVariants as statuses
 use Rattle.command_replies.specs.Replies.{Reply, Written, Compiling, Admitting}
+use Rattle.command_replies.specs.Verdicts.{status_of}
+use Rattle.report_verdict.specs.declared.verdict.Verdict.TheVariants.{Legal}
+use Rattle.report_verdict.specs.declared.judged.LegalReport.{LegalReport}
+use Rattle.report_verdict.specs.Verdict.{IsVerdict}
+use Rattle.report_verdict.specs.Judged.{IsLegalReport}
+use Rattle.report_verdict.proofs.OneOnly.{one_verdict}
 use Rattle.command_input.specs.Taken.{TakesAll, InputReply}
+use Rattle.command_input.specs.Reports.{is_ok, LegalOr, ReportReply}
 use Rattle.command_input.specs.Scenarios.{Reading, names_in}
 use Rattle.tool_command.specs.declared.command.ToolCommand.{ToolCommand}
-use Rattle.tool_command.specs.declared.command.ToolCommand.TheVariants.{Slack}
+use Rattle.tool_command.specs.declared.command.ToolCommand.TheVariants.{Slack, Priorities, Summary, Json, Table, Check}
+use Rattle.scenario_check.specs.Findings.{CheckReply}
 use Rattle.tool_command.specs.Slacks.{slack_text, SlackReply}
+use Rattle.tool_command.specs.Priorities.{prio_lines, Admission, Behind, Assigning, PriorityReply}
+use Rattle.tool_command.specs.Reports.{SummaryReply, JsonReply, TableReply}
 use Rattle.tool_command.specs.Answers.{limit_of, Goes, Replies, IsAnswer, Answers, IsDue}
+
+legal_is : (input : List ℕ) (r : LegalReport) → IsLegalReport input r → IsVerdict input Legal
+legal_is input r h = (h.document, h.tells, h.whole)
 
 -- a reply has one status
 abbrev HasOne : Reply → Type 0
@@ -48,8 +66,49 @@ slack_one s =
     compiling_one (Admitting (Written (slack_text s.names (set_of s))) s.names (refusal (set_of s))) s.names (compile_refusal (set_of s))
     (admitting_one (Written (slack_text s.names (set_of s))) s.names (refusal (set_of s)) (written_one (slack_text s.names (set_of s))))
 
+-- priorities keep the limits, or none do
+
+behind_one : (lines : List ℕ) (goes : Reply) → HasOne goes → HasOne (Behind lines goes)
+behind_one lines goes one a b x y h i = one a b h.0 i.0 h.2 i.2
+
+admission_one : (names : Names) (set : Set) → HasOne (Admission names set)
+admission_one names set = admitting_one (Written (admitted_of names set)) names (refusal set) (written_one (admitted_of names set))
+
+assigning_one : (names : Names) (set : Set) → HasOne (Assigning names set)
+assigning_one names set a b x y (inl p) (inl q) =
+    let prios = pass set (limit set) in
+    behind_one (prio_lines names prios) (Admission names (with_prios (prio_at prios) set)) (admission_one names (with_prios (prio_at prios) set)) a b x y p.reply q.reply
+assigning_one names set a b x y (inl p) (inr q) = absurd (q.none (prio_at (pass set (limit set))) p.solved.is p.solved.keeps)
+assigning_one names set a b x y (inr p) (inl q) = absurd (p.none (prio_at (pass set (limit set))) q.solved.is q.solved.keeps)
+assigning_one names set a b x y (inr p) (inr q) = p.refused ∙ sym q.refused
+
+priority_one : (s : Shown) → HasOne (PriorityReply s)
+priority_one s = compiling_one (Assigning s.names (set_of s)) s.names (compile_refusal (set_of s)) (assigning_one s.names (set_of s))
+
+check_one : (trial : Bool) (input : List ℕ) → HasOne (CheckReply trial input)
+check_one trial input a b x y h i = h.answered ∙ sym i.answered
+
+-- a legal report is not refused, and any other is answered by its verdict
+legal_or_one : (goes : LegalReport → Reply) (input : List ℕ) → ((r : LegalReport) (s : Status) (t : List ℕ) → goes r s t → s ≡ statuses.Ok)
+    → (a b : Status) (x y : List ℕ) (p q : Bool) → is_ok a ≡ p → is_ok b ≡ q → LegalOr goes input p a x → LegalOr goes input q b y → a ≡ b
+legal_or_one goes input ok a b x y true true e f h i = ok h.report a x h.reply ∙ sym (ok i.report b y i.reply)
+legal_or_one goes input ok a b x y true false e f h i =
+    ok h.report a x h.reply ∙ (ap status_of (one_verdict input Legal i.0 (legal_is input h.report h.is) i.1) ∙ sym i.2)
+legal_or_one goes input ok a b x y false true e f h i =
+    h.2 ∙ (ap status_of (one_verdict input h.0 Legal h.1 (legal_is input i.report i.is)) ∙ sym (ok i.report b y i.reply))
+legal_or_one goes input ok a b x y false false e f h i = h.2 ∙ (ap status_of (one_verdict input h.0 i.0 h.1 i.1) ∙ sym i.2)
+
+report_one : (goes : LegalReport → Reply) (input : List ℕ) → ((r : LegalReport) (s : Status) (t : List ℕ) → goes r s t → s ≡ statuses.Ok)
+    → HasOne (ReportReply goes input)
+report_one goes input ok a b x y h i = legal_or_one goes input ok a b x y (is_ok a) (is_ok b) refl refl h i
+
 goes_one : (command : ToolCommand) (input : List ℕ) → HasOne (Goes command input)
 goes_one Slack input = reading_one SlackReply (names_in (data_of input)) (scenario_in (data_of input)) slack_one
+goes_one Priorities input = reading_one PriorityReply (names_in (data_of input)) (scenario_in (data_of input)) priority_one
+goes_one Summary input = report_one SummaryReply input (λ r s t h. h.0)
+goes_one Json input = report_one JsonReply input (λ r s t h. h.0)
+goes_one Table input = report_one TableReply input (λ r s t h. h.0)
+goes_one (Check trial) input = check_one trial input
 
 -- of an input within the limit all is taken
 all_taken : (limit : ℕ) (told input : List ℕ) (new : Option (List ℕ)) → TakesAll limit (Some told) new input → length input ≤ limit → input ≡ told

@@ -23,9 +23,14 @@ start = walk_from nothing_held
 -- none of the commands has this name
 pub record IsNoName (name : Text) : Type 0 where
   pub slack : bytes_eq (codes "slack") name ≡ false
+  pub priorities : bytes_eq (codes "priorities") name ≡ false
+  pub summary : bytes_eq (codes "summary") name ≡ false
+  pub json : bytes_eq (codes "json") name ≡ false
+  pub table : bytes_eq (codes "table") name ≡ false
+  pub check : bytes_eq (codes "check") name ≡ false
 
 not_met : (name : Text) → IsNoName name → subcommand_met names idle name ≡ None
-not_met name unnamed = rw unnamed.slack refl
+not_met name unnamed = rw (unnamed.slack, unnamed.priorities, unnamed.summary, unnamed.json, unnamed.table, unnamed.check) refl
 
 refused : (name : Text) → IsNoName name → IsPlainWord name → turn_fault top names start name ≡ stray_fault top
 refused name unnamed plain =

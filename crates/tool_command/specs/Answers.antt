@@ -4,23 +4,37 @@ use Rattle.scenario_reader.specs.Reading.{data_of}
 use Rattle.command_replies.specs.declared.status.Status.{Status}
 use Rattle.command_replies.specs.declared.status.Status.TheVariants as statuses
 use Rattle.command_replies.specs.Replies.{Reply}
-use Rattle.command_input.specs.Taken.{scenario_limit, TakesAll, TakesNone, InputReply}
+use Rattle.command_input.specs.Taken.{scenario_limit, report_limit, TakesAll, TakesNone, InputReply}
 use Rattle.command_input.specs.Scenarios.{DataReply}
+use Rattle.command_input.specs.Reports.{ReportReply}
 use Rattle.command_input.specs.Answers.{Judged, AnswersBy}
 use Rattle.tool_command.specs.declared.command.ToolCommand.{ToolCommand}
-use Rattle.tool_command.specs.declared.command.ToolCommand.TheVariants.{Slack}
+use Rattle.tool_command.specs.declared.command.ToolCommand.TheVariants.{Slack, Priorities, Summary, Json, Table, Check}
+use Rattle.scenario_check.specs.Findings.{CheckReply}
 use Rattle.tool_command.specs.Slacks.{SlackReply}
+use Rattle.tool_command.specs.Priorities.{PriorityReply}
+use Rattle.tool_command.specs.Reports.{SummaryReply, JsonReply, TableReply}
 
 abbrev pub usage_text : List ℕ
-usage_text = codes "usage: rtdb-tool slack\n"
+usage_text = codes "usage: rtdb-tool slack | priorities | summary | json | table | check [--trial]\n"
 
 -- the most bytes of what a command reads
 abbrev pub limit_of : ToolCommand → ℕ
 limit_of Slack = scenario_limit
+limit_of Priorities = scenario_limit
+limit_of Summary = report_limit
+limit_of Json = report_limit
+limit_of Table = report_limit
+limit_of (Check trial) = scenario_limit
 
 -- the answer to an input that is not too long
 abbrev pub Goes : ToolCommand → List ℕ → Reply
 Goes Slack input = DataReply SlackReply (data_of input)
+Goes Priorities input = DataReply PriorityReply (data_of input)
+Goes Summary input = ReportReply SummaryReply input
+Goes Json input = ReportReply JsonReply input
+Goes Table input = ReportReply TableReply input
+Goes (Check trial) input = CheckReply trial input
 
 -- without a command nothing is taken
 abbrev pub Takes : Option ToolCommand → Option (List ℕ) → Option (List ℕ) → List ℕ → Type 0

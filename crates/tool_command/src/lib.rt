@@ -4,6 +4,9 @@
 mod asked;
 mod command;
 mod line;
+mod priorities;
+mod priority_lines;
+mod reports;
 mod slack_lines;
 mod slacks;
 mod top;

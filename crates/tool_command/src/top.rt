@@ -7,15 +7,19 @@ ghost use Rattle.tool_command.specs.Answers.{IsAnswer, Answers, IsDue};
 
 use crate::asked::read_command;
 use crate::command::ToolCommand;
+use crate::priorities::priorities;
+use crate::reports::{json, summary, table};
 use crate::slacks::slacks;
-use command_input::scenario_from;
-use command_replies::{Reply, Status, Unanswered};
+use command_input::{SCENARIO_LIMIT, report_from, scenario_from};
+use command_replies::{Reply, Status, Unanswered, refused, written};
 use command_words::Word;
-use io_edge::{Sink, Source, write_all};
+use io_edge::{ReadError, Sink, Source, read_all, write_all};
 use rt_base::OutOfMemory;
+use scenario_check::check;
 use std::alloc::Global;
 
-const USAGE: &[u8] = b"usage: rtdb-tool slack\n";
+const USAGE: &[u8] =
+    b"usage: rtdb-tool slack | priorities | summary | json | table | check [--trial]\n";
 
 fn ask_slacks<S: Source>(alloc: Global, source: &mut S) -> Result<Reply, Unanswered>
     ensures said { IfOk result (λ r. IsAnswer (Some ToolCommand.Slack) (S.left source.old) (S.left source.new) r.status r.text.items) }
@@ -24,6 +28,58 @@ fn ask_slacks<S: Source>(alloc: Global, source: &mut S) -> Result<Reply, Unanswe
     match scenario_from(alloc, source)? {
         Ok(scenario) => Ok(slacks(alloc, scenario)?),
         Err(reply) => Ok(reply),
+    }
+}
+
+fn ask_priorities<S: Source>(alloc: Global, source: &mut S) -> Result<Reply, Unanswered>
+    ensures said { IfOk result (λ r. IsAnswer (Some ToolCommand.Priorities) (S.left source.old) (S.left source.new) r.status r.text.items) }
+    ensures read { HasSourceCause (S.faults source.old) (S.faults source.new) result }
+{
+    match scenario_from(alloc, source)? {
+        Ok(scenario) => Ok(priorities(alloc, scenario)?),
+        Err(reply) => Ok(reply),
+    }
+}
+
+fn ask_summary<S: Source>(alloc: Global, source: &mut S) -> Result<Reply, Unanswered>
+    ensures said { IfOk result (λ r. IsAnswer (Some ToolCommand.Summary) (S.left source.old) (S.left source.new) r.status r.text.items) }
+    ensures read { HasSourceCause (S.faults source.old) (S.faults source.new) result }
+{
+    match report_from(alloc, source)? {
+        Ok(report) => Ok(written(summary(alloc, &report)?)),
+        Err(reply) => Ok(reply),
+    }
+}
+
+fn ask_json<S: Source>(alloc: Global, source: &mut S) -> Result<Reply, Unanswered>
+    ensures said { IfOk result (λ r. IsAnswer (Some ToolCommand.Json) (S.left source.old) (S.left source.new) r.status r.text.items) }
+    ensures read { HasSourceCause (S.faults source.old) (S.faults source.new) result }
+{
+    match report_from(alloc, source)? {
+        Ok(report) => Ok(written(json(alloc, &report)?)),
+        Err(reply) => Ok(reply),
+    }
+}
+
+fn ask_table<S: Source>(alloc: Global, source: &mut S) -> Result<Reply, Unanswered>
+    ensures said { IfOk result (λ r. IsAnswer (Some ToolCommand.Table) (S.left source.old) (S.left source.new) r.status r.text.items) }
+    ensures read { HasSourceCause (S.faults source.old) (S.faults source.new) result }
+{
+    match report_from(alloc, source)? {
+        Ok(report) => Ok(written(table(alloc, &report)?)),
+        Err(reply) => Ok(reply),
+    }
+}
+
+fn ask_check<S: Source>(alloc: Global, trial: bool, source: &mut S) -> Result<Reply, Unanswered>
+    ensures said { IfOk result (λ r. IsAnswer (Some (ToolCommand.Check trial)) (S.left source.old) (S.left source.new) r.status r.text.items) }
+    ensures read { HasSourceCause (S.faults source.old) (S.faults source.new) result }
+{
+    match read_all(alloc, source, SCENARIO_LIMIT) {
+        Ok(input) => Ok(check(alloc, trial, &input)?),
+        Err(ReadError::TooLong) => Ok(refused(alloc, Status::TooLong, b"TooLong")?),
+        Err(ReadError::ReadFault) => Err(Unanswered::Reading),
+        Err(ReadError::OutOfMemory) => Err(Unanswered::Memory),
     }
 }
 
@@ -38,6 +94,11 @@ fn reply_to<S: Source>(
 {
     match command {
         ToolCommand::Slack => ask_slacks(alloc, source),
+        ToolCommand::Priorities => ask_priorities(alloc, source),
+        ToolCommand::Summary => ask_summary(alloc, source),
+        ToolCommand::Json => ask_json(alloc, source),
+        ToolCommand::Table => ask_table(alloc, source),
+        ToolCommand::Check { trial } => ask_check(alloc, trial, source),
     }
 }
 

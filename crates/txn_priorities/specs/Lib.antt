@@ -1,3 +1,4 @@
 pub mod Limits
 pub mod Around
 pub mod Answers
+pub mod Laws

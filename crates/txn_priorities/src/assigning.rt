@@ -1,16 +1,21 @@
-//! The pass from the lowest level up.
-ghost use Rattle.std.specs.Prelude.{◌≡◌, ◌+◌, ◌*◌, ◌≤◌, length, IfOk, IfErr};
-ghost use Rattle.priority_laws.specs.Pass.{pass};
+//! The pass from the lowest level up, and a set with its priorities.
+ghost use Rattle.std.specs.Prelude.{◌≡◌, ◌+◌, ◌*◌, ◌≤◌, length, None, IfOk, IfErr};
+ghost use Rattle.priority_laws.specs.Assigned.{IsAssignment, with_prios};
+ghost use Rattle.priority_laws.specs.Pass.{pass, prio_at};
 ghost use Rattle.priority_laws.specs.Laws.{IsSolved, NoneKeeps};
+ghost use Rattle.txn_compiler.specs.Refusal.{Refuses};
 ghost use Rattle.txn_priorities.specs.Limits.{limit};
 ghost use Rattle.txn_priorities.specs.Answers.{IsRefusal};
+ghost use Rattle.txn_priorities.specs.Laws.{AreInRange};
 
+use crate::declared::{copies_of_sets, txns_with};
 use crate::limits::limits_of;
 use crate::refusal::NoAssignment;
 use crate::testing::{first_passing, unplaced_of};
 use rt_base::{OutOfMemory, Prio, Steps};
 use std::alloc::Global;
 use std::sync::ledger::Ledger;
+use txn_compiler::{CompileError, compile};
 use txn_set::CompiledSet;
 
 /// Priorities from 1 to the number of the transactions, in list order, by which each has a response within its limit: its
@@ -46,4 +51,35 @@ pub fn assign<L: Ledger>(
         prios[tx] = below as u32 + 1;
     }
     Ok(Ok(prios))
+}
+
+// Distinct priorities from 1 to 1000 break no rule of compiling, so that only want of memory is in the way.
+fn not_compiled(error: CompileError) -> OutOfMemory
+    requires { Refuses None error }
+{
+    match error {
+        CompileError::OutOfMemory => OutOfMemory,
+        _ => unreachable!(),
+    }
+}
+
+/// The set with these priorities in list order, all else as it is. It takes the memory and the time of `compile`.
+pub fn with_priorities(
+    alloc: Global,
+    set: &CompiledSet,
+    prios: &[Prio],
+) -> Result<CompiledSet, OutOfMemory>
+    requires one_each { length prios.now ≡ length set.now.txns }
+    requires distinct { IsAssignment set.now (prio_at prios.now) }
+    requires range { AreInRange set.now (prio_at prios.now) }
+    ensures { IfOk result (λ s. s ≡ with_prios (prio_at prios.now) set.now) }
+{
+    set.is_compiled();
+    let items = Vec::from_slice(alloc, set.items())?;
+    let txns = txns_with(alloc, set.txns(), prios)?;
+    let together = copies_of_sets(alloc, set.together())?;
+    match compile(alloc, items, txns, together) {
+        Ok(set) => Ok(set),
+        Err(error) => Err(not_compiled(error)),
+    }
 }

@@ -6,7 +6,8 @@ use Rattle.command_words.specs.declared.command.Command.TheVariants.{Run}
 use Rattle.std.specs.Prelude.{Bool, IsErrOf, ◌⊎◌}
 use Rattle.std.specs.Io.KnownBytes.{Keeps}
 use Rattle.scenario_run.specs.Replies.{RunReply, RunText}
-use Rattle.rtdb_command.specs.Answers.{IsAnswer, IsReadFrom}
+use Rattle.command_input.specs.Scenarios.{IsReadFrom}
+use Rattle.rtdb_command.specs.Answers.{IsAnswer}
 use Rattle.rtdb_command.proofs.Telling.{from_read, run_cut, run_short}
 use Rattle.rtdb_command.proofs.top.answer_run.Goals as goal
 

@@ -1,0 +1,3 @@
+pub mod BoundLines
+pub mod Telling
+pub mod Chains

@@ -1,0 +1,7 @@
+use Rattle.report_export.proofs.Chains.{chain7}
+use Rattle.report_export.proofs.declared.add_item.Goals as goal
+
+pub returns : goal.returns
+returns c =
+    chain7 _ _ _ _ _ _ _ _ _ _ _ _ _ _ _ _
+    c.reserve.ensures.items c.put.ensures.items c.put_name.ensures.items c.put-2.ensures.items c.put_kind.ensures.items c.put-3.ensures.items c.put_initial.ensures.items c.put-4.ensures.items

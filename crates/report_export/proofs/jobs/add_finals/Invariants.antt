@@ -1,0 +1,9 @@
+use Rattle.std.proofs.Common.{◌≡◌, ◌++◌, drop}
+use Rattle.report_lines.specs.Rows.{numbered}
+use Rattle.report_export.specs.Json.{final_json}
+use Rattle.report_export.proofs.jobs.add_finals.Given as goal
+
+abbrev pub invariant-loop-i : goal.invariant-loop-i
+invariant-loop-i l =
+    l.into.items ++ numbered (final_json l.names) l.i (drop l.i l.items)
+    ≡ l.fn.into.items ++ numbered (final_json l.names) 0 l.items

@@ -1,0 +1,9 @@
+use Rattle.std.proofs.Common.{◌≡◌, ◌++◌, drop}
+use Rattle.report_lines.specs.Rows.{numbered}
+use Rattle.report_export.specs.Whole.{bounds_json}
+use Rattle.report_export.proofs.limits.add_bounds.Given as goal
+
+abbrev pub invariant-loop-i : goal.invariant-loop-i
+invariant-loop-i l =
+    l.into.items ++ numbered (bounds_json l.names l.set) l.i (drop l.i l.set.txns)
+    ≡ l.fn.into.items ++ numbered (bounds_json l.names l.set) 0 l.set.txns

@@ -1,0 +1,31 @@
+use Rattle.std.proofs.Common.{◌∙◌, sym, subst, ap, arith, length}
+use Rattle.std.specs.Prelude.{is_some}
+use Rattle.std.specs.List.{All}
+use Rattle.board.proofs.Counts.{items_count}
+use Rattle.report_lines.specs.Texts.{KnownRow}
+use Rattle.report_export.proofs.Telling.{whole_json}
+use Rattle.report_export.proofs.whole.json.Goals as goal
+
+pub add_entries-requires : goal.add_entries-requires
+add_entries-requires c =
+    c.legal_has_lines.ensures c.args.names.now c.args.set.now c.args.entries.now c.requires.names c.is_compiled.ensures c.requires.legal
+
+pub add_closing-requires-clause-rows : goal.add_closing-requires-clause-rows
+add_closing-requires-clause-rows c =
+    subst (All (KnownRow c.args.names.now)) (sym (c.as_slice.ensures ∙ c.in_ok-rows.ensures))
+    (c.legal_has_rows.ensures c.args.names.now c.args.set.now c.args.entries.now c.requires.names c.is_compiled.ensures c.requires.legal)
+
+pub add_closing-requires-clause-items : goal.add_closing-requires-clause-items
+add_closing-requires-clause-items c =
+    omega (arith, ap length c.as_slice-2.ensures, ap length c.requires.last, items_count c.args.set.now c.args.entries.now, c.requires.names.items)
+
+pub add_closing-requires-clause-few : goal.add_closing-requires-clause-few
+add_closing-requires-clause-few c =
+    omega (arith, ap length c.as_slice-2.ensures, ap length c.requires.last, items_count c.args.set.now c.args.entries.now, c.is_compiled.ensures.few_items)
+
+pub returns : goal.returns
+returns c =
+    whole_json c.args.names.now c.args.set.now (is_some c.args.bounds) c.args.entries.now c.as_slice.result.now c.as_slice-2.result.now
+    c.new-text.result.items c.add_opening.new.into.items c.add_entries.new.into.items c.add_closing.new.into.items
+    c.new-text.ensures.items (c.as_slice.ensures ∙ c.in_ok-rows.ensures) (c.as_slice-2.ensures ∙ c.requires.last)
+    c.in_ok-add_opening.ensures c.in_ok-add_entries.ensures c.in_ok-add_closing.ensures

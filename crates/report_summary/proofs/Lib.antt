@@ -1,0 +1,4 @@
+pub mod Tallying
+pub mod Aging
+pub mod Bounding
+pub mod Telling

@@ -1,0 +1,5 @@
+pub mod Refusing
+pub mod Told
+pub mod Adding
+pub mod Answering
+pub mod Orders
