@@ -154,6 +154,19 @@ impl<B: Board> AdmittedBoard<B> {
         self.keeps_bounds();
         count
     }
+
+    /// Lets go of all kept entries as the board does, and costs what it does there. The set stays admitted, and every history
+    /// that was stood for keeps the bounds as before.
+    pub fn discard(&mut self)
+        ensures left { B.kept self.new.board ≡ [] }
+        ensures fixed { (B.set self.new.board ≡ B.set self.old.board) × (B.room self.new.board ≡ B.room self.old.board) × (B.first self.new.board ≡ B.first self.old.board + length (B.kept self.old.board)) }
+        ensures admitted { self.new.admitted ≡ self.old.admitted }
+        ensures after { (story : List Noted) → B.stands self.old.board story → B.stands self.new.board story }
+        ensures bounds { (story : List Noted) → B.stands self.new.board story → KeepsBounds self.new.admitted story }
+    {
+        self.board.discard();
+        self.keeps_bounds();
+    }
 }
 
 impl<B: Board> Board for AdmittedBoard<B> {
@@ -223,6 +236,10 @@ impl<B: Board> Board for AdmittedBoard<B> {
 
     fn drain(&mut self, most: usize, into: &mut Vec<Entry>) -> usize {
         self.drain(most, into)
+    }
+
+    fn discard(&mut self) {
+        self.discard();
     }
 
     fn first(&self) -> u64 {

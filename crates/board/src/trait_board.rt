@@ -1,5 +1,5 @@
 //! What the calls of a board promise, for every history that it stands for.
-ghost use Rattle.std.specs.Prelude.{◌≡◌, ℕ, ◌+◌, ◌-◌, ◌<◌, ◌++◌, List, drop, take, min, length, slice_get, Some, vec_len, vec_capacity};
+ghost use Rattle.std.specs.Prelude.{◌≡◌, ℕ, ◌+◌, ◌-◌, ◌<◌, ◌++◌, List, [], drop, take, min, length, slice_get, Some, vec_len, vec_capacity};
 ghost use Rattle.txn_set.specs.Set.{Set};
 ghost use Rattle.step_journal.specs.History.{state_of};
 ghost use Rattle.step_journal.specs.declared.entry.Entry.{Entry as Noted};
@@ -102,6 +102,12 @@ pub trait Board {
         ensures left { kept self.new ≡ drop result (kept self.old) }
         ensures places { vec_capacity into.new ≡ vec_capacity into.old }
         ensures fixed { (set self.new ≡ set self.old) × (room self.new ≡ room self.old) × (first self.new ≡ first self.old + result) }
+        ensures after { (story : List Noted) → stands self.old story → stands self.new story };
+
+    /// Lets go of all kept entries. It takes no memory.
+    fn discard(&mut self)
+        ensures left { kept self.new ≡ [] }
+        ensures fixed { (set self.new ≡ set self.old) × (room self.new ≡ room self.old) × (first self.new ≡ first self.old + length (kept self.old)) }
         ensures after { (story : List Noted) → stands self.old story → stands self.new story };
 
     /// How many entries were drained in all.

@@ -96,6 +96,23 @@ pub fn drain(alloc: Global, boards: &mut Boards, most: usize) -> Option<String> 
     )
 }
 
+// How many entries a board kept, and how many once it has let go of them.
+fn discarded<B: Board>(alloc: Global, board: &mut B) -> Option<String> {
+    let kept = board.entries().len();
+    board.discard();
+    let left = board.entries().len();
+    format!(in alloc; "{kept}, then {left}").ok()
+}
+
+/// How many entries both kept, and how many once they have let go of them.
+pub fn discard(alloc: Global, boards: &mut Boards) -> Option<String> {
+    both(
+        alloc,
+        discarded(alloc, &mut boards.core)?,
+        discarded(alloc, &mut boards.plain)?,
+    )
+}
+
 /// What both show.
 pub fn look_at(alloc: Global, boards: &Boards) -> Option<String> {
     both(

@@ -136,7 +136,14 @@ fn drain_alike<A: Board, B: Board>(
     Some(drain_same(alloc, a, b, most)? && are_alike(alloc, a, b)?)
 }
 
-// Now and then both boards hand out entries: whether they were the same.
+// Both boards let go of all entries: whether they are alike then.
+fn discard_alike<A: Board, B: Board>(alloc: Global, a: &mut A, b: &mut B) -> Option<bool> {
+    a.discard();
+    b.discard();
+    are_alike(alloc, a, b)
+}
+
+// Now and then both boards hand out entries, or let go of all: whether they were the same.
 fn sometimes_drain<A: Board, B: Board>(
     alloc: Global,
     a: &mut A,
@@ -146,7 +153,10 @@ fn sometimes_drain<A: Board, B: Board>(
     if dice.random_range(0..12u64) != 0 {
         return Some(true);
     }
-    drain_alike(alloc, a, b, dice.random_range(0..16usize))
+    match dice.random_range(0..16usize) {
+        0 => discard_alike(alloc, a, b),
+        most => drain_alike(alloc, a, b, most),
+    }
 }
 
 // So many turns of both boards at most. How many were alike.

@@ -1,5 +1,5 @@
 //! What the lines so far made, and what a further one does.
-use crate::boards::{Boards, boards_of, call, compare, drain, look_at, take_apart};
+use crate::boards::{Boards, boards_of, call, compare, discard, drain, look_at, take_apart};
 use crate::compare::Kinds;
 use crate::histories::History;
 use crate::replays::replayed;
@@ -89,6 +89,7 @@ fn on_boards(alloc: Global, scene: &mut Scene, word: &str, rest: &str) -> Option
         "next" => plan_next(alloc, scene, rest),
         "look" => look_at(alloc, scene.boards.as_ref()?),
         "drain" => drain_boards(alloc, scene, rest),
+        "discard" => discard(alloc, scene.boards.as_mut()?),
         "parts" => take_apart(alloc, scene.boards.take()?),
         _ => None,
     }
@@ -170,7 +171,9 @@ pub fn follow(alloc: Global, scene: &mut Scene, line: &str) -> Option<String> {
     match word {
         "rtdb" | "item" | "txn" | "together" | "mode" => declare(alloc, scene, word, line),
         "plan" | "step" | "block" | "idle" => take_entry(alloc, scene, line),
-        "boards" | "next" | "look" | "drain" | "parts" => on_boards(alloc, scene, word, rest),
+        "boards" | "next" | "look" | "drain" | "discard" | "parts" => on_boards(
+            alloc, scene, word, rest,
+        ),
         "history" | "keep" | "front" | "from" => on_history(alloc, scene, word, rest),
         _ => on_wholes(alloc, scene, word, rest),
     }

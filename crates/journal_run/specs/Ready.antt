@@ -1,5 +1,5 @@
 -- What a run has before it begins.
-use Rattle.std.specs.Prelude.{◌≡◌, ◌<◌, ◌≤◌, ℕ, List, [], map, length, vec_capacity}
+use Rattle.std.specs.Prelude.{◌≡◌, ◌<◌, ℕ, List, [], map, length}
 use Rattle.txn_set.specs.Set.{Set}
 use Rattle.step_journal.specs.declared.entry.Entry.{Entry}
 use Rattle.sim_history.specs.Sim.{Body, Workload}
@@ -10,7 +10,7 @@ use Rattle.journal_run.specs.declared.runner.Runner.{Runner}
 abbrev pub workload_in : {B Y : Type 0} → (B → Set) → (Y → Body) → Runner B Y → Workload
 workload_in set gives r = workload (set r.board) (map gives r.bodies.items) r.ticks.items
 
--- A new board, and a place for all that it keeps, with a body and a serial number for each transaction of its set.
+-- A new board, with a body and a serial number for each transaction of its set.
 pub record CanRun {B Y : Type 0} (stands : B → List Entry → Type 0) (set : B → Set) (room : B → ℕ) (gives : Y → Body) (r : Runner B Y) : Type 0 where
   pub opened : stands r.board []
   pub bodies_each : length r.bodies.items ≡ length (set r.board).txns
@@ -18,5 +18,3 @@ pub record CanRun {B Y : Type 0} (stands : B → List Entry → Type 0) (set : B
   pub accepted : AreAccepted (set r.board) r.ticks.items
   pub obedient : IsObedient (workload_in set gives r)
   pub more : 1024 < room r.board
-  pub empty : r.spare.items ≡ []
-  pub enough : room r.board ≤ vec_capacity r.spare

@@ -94,13 +94,11 @@ fn begin(
     }
 }
 
-// The serial numbers of so many bodies, and a place for so many entries.
-fn places(alloc: Global, bodies: usize, room: usize) -> Result<(Vec<u32>, Vec<Entry>), OutOfMemory>
-    ensures { IfOk result (λ r. (length r.0.items ≡ bodies) × (r.1.items ≡ []) × (room ≤ vec_capacity r.1)) }
+// The serial numbers of so many bodies.
+fn serials_for(alloc: Global, bodies: usize) -> Result<Vec<u32>, OutOfMemory>
+    ensures { IfOk result (λ r. length r.items ≡ bodies) }
 {
-    let spare = Vec::with_capacity(alloc, room)?;
-    let serials = vec![in alloc; 0; bodies]?;
-    Ok((serials, spare))
+    Ok(vec![in alloc; 0; bodies]?)
 }
 
 // Bodies on a new board over their set.
@@ -121,8 +119,8 @@ fn on_board(
             return Err(OutOfMemory);
         }
     };
-    let (serials, spare) = match places(alloc, bodies.scripts.len(), board.room()) {
-        Ok(places) => places,
+    let serials = match serials_for(alloc, bodies.scripts.len()) {
+        Ok(serials) => serials,
         Err(OutOfMemory) => {
             drop(board);
             drop(bodies);
@@ -140,7 +138,6 @@ fn on_board(
         bodies: scripts,
         ticks,
         serials,
-        spare,
     })
 }
 

@@ -15,17 +15,15 @@ use entry_out::{EntryOut, Stopped};
 use item_model::Items;
 use rt_base::{List, Tick};
 use sim_run::run;
-use step_journal::Entry;
 use step_script::Body;
 
-/// A board, the bodies and the ticks of its transactions, and places for all that a run needs.
+/// A board, and the bodies and the ticks of its transactions, with a serial number for each.
 #[derive(Drop)]
 pub(crate) struct Runner<B, Y> {
     pub(crate) board: B,
     pub(crate) bodies: Vec<Y>,
     pub(crate) ticks: Vec<List<Tick>>,
     pub(crate) serials: Vec<u32>,
-    pub(crate) spare: Vec<Entry>,
 }
 
 impl<B: Board, Y: Body> Runner<B, Y> {
@@ -46,7 +44,6 @@ impl<B: Board, Y: Body> Runner<B, Y> {
             &mut self.bodies,
             &mut self.serials,
             &self.ticks,
-            &mut self.spare,
             out,
         )
     }
@@ -62,12 +59,10 @@ impl<B: Board + Drop, Y: Drop> Runner<B, Y> {
             bodies,
             ticks,
             serials,
-            spare,
         } = self;
         drop(bodies);
         drop(ticks);
         drop(serials);
-        drop(spare);
         let (items, kept) = board.into_parts();
         drop(kept);
         items

@@ -78,6 +78,10 @@ impl Board for Core {
         self.drain(most, into)
     }
 
+    fn discard(&mut self) {
+        self.discard();
+    }
+
     fn first(&self) -> u64 {
         self.first()
     }

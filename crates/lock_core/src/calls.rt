@@ -1,5 +1,5 @@
 //! The calls that change a core.
-ghost use Rattle.std.specs.Prelude.{◌≡◌, ◌+◌, ◌-◌, ◌<◌, ◌++◌, ℕ, List, length, min, take, drop, vec_len, vec_capacity, OnErr};
+ghost use Rattle.std.specs.Prelude.{◌≡◌, ◌+◌, ◌-◌, ◌<◌, ◌++◌, ℕ, List, [], length, min, take, drop, vec_len, vec_capacity, OnErr};
 ghost use Rattle.step_journal.specs.declared.entry.Entry.{Entry as Noted};
 ghost use Rattle.step_journal.specs.Step.{plan as planned, idle as idled};
 ghost use Rattle.step_journal.specs.History.{state_of};
@@ -52,6 +52,7 @@ impl Core {
     /// run alone. It costs a bounded number of look-ups, and no scan of the transactions: a new lock goes over the holders
     /// of locks, a read or write over what the job has read and written, an end over the items, and the arrival over the
     /// jobs that are late and the releases of that instant.
+    #[inline(always)]
     pub fn step(&mut self, job: JobId, op: Op) -> StepReply
         requires { job.tx.0 < length self.old.set.txns }
         ensures fixed { (self.new.set ≡ self.old.set) × (self.new.journal.room ≡ self.old.journal.room) × (self.new.journal.first ≡ self.old.journal.first) }
@@ -82,5 +83,13 @@ impl Core {
         ensures after { (story : List Noted) → Stands self.old story → Stands self.new story }
     {
         self.journal.drain_into(most, into)
+    }
+
+    /// Lets go of all kept entries. It costs the same however many they are.
+    pub fn discard(&mut self)
+        ensures left { self.new ≡ record self.old { journal = record self.old.journal { first = self.old.journal.first + length self.old.journal.kept; kept = [] } } }
+        ensures after { (story : List Noted) → Stands self.old story → Stands self.new story }
+    {
+        self.journal.discard();
     }
 }

@@ -109,6 +109,10 @@ impl Board for PlainCore {
         self.journal.drain_into(most, into)
     }
 
+    fn discard(&mut self) {
+        self.journal.discard();
+    }
+
     fn first(&self) -> u64 {
         self.journal.first()
     }

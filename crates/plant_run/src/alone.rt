@@ -47,7 +47,7 @@ pub(crate) fn run_alone<B: Board + Drop, Y: Body + Drop, G: Gate, O: EntryOut>(
         ticks,
         own: _,
         workers: _,
-        mut spare,
+        spare: _,
     } = run;
     let mut serials = vec![in alloc; 0; bodies.len()]?;
     let mut bodies = watch(alloc, bodies, gate)?;
@@ -56,7 +56,6 @@ pub(crate) fn run_alone<B: Board + Drop, Y: Body + Drop, G: Gate, O: EntryOut>(
         bodies.as_mut_slice(),
         serials.as_mut_slice(),
         ticks,
-        &mut spare,
         out,
     )?;
     Ok(board)

@@ -66,10 +66,10 @@ pub fn run_workers<
         ticks,
         own,
         workers,
-        mut spare,
+        spare,
     } = run;
     let crew = Crew::reserve(alloc, bodies.len(), workers)?;
-    plan_all(&mut board, ticks, &mut spare, out)?;
+    plan_all(&mut board, ticks, out)?;
     let run = Run {
         board,
         bodies,
@@ -78,7 +78,7 @@ pub fn run_workers<
         workers,
         spare,
     };
-    let (mut board, mut spare) = work(rt, alloc, Staffed { run, crew }, gate, out)?;
-    hand_on(&mut board, &mut spare, out)?;
+    let mut board = work(rt, alloc, Staffed { run, crew }, gate, out)?;
+    hand_on(&mut board, out)?;
     Ok(board)
 }

@@ -1,5 +1,5 @@
 //! Workers on a plant, from its start to its closing.
-ghost use Rattle.std.specs.Prelude.{◌≡◌, ◌+◌, ◌≤◌, ◌++◌, ◌∷◌, [], None, length, IfOk, IsErrOf, vec_capacity};
+ghost use Rattle.std.specs.Prelude.{◌≡◌, ◌+◌, ◌≤◌, ◌++◌, ◌∷◌, [], None, length, IfOk, IsErrOf};
 ghost use Rattle.entry_out.specs.Outs.{StaysGood, LosesNone};
 ghost use Rattle.io_edge.specs.Causes.{Rose};
 ghost use Rattle.shared_plant.specs.Seats.{AreOf, newcomer, newcomers};
@@ -75,26 +75,19 @@ pub(crate) fn work<
     Y: Body + Send + Drop,
     G: Gate + Sync,
     O: EntryOut,
->(
-    rt: &R,
-    alloc: Global,
-    staffed: Staffed<B, Y>,
-    gate: &G,
-    out: &mut O,
-) -> Result<(B, Vec<Entry>), RunFault>
+>(rt: &R, alloc: Global, staffed: Staffed<B, Y>, gate: &G, out: &mut O) -> Result<B, RunFault>
     requires planned { IsPlanned B.stands B.set Y.gives staffed.run }
     requires crew { IsReserved (length staffed.run.ticks.now) staffed.crew }
     requires nothing_lost { O.lost out.old [] }
     requires good { CanGoOn (workload_in B.set Y.gives staffed.run) (O.got out.old) (O.good out.old) (B.kept staffed.run.board) }
-    ensures worked { IfOk result (λ r. HasWorked (workload_in B.set Y.gives staffed.entry.run) (own_in staffed.entry.run) (B.stands r.0) (O.got out.old) (O.got out.new) (B.kept staffed.entry.run.board) (B.kept r.0)) }
-    ensures fixed { IfOk result (λ r. IsFixed B.set B.room staffed.entry.run.board r.0) }
+    ensures worked { IfOk result (λ b. HasWorked (workload_in B.set Y.gives staffed.entry.run) (own_in staffed.entry.run) (B.stands b) (O.got out.old) (O.got out.new) (B.kept staffed.entry.run.board) (B.kept b)) }
+    ensures fixed { IfOk result (λ b. IsFixed B.set B.room staffed.entry.run.board b) }
     ensures none_lost { LosesNone O.lost out.new result }
     ensures cut { IsErrOf result RunFault.Writing → WasCut (workload_in B.set Y.gives staffed.entry.run) (own_in staffed.entry.run) (O.got out.old) (O.got out.new) (O.lost out.new) (B.kept staffed.entry.run.board) }
     ensures memory { IsErrOf result RunFault.Memory → out.new ≡ out.old }
     ensures cause { IsErrOf result RunFault.Writing → Rose (O.stops out.old) (O.stops out.new) }
     ensures later { O.stops out.old ≤ O.stops out.new }
     ensures good { StaysGood O.good out.old out.new }
-    ensures spare { IfOk result (λ r. (r.1.items ≡ []) × (vec_capacity r.1 ≡ vec_capacity staffed.entry.run.spare)) }
 {
     stories_are::<B>();
     let Staffed { run, crew } = staffed;
@@ -111,7 +104,7 @@ pub(crate) fn work<
     let mut workers = crew.hire(&mut seats, bodies, ticks, own);
     let mut drain = Drain { operator, spare };
     let ran = run_all(rt, &plant, workers.as_mut_slice(), &mut drain, gate, out);
-    let Drain { operator, spare } = drain;
+    let Drain { operator, spare: _ } = drain;
     gather(workers, &mut seats);
     seats.push_reserved(operator);
     let board = closed(plant, seats);
@@ -120,7 +113,7 @@ pub(crate) fn work<
     no_refusal::<B>();
     never_unplanned::<B, Y>();
     match ran {
-        Ok(()) => Ok((board, spare)),
+        Ok(()) => Ok(board),
         // Nothing but the out stops a run of an obedient workload whose eager jobs can be planned.
         Err(_) => Err(RunFault::Writing),
     }

@@ -1,5 +1,5 @@
 //! Runs of more than a piece on a board with little room, against a board that keeps all.
-ghost use Rattle.std.specs.Prelude.{◌≡◌, ◌≤◌, [], length, vec_capacity};
+ghost use Rattle.std.specs.Prelude.{◌≡◌, ◌≤◌, [], length};
 ghost use Rattle.plain_core.specs.Stands.{Stands};
 ghost use Rattle.counting_laws.specs.Counting.{room_of_jobs};
 ghost use Rattle.sim_run.specs.Workloads.{AreAccepted, ticks_of};
@@ -20,7 +20,6 @@ fn run_steady(
     board: &mut PlainCore,
     bodies: &mut [Steady],
     releases: &[List<Tick>],
-    spare: &mut Vec<Entry>,
     out: &mut KeptEntries,
 ) -> Result<(), Stopped>
     requires opened { Stands board.old [] }
@@ -28,12 +27,11 @@ fn run_steady(
     requires room { board.old.journal.room ≡ 1100 }
     requires two { length bodies.old ≡ 2 }
     requires accepted { AreAccepted set_of_two releases.now }
-    requires spare { (spare.old.items ≡ []) × (1100 ≤ vec_capacity spare.old) }
     requires empty { out.old.kept ≡ [] }
     requires enough { room_of_jobs set_of_two.txns (λ tx. length (ticks_of releases.now tx)) ≤ out.old.room }
 {
     let mut serials = [7u32; 2];
-    run(board, bodies, &mut serials, releases, spare, out)
+    run(board, bodies, &mut serials, releases, out)
 }
 
 // The entries that a run hands on. None where it stopped.
@@ -46,12 +44,10 @@ fn handed_on(
     requires accepted { AreAccepted set_of_two releases.now }
     requires short { room_of_jobs set_of_two.txns (λ tx. length (ticks_of releases.now tx)) ≤ 20000 }
 {
-    let mut spare = Vec::with_capacity(alloc, 1100)?;
     let mut out = KeptEntries::with_room(alloc, 20000)?;
     let mut board = new_board(alloc, 1100)?;
-    let ran = run_steady(&mut board, bodies, releases, &mut spare, &mut out);
+    let ran = run_steady(&mut board, bodies, releases, &mut out);
     drop(board);
-    drop(spare);
     match ran {
         Ok(()) => Ok(Some(out)),
         Err(Stopped) => {

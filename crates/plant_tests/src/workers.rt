@@ -90,21 +90,15 @@ fn spare(alloc: Global) -> Result<Vec<Entry>, OutOfMemory>
 }
 
 // Runs on one board: the fast one's jobs overrun by their second step, the slow one's quit.
-fn run_one(
-    board: &mut PlainCore,
-    releases: &[List<Tick>],
-    spare: &mut Vec<Entry>,
-    out: &mut FewEntries,
-)
+fn run_one(board: &mut PlainCore, releases: &[List<Tick>], out: &mut FewEntries)
     requires opened { Stands board.old [] }
     requires set { board.old.set ≡ set_of_two }
     requires room { board.old.journal.room ≡ 1100 }
     requires accepted { AreAccepted set_of_two releases.now }
-    requires spare { (spare.old.items ≡ []) × (1100 ≤ vec_capacity spare.old) }
 {
     let mut bodies = [Steady { computes: true }, Steady { computes: false }];
     let mut serials = [7u32; 2];
-    let _whole = run(board, &mut bodies, &mut serials, releases, spare, out);
+    let _whole = run(board, &mut bodies, &mut serials, releases, out);
 }
 
 // The entries of such a run.
@@ -112,12 +106,10 @@ fn alone(alloc: Global, fast: usize, slow: usize) -> Result<Vec<Entry>, OutOfMem
     let Some(releases) = releases(alloc, fast, slow)? else {
         return Err(OutOfMemory);
     };
-    let mut spare = spare(alloc)?;
     let mut out = few(alloc, 20000)?;
     let mut board = new_board(alloc, ROOM)?;
-    run_one(&mut board, releases.as_slice(), &mut spare, &mut out);
+    run_one(&mut board, releases.as_slice(), &mut out);
     drop(board);
-    drop(spare);
     drop(releases);
     Ok(out.entries)
 }

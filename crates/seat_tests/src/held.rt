@@ -116,6 +116,10 @@ impl<B: Board> Board for Held<B> {
         self.board.drain(most, into)
     }
 
+    fn discard(&mut self) {
+        self.board.discard();
+    }
+
     fn first(&self) -> u64 {
         self.board.first()
     }

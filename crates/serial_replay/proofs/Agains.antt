@@ -1,11 +1,14 @@
 -- The loop over the entries.
-use Rattle.std.proofs.Common.{◌≡◌, ℕ, ◌<◌, ◌≤◌, List, [], ◌∷◌, ◌++◌, length, take, drop, min, Some, get_or, ap, ◌∙◌, arith, length-drop}
+use Rattle.std.proofs.Common.{◌≡◌, ℕ, ◌-◌, ◌<◌, ◌≤◌, Bool, true, false, List, [], ◌∷◌, ◌++◌, length, take, drop, Option, None, Some, get_or, slice_get, refl, ap, sym, ◌∙◌, arith, length-append}
+use Rattle.std.specs.Prelude.{is_some, IsTrue, ◌↔◌}
+use Rattle.std.proofs.lemmas.List.{drop-append-le}
 use Rattle.std.proofs.Math.ListN.{drop_of_length-le}
 use Rattle.std.proofs.lemmas.Option.{slice_get-get_or}
 use Rattle.txn_set.specs.Set.{Set}
 use Rattle.step_journal.specs.declared.entry.Entry.{Entry}
 use Rattle.step_journal.specs.Step.{step}
 use Rattle.step_journal.specs.History.{event_of, entry_given, IsLegal, state_of}
+use Rattle.board.specs.Stories.{IsStory, noted}
 use Rattle.job_rows.proofs.Going as going
 use Rattle.job_rows.proofs.Fronts.{next_legal}
 use Rattle.serial_replay.specs.Replays.{IsFirstIllegal}
@@ -20,8 +23,35 @@ first_illegal set entries i d lt before refused =
 pub nothing_kept : (kept : List Entry) (first : ℕ) → kept ≡ drop first [] → kept ≡ []
 nothing_kept kept first e = e ∙ drop_of_length-le [] (omega arith)
 
--- some entries go where there is a place for one
-pub some_go : (kept left : List Entry) (count room most free now : ℕ) → count ≡ min most (min (length kept) free) → left ≡ drop count kept
-    → 0 < room → 0 < free → length kept ≤ room → (most ≡ room) × (now ≡ room) → length left < now
-some_go kept left count room most free now is rest some place few same =
-    omega (arith, is, ap length rest, length-drop count kept, some, place, few, same.0, same.1)
+-- after an entry is noted it is the last of those that are kept
+
+end_of : (kept : List Entry) (e : Entry) → slice_get (kept ++ e ∷ []) (length kept) ≡ Some e
+end_of [] e = refl
+end_of (x ∷ xs) e = end_of xs e
+
+pub last_noted : (set set' : Set) (room room' first first' : ℕ) (kept kept' story : List Entry) (o : Option Entry)
+    → IsStory set room first kept story → IsStory set' room' first' kept' (noted story o) → first' ≡ first → true ≡ is_some o
+    → slice_get kept' (length kept' - 1) ≡ o
+last_noted set set' room room' first first' kept kept' story None is is' same some = absurd cc
+last_noted set set' room room' first first' kept kept' story (Some e) is is' same some =
+    let le : first ≤ length story = omega (arith, is.counted) in
+    let kept_is : kept' ≡ kept ++ e ∷ [] = is'.rest
+    ∙ (ap (λ (n : ℕ). drop n (story ++ e ∷ [])) same
+    ∙ (drop-append-le first story (e ∷ []) le
+    ∙ ap (λ (l : List Entry). l ++ e ∷ []) (sym is.rest))) in
+    let at : length kept' - 1 ≡ length kept = omega (arith, ap (λ (l : List Entry). length l) kept_is, length-append kept (e ∷ [])) in
+    ap (slice_get kept') at ∙ (ap (λ (l : List Entry). slice_get l (length kept)) kept_is ∙ end_of kept e)
+
+some_same : (a b : Entry) → Some a ≡ Some b → a ≡ b
+some_same a b h = cc
+
+pub same_last : (o : Option Entry) (last e : Entry) (r : Bool) → Some last ≡ o → IsTrue r ↔ (last ≡ e) → IsTrue r ↔ (o ≡ Some e)
+same_last o last e r is h = (λ t. sym is ∙ ap Some (h.0 t), λ q. h.1 (some_same last e (is ∙ q)))
+
+pub none_made : (o : Option Entry) (e : Entry) (r : Bool) → r ≡ false → false ≡ is_some o → IsTrue r ↔ (o ≡ Some e)
+none_made None e r f h = (λ t. absurd cc, λ q. absurd cc)
+none_made (Some x) e r f h = absurd cc
+
+pub no_last : (o : Option Entry) (T : Type 0) → None ≡ o → true ≡ is_some o → T
+no_last None T is h = absurd cc
+no_last (Some e) T is h = absurd cc

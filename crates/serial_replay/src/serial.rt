@@ -1,5 +1,5 @@
 //! Replay: whether entries are a legal history, and what its jobs come to.
-ghost use Rattle.std.specs.Prelude.{◌≡◌, ◌<◌, [], IfOk, IfErr, vec_capacity};
+ghost use Rattle.std.specs.Prelude.{◌≡◌, [], IfOk, IfErr};
 ghost use Rattle.step_journal.specs.History.{IsLegal, state_of};
 ghost use Rattle.lock_core.specs.Stands.{Stands};
 ghost use Rattle.serial_replay.specs.Replays.{IsReplayed, Explains};
@@ -52,9 +52,8 @@ pub fn last_items(alloc: Global, set: &CompiledSet, entries: &[Entry]) -> Result
     ensures items { IfOk result (λ items. items ≡ (state_of set.now entries.now).items) }
     ensures err { IfErr result (Explains set.now entries.now) }
 {
-    let mut spare = places(alloc)?;
     let mut board = new_board(alloc, set)?;
-    match again(&mut board, entries, &mut spare) {
+    match again(&mut board, entries) {
         Some(index) => Err(ReplayError::NotLegal { index }),
         None => {
             let (items, _) = board.into_parts();
@@ -95,11 +94,4 @@ fn new_board(alloc: Global, set: &CompiledSet) -> Result<Core, OutOfMemory>
         Ok(board) => Ok(board),
         Err((_, e)) => Err(e),
     }
-}
-
-// No entries, with places for as many as the board keeps at once.
-fn places(alloc: Global) -> Result<Vec<Entry>, OutOfMemory>
-    ensures { IfOk result (λ v. 0 < vec_capacity v) }
-{
-    Ok(Vec::with_capacity(alloc, AT_ONCE)?)
 }

@@ -151,16 +151,6 @@ kept_same set set' room room' first first' kept kept' story is is' same =
 pub rose_later : (before mid now : ℕ) → before ≤ mid → Rose mid now → Rose before now
 rose_later before mid now le rose = omega (arith, le, rose)
 
--- a drain into spare places that suffice moves all that is kept
-pub drained_all : (kept entries into new : List Entry) (n len places : ℕ) → entries ≡ kept
-    → n ≡ min (length entries) (min (length kept) (places - len)) → len ≡ length into → into ≡ []
-    → length kept ≤ places → new ≡ into ++ take n kept
-    → new ≡ kept
-drained_all kept entries into new n len places is count l none le moved =
-    let zero_len : length into ≡ 0 = ap (λ (xs : List Entry). length xs) none in
-    let all : n ≡ length kept = omega (arith, count, ap (λ (xs : List Entry). length xs) is, l, zero_len, le) in
-    moved ∙ (ap (λ (xs : List Entry). xs ++ take n kept) none ∙ (ap (λ (k : ℕ). take k kept) all ∙ take-length kept))
-
 -- what is known where an out refused a piece
 pub refused : {T E : Type 0} (r : Result T E) (got got' lost' : List Entry → Type 0) (piece entries : List Entry)
     → piece ≡ entries → OnErr r ((story : List Entry) → got story → got' story) → OnErr r (lost' piece)

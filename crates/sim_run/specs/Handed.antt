@@ -1,5 +1,5 @@
 -- How the entries of a run go on to an out, piece by piece. What an out got, lost, and can take are relations on lists.
-use Rattle.std.specs.Prelude.{◌≡◌, ℕ, ◌<◌, ◌≤◌, List, [], ◌++◌, take}
+use Rattle.std.specs.Prelude.{◌≡◌, ℕ, ◌<◌, List, [], ◌++◌, take}
 use Rattle.step_journal.specs.declared.entry.Entry.{Entry}
 
 -- an out that got some list can take these entries after it
@@ -27,10 +27,7 @@ pub record IsCut (got got' lost' : List Entry → Type 0) (entries : List Entry)
   pub grown : (story : List Entry) → got story → got' (story ++ passed)
   pub is_lost : lost' piece
 
--- between two entries: the board keeps less than a piece of 1,024, has room for one more, and the spare places suffice for
--- all that it may keep
-pub record IsReady (kept room : ℕ) (spare : List Entry) (places : ℕ) : Type 0 where
+-- between two entries: the board keeps less than a piece of 1,024, and has room for one more
+pub record IsReady (kept room : ℕ) : Type 0 where
   pub few : kept < 1024
   pub more : 1024 < room
-  pub empty : spare ≡ []
-  pub enough : room ≤ places

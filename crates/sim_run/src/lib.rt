@@ -1,7 +1,7 @@
 //! The run of a workload on one board and one thread, whose entries go to an out as they come.
 #![tactic(auto)]
 
-ghost use Rattle.std.specs.Prelude.{◌≡◌, ◌≢◌, ℕ, ◌+◌, ◌<◌, ◌≤◌, [], ◌++◌, Some, map, length, slice_get, vec_capacity, IfOk, OnErr};
+ghost use Rattle.std.specs.Prelude.{◌≡◌, ◌≢◌, ℕ, ◌+◌, ◌<◌, ◌≤◌, [], ◌++◌, Some, map, length, slice_get, IfOk, OnErr};
 ghost use Rattle.std.specs.Prelude.{List as Many};
 ghost use Rattle.io_edge.specs.Causes.{HasCause};
 ghost use Rattle.step_journal.specs.declared.entry.Entry.{Entry as Noted};
@@ -12,7 +12,7 @@ ghost use Rattle.step_journal.specs.Serial.{outcomes_of};
 ghost use Rattle.sim_history.specs.Sim.{IsSim, plans_from};
 ghost use Rattle.sim_run.specs.Workloads.{workload, AreAccepted, IsObedient};
 ghost use Rattle.sim_run.specs.Turns.{CanAsk, HasAsked, CanTurn, HasTurned};
-ghost use Rattle.entry_out.specs.Outs.{StaysGood, LosesNone, IsEmptied};
+ghost use Rattle.entry_out.specs.Outs.{StaysGood, LosesNone};
 ghost use Rattle.sim_run.specs.Boards.{IsFixed};
 ghost use Rattle.sim_run.specs.Handed.{CanAppend, CanTake, IsHanded, IsCut, IsReady};
 ghost use Rattle.sim_run.specs.Runs.{IsWhole, IsStopped, RunsExist, StoriesGoOn};
@@ -20,7 +20,6 @@ ghost use Rattle.sim_run.specs.Runs.{IsWhole, IsStopped, RunsExist, StoriesGoOn}
 use board::{Board, IdleReply, StepReply};
 use entry_out::{EntryOut, Stopped};
 use rt_base::{JobId, List, Tick, TxId};
-use step_journal::Entry;
 use step_script::Body;
 
 /// How many entries are handed on at a time.
@@ -33,15 +32,9 @@ pub fn runs_exist()
     ensures goes_on { StoriesGoOn }
 {}
 
-/// Hands on all entries that the board keeps, as one piece, through `spare`, which is empty before and after and has
-/// places for them. Err comes only where the out stopped in this call: it got none of them then, and lost them all. It
-/// takes no memory.
-pub fn hand_on<B: Board, O: EntryOut>(
-    board: &mut B,
-    spare: &mut Vec<Entry>,
-    out: &mut O,
-) -> Result<(), Stopped>
-    requires spare { (spare.old.items ≡ []) × (length (B.kept board.old) ≤ vec_capacity spare.old) }
+/// Hands on all entries that the board keeps, as one piece, from where they stand; the board lets go of them. Err comes only
+/// where the out stopped in this call: it got none of them then, and lost them all. It takes no memory.
+pub fn hand_on<B: Board, O: EntryOut>(board: &mut B, out: &mut O) -> Result<(), Stopped>
     requires nothing_lost { O.lost out.old [] }
     requires good { CanAppend (O.got out.old) (O.good out.old) (B.kept board.old) }
     ensures passed { IfOk result (λ _. IsHanded (O.got out.old) (O.got out.new) (B.kept board.old) []) }
@@ -52,22 +45,14 @@ pub fn hand_on<B: Board, O: EntryOut>(
     ensures left { B.kept board.new ≡ [] }
     ensures stands { (story : Many Noted) → B.stands board.old story → B.stands board.new story }
     ensures fixed { IsFixed B.set B.room board.old board.new }
-    ensures spare { IsEmptied spare.old spare.new }
 {
-    let kept = board.entries().len();
-    board.drain(kept, spare);
-    let handed = out.put(spare.as_slice());
-    spare.clear();
+    let handed = out.put(board.entries());
+    board.discard();
     handed
 }
 
 // Hands on the entries that the board keeps once they are a piece.
-fn hand_piece<B: Board, O: EntryOut>(
-    board: &mut B,
-    spare: &mut Vec<Entry>,
-    out: &mut O,
-) -> Result<(), Stopped>
-    requires spare { (spare.old.items ≡ []) × (length (B.kept board.old) ≤ vec_capacity spare.old) }
+fn hand_piece<B: Board, O: EntryOut>(board: &mut B, out: &mut O) -> Result<(), Stopped>
     requires nothing_lost { O.lost out.old [] }
     requires good { CanAppend (O.got out.old) (O.good out.old) (B.kept board.old) }
     ensures passed { IfOk result (λ _. IsHanded (O.got out.old) (O.got out.new) (B.kept board.old) (B.kept board.new)) }
@@ -78,12 +63,11 @@ fn hand_piece<B: Board, O: EntryOut>(
     ensures few { length (B.kept board.new) < 1024 }
     ensures stands { (story : Many Noted) → B.stands board.old story → B.stands board.new story }
     ensures fixed { IsFixed B.set B.room board.old board.new }
-    ensures spare { IsEmptied spare.old spare.new }
 {
     if board.entries().len() < PIECE {
         return Ok(());
     }
-    hand_on(board, spare, out)
+    hand_on(board, out)
 }
 
 // Lets the body begin the job with this serial, unless it has.
@@ -157,13 +141,12 @@ fn plan_each<B: Board, O: EntryOut>(
     board: &mut B,
     tx: TxId,
     ticks: &[Tick],
-    spare: &mut Vec<Entry>,
     out: &mut O,
 ) -> Result<(), Stopped>
     requires legal { (story : Many Noted) × B.stands board.old story ×
         IsLegal (B.set board.old) (story ++ map (Planned tx) ticks.now) }
     requires in_set { tx.0 < length (B.set board.old).txns }
-    requires ready { IsReady (length (B.kept board.old)) (B.room board.old) spare.old.items (vec_capacity spare.old) }
+    requires ready { IsReady (length (B.kept board.old)) (B.room board.old) }
     requires nothing_lost { O.lost out.old [] }
     requires good { CanTake (O.got out.old) (O.good out.old) (B.kept board.old ++ map (Planned tx) ticks.now) }
     ensures passed { IfOk result (λ _. IsHanded (O.got out.old) (O.got out.new) (B.kept board.old ++ map (Planned tx) ticks.now) (B.kept board.new)) }
@@ -175,13 +158,12 @@ fn plan_each<B: Board, O: EntryOut>(
     ensures cause { HasCause (O.stops out.old) (O.stops out.new) result }
     ensures good { StaysGood O.good out.old out.new }
     ensures fixed { IsFixed B.set B.room board.old board.new }
-    ensures spare { IsEmptied spare.old spare.new }
 {
     for tick in ticks {
         let Ok(_) = board.plan(tx, *tick) else {
             unreachable!()
         };
-        hand_piece(board, spare, out)?;
+        hand_piece(board, out)?;
     }
     Ok(())
 }
@@ -189,17 +171,16 @@ fn plan_each<B: Board, O: EntryOut>(
 /// Plans all releases, by transaction and then by index, and hands on a piece of `PIECE` at a time; the board keeps what
 /// is left. Releases are in ticks, with a place for each transaction of the board's set; the history with their plans
 /// has to be legal, so each plan is granted. Err comes only where the out stopped in this call: it got the first of the
-/// entries then, and lost the piece that came next. `spare` is empty before and after. It takes no memory.
+/// entries then, and lost the piece that came next. It takes no memory.
 pub fn plan_all<B: Board, O: EntryOut>(
     board: &mut B,
     releases: &[List<Tick>],
-    spare: &mut Vec<Entry>,
     out: &mut O,
 ) -> Result<(), Stopped>
     requires legal { (story : Many Noted) × B.stands board.old story ×
         IsLegal (B.set board.old) (story ++ plans_from 0 releases.now) }
     requires each { length releases.now ≡ length (B.set board.old).txns }
-    requires ready { IsReady (length (B.kept board.old)) (B.room board.old) spare.old.items (vec_capacity spare.old) }
+    requires ready { IsReady (length (B.kept board.old)) (B.room board.old) }
     requires nothing_lost { O.lost out.old [] }
     requires good { CanTake (O.got out.old) (O.good out.old) (B.kept board.old ++ plans_from 0 releases.now) }
     ensures passed { IfOk result (λ _. IsHanded (O.got out.old) (O.got out.new) (B.kept board.old ++ plans_from 0 releases.now) (B.kept board.new)) }
@@ -211,10 +192,9 @@ pub fn plan_all<B: Board, O: EntryOut>(
     ensures cause { HasCause (O.stops out.old) (O.stops out.new) result }
     ensures good { StaysGood O.good out.old out.new }
     ensures fixed { IsFixed B.set B.room board.old board.new }
-    ensures spare { IsEmptied spare.old spare.new }
 {
     for (tx, ticks) in releases.iter().enumerate() {
-        plan_each(board, TxId(tx as u32), ticks.as_slice(), spare, out)?;
+        plan_each(board, TxId(tx as u32), ticks.as_slice(), out)?;
     }
     Ok(())
 }
@@ -239,15 +219,14 @@ fn begin_all<Y: Body>(bodies: &mut [Y], serials: &mut [u32])
 /// what is left at the end, and the board keeps none then. Err comes only where the out stopped in this call. The run
 /// stops at once: what the out got, and after it what it lost, are how the workload's run begins; what the board then
 /// keeps is not said. Releases are in ticks. `bodies`, `serials` and `releases` have a place for each transaction of the
-/// board's set. What stands in `serials` and in the bodies before does not matter, since each body begins anew. `spare`
-/// is empty before and after. It takes no memory. It makes at most three calls of the board for each entry, two more for
-/// each piece, and four at the end. Each entry is moved once from the board to `spare`, and handed on once.
+/// board's set. What stands in `serials` and in the bodies before does not matter, since each body begins anew. It takes no
+/// memory. It makes at most three calls of the board for each entry, two more for each piece, and four at the end. Each
+/// entry is handed on once, from where the board keeps it.
 pub fn run<B: Board, Y: Body, O: EntryOut>(
     board: &mut B,
     bodies: &mut [Y],
     serials: &mut [u32],
     releases: &[List<Tick>],
-    spare: &mut Vec<Entry>,
     out: &mut O,
 ) -> Result<(), Stopped>
     requires opened { B.stands board.old [] }
@@ -256,7 +235,6 @@ pub fn run<B: Board, Y: Body, O: EntryOut>(
     requires accepted { AreAccepted (B.set board.old) releases.now }
     requires obedient { IsObedient (workload (B.set board.old) (map Y.gives bodies.old) releases.now) }
     requires room { 1024 < B.room board.old }
-    requires spare { (spare.old.items ≡ []) × (B.room board.old ≤ vec_capacity spare.old) }
     requires nothing_lost { O.lost out.old [] }
     requires good { let w = workload (B.set board.old) (map Y.gives bodies.old) releases.now in
         (history : Many Noted) → IsSim w history → CanTake (O.got out.old) (O.good out.old) history }
@@ -268,14 +246,13 @@ pub fn run<B: Board, Y: Body, O: EntryOut>(
         OnErr result (IsStopped w (O.got out.old) (O.got out.new) (O.lost out.new)) }
     ensures cause { HasCause (O.stops out.old) (O.stops out.new) result }
     ensures good { StaysGood O.good out.old out.new }
-    ensures spare { IsEmptied spare.old spare.new }
     ensures fixed { IsFixed B.set B.room board.old board.new }
     ensures same { map Y.gives bodies.new ≡ map Y.gives bodies.old }
 {
-    plan_all(board, releases, spare, out)?;
+    plan_all(board, releases, out)?;
     begin_all(bodies, serials);
     while turn(board, bodies, serials) {
-        hand_piece(board, spare, out)?;
+        hand_piece(board, out)?;
     }
-    hand_on(board, spare, out)
+    hand_on(board, out)
 }

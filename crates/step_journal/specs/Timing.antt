@@ -121,7 +121,8 @@ pub record IsSteadyAt (set : Set) (entries : List Entry) (tx : ℕ) : Type 0 whe
   pub periodic : IsPeriodic (txn_of set tx).offset (txn_of set tx).period (state_of set entries).now (planned_ticks entries (state_of set entries).now tx)
   pub ends : All (λ e. e.job.tx.0 ≡ tx → ¬ GaveUp e.end) (state_of set entries).ended
 
--- each writer of a sensor or derived item is released each period, and none of its jobs gives up
+-- each updating transaction, those of derived items too, is released exactly at its offset and each period after it, and
+-- neither quits nor uses up its steps without a commit
 abbrev pub IsSteady : Set → List Entry → Type 0
 IsSteady set entries =
     (tx : ℕ) → IsTrue (list_any (λ i. is_dated set.items i.0) (txn_of set tx).writes) → IsSteadyAt set entries tx

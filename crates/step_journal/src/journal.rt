@@ -91,6 +91,15 @@ impl Journal {
         count
     }
 
+    /// Lets go of all kept entries. It costs the same however many they are.
+    pub fn discard(&mut self)
+        requires { self.old.first + length self.old.kept < 2 ^ 64 }
+        ensures { self.new ≡ record self.old { first = self.old.first + length self.old.kept; kept = [] } }
+    {
+        self.first += self.entries.len() as u64;
+        self.entries.clear();
+    }
+
     /// The kept entries, handed out.
     pub fn into_entries(self) -> Vec<Entry>
         ensures { result.items ≡ self.kept }

@@ -54,11 +54,8 @@ loop-tx-preserved g c =
       ready = record {
         few = c.in_ok-plan_each.ensures.few;
         more = omega (arith, i.ready.more, c.plan_each.ensures.fixed.1);
-        empty = c.plan_each.ensures.spare.0;
-        enough = omega (arith, i.ready.enough, c.plan_each.ensures.fixed.1, c.plan_each.ensures.spare.1);
       };
       later = omega (arith, i.later, c.plan_each.ensures.cause.later);
       good = λ story h. c.plan_each.ensures.good story (i.good story h);
       fixed = (c.plan_each.ensures.fixed.0 ∙ i.fixed.0, c.plan_each.ensures.fixed.1 ∙ i.fixed.1);
-      places = c.plan_each.ensures.spare.1 ∙ i.places;
     }

@@ -61,11 +61,8 @@ loop-tick-preserved g c =
       ready = record {
         few = c.hand_piece.ensures.few;
         more = omega (arith, i.ready.more, c.plan.ensures.fixed.1, c.hand_piece.ensures.fixed.1);
-        empty = c.hand_piece.ensures.spare.0;
-        enough = omega (arith, i.ready.enough, c.plan.ensures.fixed.1, c.hand_piece.ensures.fixed.1, c.hand_piece.ensures.spare.1);
       };
       later = omega (arith, i.later, c.hand_piece.ensures.cause.later);
       good = λ story h. c.hand_piece.ensures.good story (i.good story h);
       fixed = (c.hand_piece.ensures.fixed.0 ∙ c.plan.ensures.fixed.0 ∙ i.fixed.0, c.hand_piece.ensures.fixed.1 ∙ c.plan.ensures.fixed.1 ∙ i.fixed.1);
-      places = c.hand_piece.ensures.spare.1 ∙ i.places;
     }

@@ -53,13 +53,10 @@ loop-board-init g c =
       ready = record {
         few = c.in_ok-plan_all.ensures.few;
         more = omega (arith, c.requires.room, c.plan_all.ensures.fixed.1);
-        empty = c.plan_all.ensures.spare.0;
-        enough = omega (arith, c.requires.spare.1, c.plan_all.ensures.fixed.1, c.plan_all.ensures.spare.1);
       };
       later = c.plan_all.ensures.cause.later;
       good = c.plan_all.ensures.good;
       fixed = c.plan_all.ensures.fixed;
-      places = c.plan_all.ensures.spare.1;
       same = c.begin_all.ensures.same;
     }
 
@@ -73,22 +70,6 @@ turn-requires-clause-ready g c =
     let ready = can_turn (g.B.Board.set c.args.board.now) (g.B.Board.set c.loop-board.board) now then c.args.releases.now (g.B.Board.stands c.loop-board.board) g.Y.Body.stands (g.O.EntryOut.got c.args.out.now) (g.O.EntryOut.got c.loop-board.out) c.loop-board.bodies c.loop-board.serials (g.B.Board.kept c.loop-board.board)
     i.fixed.0 i.same c.requires.obedient i.way is.legal in
     (i.way.story, ready)
-
-pub hand_piece-requires-clause-spare : goal.hand_piece-requires-clause-spare
-hand_piece-requires-clause-spare g c =
-    let w = workload (g.B.Board.set c.args.board.now) (map g.Y.Body.gives c.args.bodies.now) c.args.releases.now in
-    let i = c.loop-board.invariant in
-    let is = g.met.B.Board.is_story c.loop-board.board i.way.story i.way.stood in
-    let then = map g.Y.Body.gives c.args.bodies.now in
-    let now = map g.Y.Body.gives c.loop-board.bodies in
-    let ready = can_turn (g.B.Board.set c.args.board.now) (g.B.Board.set c.loop-board.board) now then c.args.releases.now (g.B.Board.stands c.loop-board.board) g.Y.Body.stands (g.O.EntryOut.got c.args.out.now) (g.O.EntryOut.got c.loop-board.out) c.loop-board.bodies c.loop-board.serials (g.B.Board.kept c.loop-board.board)
-    i.fixed.0 i.same c.requires.obedient i.way is.legal in
-    let t = c.turn.ensures.turned i.way.story ready in
-    let is' = g.met.B.Board.is_story c.turn.new.board t.after t.stands in
-    let next = way_on (g.B.Board.set c.args.board.now) (g.B.Board.set c.loop-board.board) (g.B.Board.set c.turn.new.board) now then c.args.releases.now (g.B.Board.stands c.loop-board.board) (g.B.Board.stands c.turn.new.board) g.Y.Body.stands (g.O.EntryOut.got c.args.out.now) (g.O.EntryOut.got c.loop-board.out)
-    c.loop-board.bodies c.turn.new.bodies c.loop-board.serials c.turn.new.serials _ _ _ _ (g.B.Board.kept c.loop-board.board) (g.B.Board.kept c.turn.new.board) c.turn.result i.fixed.0 i.same c.loop-board-test.true c.turn.ensures.fixed.2 i.way is t is' in
-    let es = c.turn.ensures.fixed.0 ∙ i.fixed.0 in
-    (i.ready.empty, omega (arith, is'.fits, i.ready.enough, c.turn.ensures.fixed.1))
 
 pub hand_piece-requires-clause-good : goal.hand_piece-requires-clause-good
 hand_piece-requires-clause-good g c =
@@ -146,13 +127,10 @@ loop-board-preserved g c =
       ready = record {
         few = c.hand_piece.ensures.few;
         more = omega (arith, i.ready.more, c.turn.ensures.fixed.1, c.hand_piece.ensures.fixed.1);
-        empty = c.hand_piece.ensures.spare.0;
-        enough = omega (arith, i.ready.enough, c.turn.ensures.fixed.1, c.hand_piece.ensures.fixed.1, c.hand_piece.ensures.spare.1);
       };
       later = omega (arith, i.later, c.hand_piece.ensures.cause.later);
       good = λ story h. c.hand_piece.ensures.good story (i.good story h);
       fixed = (c.hand_piece.ensures.fixed.0 ∙ es, c.hand_piece.ensures.fixed.1 ∙ c.turn.ensures.fixed.1 ∙ i.fixed.1);
-      places = c.hand_piece.ensures.spare.1 ∙ i.places;
       same = c.turn.ensures.same ∙ i.same;
     }
 
@@ -173,22 +151,6 @@ returns-in_err-hand_piece-clause-stopped g c =
     let last = g.met.B.Board.is_story c.turn.new.board next.story next.stood in
     on_err c.from_residual-in_err-hand_piece.result _ (way_stopped w (g.B.Board.set c.turn.new.board) _ _ _ next.story es last.compiled last.legal c.requires.obedient next.under_way
     (cut_then (g.O.EntryOut.got c.args.out.now) (g.O.EntryOut.got c.loop-board.out) (g.O.EntryOut.got c.hand_piece.new.out) (g.O.EntryOut.lost c.hand_piece.new.out) next.story (g.B.Board.kept c.turn.new.board) next.handed c.in_err-hand_piece.ensures.stopped))
-
-pub hand_on-requires-clause-spare : goal.hand_on-requires-clause-spare
-hand_on-requires-clause-spare g c =
-    let w = workload (g.B.Board.set c.args.board.now) (map g.Y.Body.gives c.args.bodies.now) c.args.releases.now in
-    let i = c.loop-board.invariant in
-    let is = g.met.B.Board.is_story c.loop-board.board i.way.story i.way.stood in
-    let then = map g.Y.Body.gives c.args.bodies.now in
-    let now = map g.Y.Body.gives c.loop-board.bodies in
-    let ready = can_turn (g.B.Board.set c.args.board.now) (g.B.Board.set c.loop-board.board) now then c.args.releases.now (g.B.Board.stands c.loop-board.board) g.Y.Body.stands (g.O.EntryOut.got c.args.out.now) (g.O.EntryOut.got c.loop-board.out) c.loop-board.bodies c.loop-board.serials (g.B.Board.kept c.loop-board.board)
-    i.fixed.0 i.same c.requires.obedient i.way is.legal in
-    let t = c.turn.ensures.turned i.way.story ready in
-    let is' = g.met.B.Board.is_story c.turn.new.board t.after t.stands in
-    let next = way_ended (g.B.Board.set c.args.board.now) (g.B.Board.set c.loop-board.board) (g.B.Board.set c.turn.new.board) now then c.args.releases.now (g.B.Board.stands c.loop-board.board) (g.B.Board.stands c.turn.new.board) g.Y.Body.stands (g.O.EntryOut.got c.args.out.now) (g.O.EntryOut.got c.loop-board.out)
-    c.loop-board.bodies c.turn.new.bodies c.loop-board.serials c.turn.new.serials _ _ _ _ (g.B.Board.kept c.loop-board.board) (g.B.Board.kept c.turn.new.board) c.turn.result i.fixed.0 i.same c.loop-board-test.false c.turn.ensures.fixed.2 i.way is t is' in
-    let es = c.turn.ensures.fixed.0 ∙ i.fixed.0 in
-    (i.ready.empty, omega (arith, is'.fits, i.ready.enough, c.turn.ensures.fixed.1))
 
 pub hand_on-requires-clause-good : goal.hand_on-requires-clause-good
 hand_on-requires-clause-good g c =

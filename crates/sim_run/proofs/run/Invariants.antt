@@ -12,11 +12,10 @@ invariant-loop-board g l =
     record {
       way : OnWay w (g.B.Board.stands l.board) g.Y.Body.stands (g.O.EntryOut.got l.fn.out) (g.O.EntryOut.got l.out) l.bodies l.serials (g.B.Board.kept l.board);
       none_lost : g.O.EntryOut.lost l.out [];
-      ready : IsReady (length (g.B.Board.kept l.board)) (g.B.Board.room l.board) l.spare.items (vec_capacity l.spare);
+      ready : IsReady (length (g.B.Board.kept l.board)) (g.B.Board.room l.board);
       later : g.O.EntryOut.stops l.fn.out ≤ g.O.EntryOut.stops l.out;
       good : (story : List Entry) → g.O.EntryOut.good l.fn.out story → g.O.EntryOut.good l.out story;
       fixed : (g.B.Board.set l.board ≡ g.B.Board.set l.fn.board) × (g.B.Board.room l.board ≡ g.B.Board.room l.fn.board);
-      places : vec_capacity l.spare ≡ vec_capacity l.fn.spare;
       same : map g.Y.Body.gives l.bodies ≡ map g.Y.Body.gives l.fn.bodies;
     }
 

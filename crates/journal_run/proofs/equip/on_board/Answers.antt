@@ -19,12 +19,10 @@ returns-clause-ready c =
     record {
       opened = c.in-Ok.ensures.ok.3;
       bodies_each = each;
-      serials_each = c.in-Ok-places.ensures.0 ∙ (many ∙ each);
+      serials_each = c.in-Ok-serials_for.ensures ∙ (many ∙ each);
       accepted = subst (λ (q : Set). AreAccepted q ticks) (sym set_on) ready.accepted;
       obedient = subst IsObedient same ready.obedient;
       more = omega (arith, room);
-      empty = c.in-Ok-places.ensures.1;
-      enough = omega (arith, c.room.ensures, c.in-Ok-places.ensures.2);
     }
 
 pub returns-clause-runs : goal.returns-clause-runs

@@ -33,7 +33,7 @@ plan_all-requires-clause-ready g c =
     let none = nothing_kept _ _ _ (g.B.Board.kept c.args.run.board) is in
     let legal = releases_legal set releases c.requires.ready.accepted in
     let long = ap (λ (l : List Entry). length l) none in
-    record { few = omega (arith, long); more = c.requires.ready.more; empty = c.requires.ready.empty; enough = c.requires.ready.enough }
+    record { few = omega (arith, long); more = c.requires.ready.more }
 
 pub plan_all-requires-clause-good : goal.plan_all-requires-clause-good
 plan_all-requires-clause-good g c =
@@ -71,7 +71,7 @@ work-requires-clause-planned g c κs within =
       obedient = subst (λ (q : Set). IsObedient (workload q bodies c.args.run.ticks.now)) (sym same) ready.obedient;
       eager = ready.eager;
       plannable = subst (λ (q : Set). ArePlannable (workload q bodies c.args.run.ticks.now) (own_at c.args.run.own.now)) (sym same) ready.plannable;
-      empty = c.plan_all.ensures.spare.0;
+      empty = c.requires.ready.empty;
     }
 
 pub work-requires-clause-good : goal.work-requires-clause-good
@@ -116,24 +116,6 @@ returns-in_err-board-clause-short g c = λ refused.
     let same = c.in_err-board.ensures.memory (search rules) in
     subst (λ o. IsShortRun w (own_at c.args.run.own.now) got (g.O.EntryOut.got o) (g.O.EntryOut.lost o)) (sym same)
     (cut_short w (own_at c.args.run.own.now) got (g.O.EntryOut.got c.plan_all.new.out) (g.O.EntryOut.lost c.plan_all.new.out) (g.B.Board.kept c.plan_all.new.board) legal handed c.in_ok-plan_all.ensures.none_lost)
-
-pub hand_on-requires-clause-spare : goal.hand_on-requires-clause-spare
-hand_on-requires-clause-spare g c =
-    let set = g.B.Board.set c.args.run.board in let bodies = map g.Y.Body.gives c.args.run.bodies.items in
-    let releases : List (List ℕ) = c.args.run.ticks.now in
-    let w : Workload = workload set bodies releases in
-    let is = c.stories_are.ensures c.args.run.board [] c.requires.ready.opened in
-    let none = nothing_kept _ _ _ (g.B.Board.kept c.args.run.board) is in
-    let legal = releases_legal set releases c.requires.ready.accepted in
-    let got = g.O.EntryOut.got c.args.out.now in
-    let handed = subst (λ (l : List Entry). IsHanded got (g.O.EntryOut.got c.plan_all.new.out) (l ++ plans_from 0 releases) (g.B.Board.kept c.plan_all.new.board)) none c.in_ok-plan_all.ensures.passed in
-    let es = c.plan_all.ensures.fixed.0 in
-    let b = c.in_ok-board.board in
-    let worked = c.in_ok-board.ensures.worked in
-    let last = c.stories_are.ensures b (plans_from 0 releases ++ worked.rest) worked.stood in
-    let fixed = c.in_ok-board.ensures.fixed in
-    let spare = c.in_ok-board.ensures.spare in
-    (spare.0, omega (arith, last.fits, fixed.1, c.plan_all.ensures.fixed.1, c.requires.ready.enough, c.plan_all.ensures.spare.1, spare.1))
 
 pub hand_on-requires-clause-good : goal.hand_on-requires-clause-good
 hand_on-requires-clause-good g c =

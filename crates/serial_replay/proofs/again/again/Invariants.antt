@@ -1,4 +1,4 @@
-use Rattle.std.proofs.Common.{◌≡◌, ◌<◌, [], length, take, vec_capacity}
+use Rattle.std.proofs.Common.{◌≡◌, ◌<◌, length, take}
 use Rattle.serial_replay.proofs.again.again.Given as goal
 
 abbrev pub invariant-loop-i : goal.invariant-loop-i
@@ -7,6 +7,4 @@ invariant-loop-i g l = record {
   set : g.B.Board.set l.board ≡ g.B.Board.set l.fn.board;
   room : g.B.Board.room l.board ≡ g.B.Board.room l.fn.board;
   kept : length (g.B.Board.kept l.board) < g.B.Board.room l.board;
-  spare : l.spare.items ≡ [];
-  place : 0 < vec_capacity l.spare;
 }

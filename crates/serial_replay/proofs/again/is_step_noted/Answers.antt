@@ -1,0 +1,21 @@
+use Rattle.std.proofs.Common.{Option, refl, ap, sym, ◌∙◌, subst}
+use Rattle.std.specs.Prelude.{is_some}
+use Rattle.step_journal.specs.declared.entry.Entry.{Entry}
+use Rattle.board.specs.Stories.{noted, step_entry, now_of}
+use Rattle.serial_replay.proofs.Outside.{ask_outside}
+use Rattle.serial_replay.proofs.again.is_step_noted.Goals as goal
+
+pub returns-then-not-is_in_set-clause-noted : goal.returns-then-not-is_in_set-clause-noted
+returns-then-not-is_in_set-clause-noted g c story stands =
+    let is = g.met.B.Board.is_story c.args.board.now story stands in
+    ap (λ (o : Option Entry). is_some o) (ask_outside _ story c.args.job c.args.op is.compiled is.legal (sym c.is_in_set.ensures ∙ c.if-not-is_in_set.true))
+
+pub returns-then-not-is_in_set-clause-goes_on : goal.returns-then-not-is_in_set-clause-goes_on
+returns-then-not-is_in_set-clause-goes_on g c = (
+  λ story stands.
+      let is = g.met.B.Board.is_story c.args.board.now story stands in
+      subst (λ (o : Option Entry). g.B.Board.stands c.args.board.now (noted story o)) (ask_outside _ story c.args.job c.args.op is.compiled is.legal (sym c.is_in_set.ensures ∙ c.if-not-is_in_set.true)) stands,
+  refl,
+  refl,
+  refl,
+)
