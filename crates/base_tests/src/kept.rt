@@ -1,9 +1,9 @@
 //! Items, a journal, an out and releases.
 ghost use Rattle.std.specs.Prelude.{◌≡◌};
 
-use entry_out::{EntryOut, KeptEntries, Stopped};
 use item_model::{ItemDecl, ItemKind, Items};
 use rt_base::{ItemId, List, OutOfMemory, Tick, TxId, Value};
+use run_out::{EntryOut, KeptEntries, Stopped};
 use scenario::Releases;
 use std::alloc::Global;
 use step_journal::{Entry, Journal};

@@ -20,10 +20,10 @@ use Rattle.step_journal.specs.Running.{running, job_row, of_job}
 use Rattle.step_journal.specs.Step.{ask, idle, step, given, asked, answered, idled, may_ask, lock_refusal, next_tick}
 use Rattle.step_journal.specs.Instant.{arrived}
 use Rattle.step_journal.specs.History.{IsLegal, state_of, entry_given}
-use Rattle.history_laws.proofs.Invariant.{IsPending, running_is, same_job_is}
-use Rattle.history_laws.proofs.Members.{in_pending, In}
-use Rattle.history_laws.proofs.Calendar.{named_from}
-use Rattle.history_laws.proofs.Never.{legal_sound, never_stuck, refused_all}
+use Rattle.law_histories.proofs.Invariant.{IsPending, running_is, same_job_is}
+use Rattle.law_histories.proofs.Members.{in_pending, In}
+use Rattle.law_histories.proofs.Calendar.{named_from}
+use Rattle.law_histories.proofs.Never.{legal_sound, never_stuck, refused_all}
 use Rattle.board.specs.declared.replies.StepReply.{StepReply}
 use Rattle.board.specs.declared.replies.StepReply.TheVariants as reply
 use Rattle.board.specs.declared.replies.IdleReply.TheVariants as answer

@@ -16,9 +16,9 @@ use Rattle.step_journal.specs.Instant.{with_end, with_late, is_due, with_cancell
 use Rattle.step_journal.specs.Running.{running, of_job}
 use Rattle.step_journal.specs.Step.{Event, plan, ask, idle, step, given, plans_of, earliest, may_plan, with_plan, lock_refusal, row_after, end_by, settled, after_effect, with_step, with_wait, answered, asked, may_ask, idled, next_tick}
 use Rattle.step_journal.specs.History.{IsLegal, state_of, states_after, state_after, state_given, event_of}
-use Rattle.history_laws.proofs.Invariant.{IsPending, in_range}
-use Rattle.history_laws.proofs.Calendar.{times_at}
-use Rattle.history_laws.proofs.Never.{legal_sound}
+use Rattle.law_histories.proofs.Invariant.{IsPending, in_range}
+use Rattle.law_histories.proofs.Calendar.{times_at}
+use Rattle.law_histories.proofs.Never.{legal_sound}
 
 -- only a plan changes the plans
 

@@ -20,10 +20,10 @@ use Rattle.step_journal.specs.Running.{running, of_job}
 use Rattle.step_journal.specs.Instant.{freed, with_end, with_late, with_row, is_due, with_cancellations, with_releases, arrived}
 use Rattle.step_journal.specs.Step.{Event, plan, ask, idle, step, given, plans_of, may_plan, with_plan, next_job, may_ask, lock_refusal, row_after, end_by, settled, after_effect, with_step, with_wait, answered, asked, idled, next_tick}
 use Rattle.step_journal.specs.History.{IsLegal, IsLegalFrom, state_of, states_after, state_after, state_given, event_of}
-use Rattle.history_laws.proofs.Invariant.{IsPending, running_is}
-use Rattle.history_laws.proofs.Calendar.{Frame, Sound, named_from, frame_without}
-use Rattle.history_laws.proofs.Histories.{frame_set, may_plan_is}
-use Rattle.history_laws.proofs.Never.{step_goes, entry_goes, refused_after, opening_sound}
+use Rattle.law_histories.proofs.Invariant.{IsPending, running_is}
+use Rattle.law_histories.proofs.Calendar.{Frame, Sound, named_from, frame_without}
+use Rattle.law_histories.proofs.Histories.{frame_set, may_plan_is}
+use Rattle.law_histories.proofs.Never.{step_goes, entry_goes, refused_after, opening_sound}
 use Rattle.board.specs.Answers.{ended_number}
 use Rattle.board.proofs.Bounds.{asked_plans, idled_plans}
 use Rattle.board.proofs.Overs.{gone_at}

@@ -12,7 +12,7 @@ use Rattle.txn_set.specs.Set.{Set}
 use Rattle.step_journal.specs.State.{State}
 use Rattle.step_journal.specs.Step.{plan, step, given, may_plan, with_plan, plans_of, earliest}
 use Rattle.step_journal.specs.History.{state_of, event_of}
-use Rattle.history_laws.proofs.Pushes.{pushed}
+use Rattle.law_histories.proofs.Pushes.{pushed}
 use Rattle.rt_base.specs.declared.release.PlanRefused.{PlanRefused}
 use Rattle.rt_base.specs.Planning.{calendar_refusal, last_tick, most_serials}
 use Rattle.board.specs.Answers.{plan_judged, plan_reply, unless_refused, most_planned}

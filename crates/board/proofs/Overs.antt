@@ -18,12 +18,12 @@ use Rattle.step_journal.specs.Running.{running}
 use Rattle.step_journal.specs.Instant.{with_end, with_late, is_due, with_cancellations, with_releases, arrived}
 use Rattle.step_journal.specs.Step.{row_after, end_by, settled, after_effect, with_step, end_of}
 use Rattle.step_journal.specs.History.{IsLegal, state_of}
-use Rattle.history_laws.proofs.Members.{In, in_filter, filter_in, in_pending, pending_in}
-use Rattle.history_laws.proofs.Invariant.{IsPending, in_range, same_job_is}
-use Rattle.history_laws.proofs.Calendar.{Frame, in_sorted, sorted_in}
-use Rattle.history_laws.proofs.Histories.{frame_set}
-use Rattle.history_laws.proofs.Never.{legal_sound}
-use Rattle.history_laws.proofs.SerialAll.{legal_serial}
+use Rattle.law_histories.proofs.Members.{In, in_filter, filter_in, in_pending, pending_in}
+use Rattle.law_histories.proofs.Invariant.{IsPending, in_range, same_job_is}
+use Rattle.law_histories.proofs.Calendar.{Frame, in_sorted, sorted_in}
+use Rattle.law_histories.proofs.Histories.{frame_set}
+use Rattle.law_histories.proofs.Never.{legal_sound}
+use Rattle.law_histories.proofs.SerialAll.{legal_serial}
 use Rattle.board.specs.Over.{over_of}
 use Rattle.board.proofs.Asks.{running_here}
 

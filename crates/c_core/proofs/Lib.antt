@@ -3,3 +3,4 @@ pub mod Putting
 pub mod Ranges
 pub mod Over
 pub mod Told
+pub mod MarginsBack

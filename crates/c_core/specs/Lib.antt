@@ -5,3 +5,5 @@ pub mod Refusals
 pub mod Laws
 pub mod Calls
 pub mod Open
+pub mod Margins
+pub mod MarginLaws

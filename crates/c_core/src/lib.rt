@@ -1,11 +1,14 @@
-//! What a program in C is told: plain records and numbers for what the calls of a core take and answer, the tables from
-//! which a set is made, and a core that tests each number that it is given.
+//! What a program in C is told: plain records and numbers for what the calls of a core take and answer, and for margins,
+//! the tables from which a set is made, and a core that tests each number that it is given.
 #![tactic(auto)]
 
 mod checked;
 mod entries;
 mod forms;
 mod laws;
+mod margin_forms;
+mod margin_laws;
+mod margins;
 mod open_core;
 mod refusals;
 mod tables;
@@ -17,6 +20,9 @@ pub use forms::{
     plan_next_form, put_step,
 };
 pub use laws::records_lose_nothing;
+pub use margin_forms::{MarginForm, margin_form};
+pub use margin_laws::margins_lose_nothing;
+pub use margins::told_margin;
 pub use open_core::OpenCore;
 pub use refusals::{
     BAD_TABLE, NO_MEMORY, NO_ROOM, NOT_ADMITTED, NOT_COMPILED, RefusalForm, Refused, refusal_form,

@@ -3,7 +3,7 @@ ghost use Rattle.std.specs.Prelude.{◌≡◌, ◌≤◌, ◌^◌, ◌+◌, ◌-
 ghost use Rattle.step_journal.specs.declared.entry.Entry.{Entry as Noted};
 ghost use Rattle.step_journal.specs.History.{state_of};
 ghost use Rattle.board.specs.Stories.{noted, plan_entry, plan_next_entry, step_entry, idle_entry, plan_answer, plan_next_answer, step_answer, idle_answer, now_of, running_of, pending_of, ended_of, planned_of};
-ghost use Rattle.history_laws.specs.Protocol.{IsFirstRefusal};
+ghost use Rattle.law_histories.specs.Protocol.{IsFirstRefusal};
 ghost use Rattle.lock_core.specs.Stands.{Stands};
 ghost use Rattle.board.specs.Stories.{IfBlocked};
 ghost use Rattle.c_core.specs.Open.{board_of, admitted_of, KeepsBoundsOf};

@@ -5,10 +5,10 @@ use Rattle.rt_base.specs.Names.{AreNames}
 use Rattle.txn_set.specs.Set.{Set}
 use Rattle.txn_compiler.specs.Refusal.{compile_refusal, Refuses}
 use Rattle.step_journal.specs.declared.entry.Entry.{Entry}
-use Rattle.report_head.specs.Head.{head_of}
-use Rattle.report_head.specs.IsHead.{set_of}
-use Rattle.report_head.specs.declared.read.Head.{Head}
-use Rattle.report_head.specs.declared.read.HeadError.TheVariants.{BadLine, Unfinished}
+use Rattle.report_text.specs.Head.{head_of}
+use Rattle.report_text.specs.IsHead.{set_of}
+use Rattle.report_text.specs.declared.read.Head.{Head}
+use Rattle.report_text.specs.declared.read.HeadError.TheVariants.{BadLine, Unfinished}
 use Rattle.durable_journal.specs.Opened.{IsOpened, IsBad, IsOver}
 use Rattle.c_log.specs.Device.{Queued}
 use Rattle.c_log.specs.Kept.{Holds}

@@ -3,7 +3,7 @@ ghost use Rattle.std.specs.Prelude.{◌≡◌, ℕ, ◌+◌, ◌<◌, ◌≤◌,
 ghost use Rattle.rt_base.specs.Names.{AreNames};
 ghost use Rattle.rt_base.specs.declared.name.Names.{Names as Named};
 ghost use Rattle.txn_set.specs.Set.{Set};
-ghost use Rattle.report_lines.specs.Texts.{NamesSet};
+ghost use Rattle.report_text.specs.Texts.{NamesSet};
 ghost use Rattle.durable_journal.specs.Log.{IsMemoryOrFault};
 ghost use Rattle.durable_journal.specs.Opened.{IsOpened, IsRefused};
 ghost use Rattle.c_log.specs.Kept.{Holds};
@@ -14,7 +14,7 @@ use crate::queue::Queue;
 use crate::refused::LogRefused;
 use durable_journal::{Log, LogError};
 use name_table::NameTables;
-use report_head::{HeadError, read_head};
+use report_text::{HeadError, read_head};
 use rt_base::Names;
 use run_report::compile_head;
 use std::alloc::Global;

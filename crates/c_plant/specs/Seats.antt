@@ -4,7 +4,7 @@ use Rattle.rt_base.specs.declared.ids.TxId.{TxId}
 use Rattle.step_journal.specs.declared.entry.Entry.{Entry}
 use Rattle.txn_set.specs.Set.{IsCompiled}
 use Rattle.set_admission.specs.Bounds.{MeetsAdmission}
-use Rattle.fresh_laws.specs.Ages.{IsAdmitted}
+use Rattle.law_times.specs.Ages.{IsAdmitted}
 use Rattle.txn_compiler.specs.Kept.{kept}
 use Rattle.lock_core.specs.Seen.{CoreSeen}
 use Rattle.admitted_core.specs.Seen.{AdmittedSeen}

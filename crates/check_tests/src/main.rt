@@ -4,7 +4,7 @@
 
 ghost use Rattle.std.specs.Prelude.{◌<◌, IfSome};
 
-use command_replies::Status;
+use process_edge::Status;
 use scenario_check::check;
 use std::alloc::Global;
 use std::io;

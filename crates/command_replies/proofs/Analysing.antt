@@ -11,9 +11,9 @@ use Rattle.update_rates.specs.Refusal.{rate_refusal, Refuses}
 use Rattle.scale_margin.specs.declared.barrier.Barrier.{Barrier}
 use Rattle.scale_margin.specs.declared.barrier.Margin.{Margin}
 use Rattle.scale_margin.specs.Margins.{IsMargin, barrier_within}
-use Rattle.analysis_lines.specs.Lines.{rates_of, margin_of}
-use Rattle.command_replies.specs.declared.status.Status.{Status}
-use Rattle.command_replies.specs.declared.status.Status.TheVariants as statuses
+use Rattle.refusal_lines.specs.Lines.{rates_of, margin_of}
+use Rattle.process_edge.specs.declared.status.Status.{Status}
+use Rattle.process_edge.specs.declared.status.Status.TheVariants as statuses
 use Rattle.command_replies.specs.Replies.{Written, Compiling}
 use Rattle.command_replies.specs.Analysis.{is_want, Rating, RatesReply, margin_at, MarginReply}
 

@@ -1,3 +1,4 @@
 pub mod Compiles
 pub mod Replying
 pub mod Analysing
+pub mod Legal

@@ -10,7 +10,7 @@ use Rattle.update_rates.specs.RatedSet.{rated_set}
 use Rattle.update_rates.specs.Refusal.{rate_refusal}
 use Rattle.scale_margin.specs.declared.barrier.Margin.{Margin}
 use Rattle.scale_margin.specs.Margins.{percent_of, barrier_within}
-use Rattle.analysis_lines.specs.Lines.{rates_of, rate_cause, margin_of}
+use Rattle.refusal_lines.specs.Lines.{rates_of, rate_cause, margin_of}
 use Rattle.command_replies.specs.Replies.{Reply, Written, Refused, Compiling}
 
 -- whether an error says that a growth was refused

@@ -3,3 +3,7 @@ pub mod Verdicts
 pub mod Replies
 pub mod Analysis
 pub mod Causes
+pub mod Taken
+pub mod Scenarios
+pub mod Reports
+pub mod Answers

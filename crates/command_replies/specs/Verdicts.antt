@@ -2,13 +2,13 @@
 use Rattle.std.specs.Prelude.{ℕ, List, ◌++◌, codes}
 use Rattle.std.specs.Fmt.{decimal}
 use Rattle.rt_base.specs.declared.name.Names.{Names}
-use Rattle.report_verdict.specs.declared.verdict.Verdict.{Verdict}
-use Rattle.report_verdict.specs.declared.verdict.Verdict.TheVariants.{Legal, BadLine, Unfinished, BadSet, NotALegalStep, WrongLine, WrongItem}
-use Rattle.report_verdict.specs.declared.verdict.SetError.{SetError}
-use Rattle.report_verdict.specs.declared.verdict.SetError.TheVariants.{Compile, Admit}
+use Rattle.run_report.specs.declared.verdict.Verdict.{Verdict}
+use Rattle.run_report.specs.declared.verdict.Verdict.TheVariants.{Legal, BadLine, Unfinished, BadSet, NotALegalStep, WrongLine, WrongItem}
+use Rattle.run_report.specs.declared.verdict.SetError.{SetError}
+use Rattle.run_report.specs.declared.verdict.SetError.TheVariants.{Compile, Admit}
 use Rattle.refusal_lines.specs.Causes.{compile_cause, admit_cause}
-use Rattle.command_replies.specs.declared.status.Status.{Status}
-use Rattle.command_replies.specs.declared.status.Status.TheVariants as statuses
+use Rattle.process_edge.specs.declared.status.Status.{Status}
+use Rattle.process_edge.specs.declared.status.Status.TheVariants as statuses
 
 abbrev pub set_cause : Names → SetError → List ℕ
 set_cause names (Compile e) = compile_cause names e

@@ -10,8 +10,8 @@ ghost use Rattle.command_replies.specs.Analysis.{MarginReply, RatesReply, is_wan
 
 use crate::reply::{Reply, refused_rates, refused_set, written};
 use crate::sets::compiled;
-use analysis_lines::{margin_text, rates_text};
 use item_model::ItemDecl;
+use refusal_lines::{margin_text, rates_text};
 use rt_base::{List, OutOfMemory, Steps, TogetherDecl};
 use scale_margin::{Margin, margin};
 use scenario::Scenario;

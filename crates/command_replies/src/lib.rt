@@ -3,8 +3,9 @@
 
 mod analysis;
 mod reply;
+mod report;
+mod scenarios;
 mod sets;
-mod status;
 mod unanswered;
 mod verdict;
 
@@ -13,7 +14,8 @@ pub use reply::{
     Reply, no_names, refused, refused_admission, refused_rates, refused_scenario, refused_set,
     written,
 };
+pub use report::report_from;
+pub use scenarios::{SCENARIO_LIMIT, scenario_from};
 pub use sets::{admitted, bounds, ceilings, compiled};
-pub use status::Status;
 pub use unanswered::Unanswered;
 pub use verdict::{REPORT_LIMIT, replayed, verdict_reply};

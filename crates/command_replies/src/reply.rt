@@ -2,12 +2,11 @@
 ghost use Rattle.std.specs.Prelude.{◌≡◌, [], IfOk};
 ghost use Rattle.command_replies.specs.Replies.{Refused};
 ghost use Rattle.refusal_lines.specs.Causes.{scenario_cause, compile_cause, admit_cause};
-ghost use Rattle.analysis_lines.specs.Lines.{rate_cause};
+ghost use Rattle.refusal_lines.specs.Lines.{rate_cause};
 ghost use Rattle.command_replies.specs.Texts.{refused_line};
 
-use crate::status::Status;
-use analysis_lines::put_rate_cause;
-use refusal_lines::{put_admit_cause, put_compile_cause, put_scenario_cause};
+use process_edge::Status;
+use refusal_lines::{put_admit_cause, put_compile_cause, put_rate_cause, put_scenario_cause};
 use rt_base::{List, Names, OutOfMemory};
 use scenario_reader::ScenarioError;
 use set_admission::AdmitError;

@@ -1,17 +1,17 @@
 //! The verdict on a report.
 ghost use Rattle.std.specs.Prelude.{◌≡◌, ◌≤◌, [], ◌++◌, codes, length, IfOk, OnOk};
 ghost use Rattle.std.specs.Fmt.{decimal};
-ghost use Rattle.report_verdict.specs.Verdict.{names_of};
+ghost use Rattle.run_report.specs.Verdict.{names_of};
 ghost use Rattle.command_replies.specs.Replies.{VerdictReply};
 ghost use Rattle.command_replies.specs.Verdicts.{set_cause, verdict_words, verdict_text, status_of};
 
 use crate::reply::{Reply, no_names};
-use crate::status::Status;
 use itoa::Buffer;
+use process_edge::Status;
 use refusal_lines::{put_admit_cause, put_compile_cause};
-use report_head::{HeadError, read_head};
-use report_verdict::{SetError, Verdict, check_document};
+use report_text::{HeadError, read_head};
 use rt_base::{Names, OutOfMemory};
+use run_report::{SetError, Verdict, check_document};
 use std::alloc::Global;
 
 /// The most bytes of a report.

@@ -7,10 +7,10 @@ ghost use Rattle.command_words.specs.Asking.{begins_with_number as begins_with_n
 
 use crate::command::{Command, PlainCommand};
 use crate::line::parsed;
-use crate::word::Word;
 use clap::ArgMatches;
 use clap::error::ErrorKind;
-use line_fields::unsigned;
+use journal_text::unsigned;
+use process_edge::Word;
 use rt_base::OutOfMemory;
 use std::alloc::Global;
 

@@ -4,8 +4,6 @@
 mod asked;
 mod command;
 mod line;
-mod word;
 
 pub use asked::read_command;
 pub use command::{Command, PlainCommand};
-pub use word::Word;

@@ -5,8 +5,8 @@ ghost use Rattle.clap.specs.Kinds.{FailsBy};
 ghost use Rattle.clap.specs.Faults.{fault_of};
 ghost use Rattle.command_words.specs.Shape.{IsLine, generating, loading, rtdb, running};
 
-use crate::word::Word;
 use clap::{Arg, ArgAction, ArgMatches, Command, Error};
+use process_edge::Word;
 use std::alloc::{AllocError, Global};
 
 fn run_line<'a>(alloc: Global) -> Result<Command<'a>, AllocError>

@@ -15,8 +15,8 @@ use Rattle.step_journal.specs.declared.entry.EndedJob.{EndedJob}
 use Rattle.step_journal.specs.State.{State, Row, row_of, pending}
 use Rattle.step_journal.specs.LockRule.{in_falling_priority}
 use Rattle.step_journal.specs.Instant.{freed, is_due, with_row, with_end, with_late, with_cancellations, with_releases, arrived}
-use Rattle.history_laws.proofs.Members.{In, in_filter, in_pending}
-use Rattle.history_laws.proofs.Calendar.{Frame, in_sorted, row_none}
+use Rattle.law_histories.proofs.Members.{In, in_filter, in_pending}
+use Rattle.law_histories.proofs.Calendar.{Frame, in_sorted, row_none}
 use Rattle.board.specs.Answers.{ended_jobs, ended_number}
 use Rattle.pending_jobs.specs.Rows.{PendingSeen, AreFactsOf}
 use Rattle.core_tables.specs.declared.tally.Tally.{Tally}

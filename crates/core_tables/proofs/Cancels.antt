@@ -13,9 +13,9 @@ use Rattle.txn_set.specs.declared.decl.TxnDecl.{TxnDecl}
 use Rattle.step_journal.specs.State.{Row, row_of, pending}
 use Rattle.step_journal.specs.LockRule.{highest, in_falling_priority}
 use Rattle.step_journal.specs.Instant.{is_due}
-use Rattle.history_laws.proofs.Members.{In, filter_in, pending_in, highest_none}
-use Rattle.history_laws.proofs.Invariant.{in_range}
-use Rattle.history_laws.proofs.Calendar.{Frame, frame_without}
+use Rattle.law_histories.proofs.Members.{In, filter_in, pending_in, highest_none}
+use Rattle.law_histories.proofs.Invariant.{in_range}
+use Rattle.law_histories.proofs.Calendar.{Frame, frame_without}
 use Rattle.pending_jobs.specs.Rows.{Facts, PendingSeen, AreFactsOf, rows_ended}
 use Rattle.pending_jobs.specs.Deadlines.{IsLeastDeadline, deadline_of}
 use Rattle.core_tables.specs.declared.tally.Tally.{Tally}

@@ -16,9 +16,9 @@ use Rattle.step_journal.specs.State.{State, Row, row_of}
 use Rattle.step_journal.specs.Instant.{freed, with_end, is_due, arrived}
 use Rattle.step_journal.specs.LockRule.{Above, refusal, needs_lock}
 use Rattle.step_journal.specs.Step.{may_ask, row_after, end_by, settled, after_effect, with_step, end_of, with_wait}
-use Rattle.history_laws.proofs.Invariant.{in_range}
-use Rattle.history_laws.proofs.Calendar.{named_from}
-use Rattle.history_laws.proofs.Never.{refusal_at}
+use Rattle.law_histories.proofs.Invariant.{in_range}
+use Rattle.law_histories.proofs.Calendar.{named_from}
+use Rattle.law_histories.proofs.Never.{refusal_at}
 use Rattle.board.specs.Over.{over_of}
 use Rattle.pending_jobs.specs.Rows.{PendingSeen, AreFactsOf, Accesses, IsDeclared, accesses_at, accesses_of, rows_stepped, rows_waiting}
 use Rattle.pending_jobs.specs.Waiting.{MayWait}

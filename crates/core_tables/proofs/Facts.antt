@@ -14,12 +14,12 @@ use Rattle.step_journal.specs.Running.{running}
 use Rattle.step_journal.specs.Instant.{is_due, with_end}
 use Rattle.step_journal.specs.Step.{plans_of, row_after, end_by, settled, after_effect, with_step, end_of, next_tick, earlier}
 use Rattle.step_journal.specs.History.{IsLegal, state_of}
-use Rattle.history_laws.proofs.Members.{In}
-use Rattle.history_laws.proofs.Invariant.{IsPending, Runs, running_is, in_range}
-use Rattle.history_laws.proofs.Calendar.{Sound, named_from, times_at, apart_due, deadline_le}
-use Rattle.history_laws.proofs.Histories.{settled_sound, idle_early}
-use Rattle.history_laws.proofs.Never.{legal_sound, refused_all, never_stuck}
-use Rattle.history_laws.proofs.DelayAll.{legal_delay}
+use Rattle.law_histories.proofs.Members.{In}
+use Rattle.law_histories.proofs.Invariant.{IsPending, Runs, running_is, in_range}
+use Rattle.law_histories.proofs.Calendar.{Sound, named_from, times_at, apart_due, deadline_le}
+use Rattle.law_histories.proofs.Histories.{settled_sound, idle_early}
+use Rattle.law_histories.proofs.Never.{legal_sound, refused_all, never_stuck}
+use Rattle.law_histories.proofs.DelayAll.{legal_delay}
 use Rattle.board.specs.Answers.{ended_number}
 use Rattle.board.specs.Over.{over_of}
 use Rattle.board.proofs.Asks.{running_here}

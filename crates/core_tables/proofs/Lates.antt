@@ -10,9 +10,9 @@ use Rattle.txn_set.specs.Set.{Set, IsCompiled}
 use Rattle.step_journal.specs.State.{Row, row_of, pending, prio}
 use Rattle.step_journal.specs.LockRule.{placed, in_falling_priority, highest}
 use Rattle.step_journal.specs.Instant.{freed, is_due}
-use Rattle.history_laws.proofs.Members.{In, filter_in, pending_in, highest_is}
-use Rattle.history_laws.proofs.Holding.{in_left}
-use Rattle.history_laws.proofs.Calendar.{Frame, named_from, sorted_in}
+use Rattle.law_histories.proofs.Members.{In, filter_in, pending_in, highest_is}
+use Rattle.law_histories.proofs.Holding.{in_left}
+use Rattle.law_histories.proofs.Calendar.{Frame, named_from, sorted_in}
 use Rattle.core_tables.specs.Changes.{rows_without, late_jobs}
 
 -- a row that is there parts the pending ones

@@ -12,7 +12,7 @@ use Rattle.release_calendar.specs.Agenda.{Agenda, ArePeriods, no_plans}
 use Rattle.txn_set.specs.Set.{Set, IsCompiled, no_txn}
 use Rattle.txn_set.specs.declared.decl.TxnDecl.{TxnDecl}
 use Rattle.step_journal.specs.State.{opening}
-use Rattle.history_laws.proofs.Calendar.{times_at}
+use Rattle.law_histories.proofs.Calendar.{times_at}
 use Rattle.board.specs.Answers.{most_planned}
 use Rattle.pending_jobs.specs.Rows.{PendingSeen, AreRows}
 use Rattle.core_tables.specs.declared.tally.Tally.{Tally}

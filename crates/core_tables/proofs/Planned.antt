@@ -13,10 +13,10 @@ use Rattle.txn_set.specs.Set.{Set, txn_of}
 use Rattle.step_journal.specs.State.{State, Row, row_of}
 use Rattle.step_journal.specs.Instant.{with_row}
 use Rattle.step_journal.specs.Step.{plans_of, earliest, next_job, with_plan}
-use Rattle.history_laws.proofs.Members.{In}
-use Rattle.history_laws.proofs.Holding.{in_right, append_in}
-use Rattle.history_laws.proofs.Invariant.{IsPending}
-use Rattle.history_laws.proofs.Calendar.{row_none, times_at}
+use Rattle.law_histories.proofs.Members.{In}
+use Rattle.law_histories.proofs.Holding.{in_right, append_in}
+use Rattle.law_histories.proofs.Invariant.{IsPending}
+use Rattle.law_histories.proofs.Calendar.{row_none, times_at}
 use Rattle.board.specs.Answers.{most_planned, plan_reply, unless_refused}
 use Rattle.board.proofs.More.{Passes, passes}
 use Rattle.pending_jobs.specs.Rows.{PendingSeen}

@@ -17,7 +17,7 @@ use Rattle.step_journal.specs.State.{State, Row, row_of, same_job}
 use Rattle.step_journal.specs.LockRule.{Above}
 use Rattle.step_journal.specs.Running.{running, job_row}
 use Rattle.step_journal.specs.Step.{may_ask, lock_refusal, with_step, end_of}
-use Rattle.history_laws.proofs.Invariant.{same_job_is}
+use Rattle.law_histories.proofs.Invariant.{same_job_is}
 use Rattle.board.specs.declared.replies.StepReply.{StepReply}
 use Rattle.board.specs.declared.replies.StepReply.TheVariants as reply
 use Rattle.board.specs.Answers.{step_reply, running_reply, asked_reply, checked, unwritten_or, unwritten, lock_reply, ended_number, last_end}

@@ -9,8 +9,8 @@ use Rattle.rt_base.specs.declared.release.Release.{Release}
 use Rattle.release_calendar.specs.Agenda.{Agenda, Holds, NothingDue, IsDue, same_release, without, left as rest_of}
 use Rattle.step_journal.specs.State.{Row, row_of, new_row}
 use Rattle.step_journal.specs.Instant.{with_row}
-use Rattle.history_laws.proofs.Members.{In, in_filter}
-use Rattle.history_laws.proofs.Calendar.{AreApart}
+use Rattle.law_histories.proofs.Members.{In, in_filter}
+use Rattle.law_histories.proofs.Calendar.{AreApart}
 use Rattle.core_tables.specs.Changes.{due_jobs, later}
 use Rattle.core_tables.specs.Arriving.{CanRelease}
 

@@ -7,8 +7,8 @@ use Rattle.txn_set.specs.Set.{Set}
 use Rattle.step_journal.specs.State.{State, Row, row_of, pending}
 use Rattle.step_journal.specs.Instant.{is_due}
 use Rattle.board.specs.Answers.{ended_number}
-use Rattle.history_laws.proofs.Members.{In}
-use Rattle.history_laws.proofs.Calendar.{Frame, AreApart}
+use Rattle.law_histories.proofs.Members.{In}
+use Rattle.law_histories.proofs.Calendar.{Frame, AreApart}
 use Rattle.pending_jobs.specs.Rows.{PendingSeen, AreFactsOf}
 use Rattle.core_tables.specs.declared.tally.Tally.{Tally}
 use Rattle.core_tables.specs.Seen.{TablesSeen, tally_of}

@@ -6,7 +6,7 @@ use board::Board;
 use lock_core::Core;
 use plain_core::PlainCore;
 use std::alloc::Global;
-use test_calls::{Call, look, make};
+use test_sets::{Call, look, make};
 use txn_set::CompiledSet;
 
 /// A core and a plain core of one set.

@@ -6,7 +6,7 @@ use rt_base::{ItemId, JobId, Op, Tick, TxId, Value};
 use std::alloc::Global;
 use std::collections::BTreeSet;
 use step_journal::Entry;
-use test_calls::{Call, Said, look, make};
+use test_sets::{Call, Said, look, make};
 
 // A place in a list of `count`, or 0 where it has none.
 fn place(dice: &mut Pcg32, count: usize) -> usize {

@@ -5,8 +5,7 @@ use crate::histories::History;
 use crate::replays::replayed;
 use rt_base::TxId;
 use std::alloc::Global;
-use test_calls::{Call, call_of};
-use test_sets::{Told, declared, entry_of, generated};
+use test_sets::{Call, Told, call_of, declared, entry_of, generated};
 use txn_set::CompiledSet;
 
 /// The declarations so far, the set of the last ones that were whole, its boards, a history of it, whether the lines of entries

@@ -9,7 +9,7 @@ use Rattle.step_journal.specs.State.{State}
 use Rattle.step_journal.specs.declared.entry.Entry.{Entry}
 use Rattle.step_journal.specs.History.{IsLegal, IsLegalFrom, state_after}
 use Rattle.journal_text.specs.Lines.{entry_line}
-use Rattle.journal_text.specs.Laws.{LinesBothWays}
+use Rattle.journal_text.specs.EntryLaws.{LinesBothWays}
 use Rattle.durable_disk.specs.Device.{LeavesOnly}
 use Rattle.durable_records.specs.Records.{Reads}
 use Rattle.durable_records.specs.Records as places

@@ -6,7 +6,7 @@ use Rattle.rt_base.specs.declared.name.Names.{Names}
 use Rattle.txn_set.specs.Set.{Set}
 use Rattle.step_journal.specs.declared.entry.Entry.{Entry}
 use Rattle.step_journal.specs.History.{IsLegal}
-use Rattle.line_fields.specs.Laws.{BothWays}
+use Rattle.journal_text.specs.Laws.{BothWays}
 use Rattle.journal_text.specs.Lines.{entry_line, HasLine}
 use Rattle.journal_text.specs.Reading.{entry_of}
 use Rattle.durable_disk.specs.Images.{Written, Torn}

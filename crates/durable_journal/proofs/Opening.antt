@@ -8,7 +8,7 @@ use Rattle.txn_set.specs.Set.{Set}
 use Rattle.step_journal.specs.declared.entry.Entry.{Entry}
 use Rattle.step_journal.specs.History.{IsLegal}
 use Rattle.journal_text.specs.Lines.{entry_line}
-use Rattle.journal_text.specs.Laws.{LinesBothWays}
+use Rattle.journal_text.specs.EntryLaws.{LinesBothWays}
 use Rattle.durable_disk.specs.Images.{Written}
 use Rattle.durable_disk.specs.Device.{AfterWrite, BothTold, Only}
 use Rattle.durable_records.specs.Records.{Reads}

@@ -5,7 +5,7 @@ use Rattle.rt_base.specs.Names.{AreNames}
 use Rattle.txn_set.specs.Set.{Set}
 use Rattle.step_journal.specs.declared.entry.Entry.{Entry}
 use Rattle.step_journal.specs.History.{IsLegal}
-use Rattle.report_lines.specs.Texts.{NamesSet}
+use Rattle.report_text.specs.Texts.{NamesSet}
 
 -- these entries are a legal history of the set, which has these names
 pub record IsStory (names : Names) (set : Set) (entries : List Entry) : Type 0 where

@@ -3,15 +3,14 @@ ghost use Rattle.std.specs.Prelude.{◌≡◌, ◌++◌, [], IfOk, IfSome, IsTru
 ghost use Rattle.step_journal.specs.History.{IsLegal};
 ghost use Rattle.durable_journal.specs.Log.{StandsFor};
 ghost use Rattle.durable_tests.specs.Story.{IsStory};
-ghost use Rattle.report_lines.specs.Texts.{NamesSet};
+ghost use Rattle.report_text.specs.Texts.{NamesSet};
 ghost use Rattle.rt_base.specs.Names.{AreNames};
 
 use durable_disk::{Disk, MemDisk};
 use durable_journal::{Log, LogError};
-use journal_text::read_entry;
-use line_fields::cut;
+use journal_text::{cut, read_entry};
 use name_table::NameTables;
-use report_head::read_head;
+use report_text::read_head;
 use rt_base::{Names, OutOfMemory};
 use run_report::compile_head;
 use serial_replay::replay;

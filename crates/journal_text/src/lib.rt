@@ -1,24 +1,26 @@
-//! The lines of a journal: the line of an entry, and the entry of a line.
+//! Entries as lines, and the fields of a line: numbers, names and jobs, each after one blank; written and read.
 #![tactic(auto)]
 
-ghost use Rattle.journal_text.specs.Laws.{LinesBothWays, OneEntryALine};
-
+mod cuts;
+mod entry_laws;
+mod entry_writing;
+mod field_laws;
+mod ids;
 mod next_step;
+mod numbers;
+mod numeral;
 mod numerals;
 mod reading;
 mod writing;
 
+pub use cuts::{cut, done, field, is_word, next_word, word};
+pub use entry_laws::{lines_both_ways, one_entry_a_line};
+pub use entry_writing::{put_end, write_entry};
+pub use field_laws::{named_both_ways, numbers_both_ways};
+pub use ids::{item, job, next_item, next_job, next_tx, tx};
 pub use next_step::NextStep;
+pub use numbers::{next_short, next_signed, next_unsigned, short, signed, unsigned};
+pub use numeral::Numeral;
 pub use numerals::Numerals;
 pub use reading::{next_end, read_entry};
-pub use writing::{put_end, write_entry};
-
-/// Each entry that has a line is read from its line, and a line from which an entry is read is that entry's.
-pub fn lines_both_ways()
-    ensures { LinesBothWays }
-{}
-
-/// A line is the line of at most one entry.
-pub fn one_entry_a_line()
-    ensures { OneEntryALine }
-{}
+pub use writing::{put, put_field, put_job, put_name, put_short, put_signed, put_unsigned};

@@ -1,13 +1,15 @@
 //! The line of a step that is likely to be next.
 ghost use Rattle.std.specs.Prelude.{◌≡◌, ◌+◌, ◌-◌, ◌≤◌, ◌<◌, ◌^◌, ◌++◌, ℕ, List, Some, IfSome, IsTrue, length, take, drop, decimal, slice_index_or, option_map};
 ghost use Rattle.rt_base.specs.declared.name.Names.{Names as AllNames};
-ghost use Rattle.line_fields.specs.Cuts.{field, Lacks, Ends};
-ghost use Rattle.line_fields.specs.Ids.{job_of};
+ghost use Rattle.journal_text.specs.Cuts.{field, Lacks, Ends};
+ghost use Rattle.journal_text.specs.Ids.{job_of};
 ghost use Rattle.journal_text.specs.Reading.{entry_of};
 ghost use Rattle.journal_text.specs.Next.{step_by, first_entry as first_entry_of, IsNext};
 
+use crate::cuts::cut;
+use crate::ids::next_job;
+use crate::numbers::next_unsigned;
 use crate::reading::{after, any_entry, step_after};
-use line_fields::{cut, next_job, next_unsigned};
 use name_table::NameTables;
 use rt_base::{JobId, Op, Outcome, Tick, TxId};
 use step_journal::Entry;

@@ -1,9 +1,10 @@
 //! Numbers that come again from line to line.
 ghost use Rattle.std.specs.Prelude.{◌≡◌, ◌+◌, ◌^◌, ◌<◌, ◌≤◌, ◌++◌, length, decimal, vec_len, vec_capacity};
-ghost use Rattle.line_fields.specs.Cuts.{field};
-ghost use Rattle.line_fields.specs.Ids.{job_text, IsJob};
+ghost use Rattle.journal_text.specs.Cuts.{field};
+ghost use Rattle.journal_text.specs.Ids.{job_text, IsJob};
 
-use line_fields::{Numeral, put_name};
+use crate::numeral::Numeral;
+use crate::writing::put_name;
 use rt_base::{JobId, Name, Tick};
 
 // As many transactions as a set has at most.
@@ -29,7 +30,7 @@ impl Numerals {
 
     // Adds a blank and a tick.
     #[inline(always)]
-    #[tactic(auto, using(line_fields::proofs::IdLaws::unsigned_length))]
+    #[tactic(auto, using(crate::proofs::IdLaws::unsigned_length))]
     pub(crate) fn put_tick(&mut self, into: &mut Vec<u8>, tick: Tick)
         requires { vec_len into.old + 33 ≤ vec_capacity into.old }
         ensures items { into.new.items ≡ into.old.items ++ field (decimal tick) }
@@ -44,7 +45,7 @@ impl Numerals {
 
     // Adds a blank and a job.
     #[inline(always)]
-    #[tactic(auto, using(line_fields::proofs::IdLaws::short_length))]
+    #[tactic(auto, using(crate::proofs::IdLaws::short_length))]
     pub(crate) fn put_job(&mut self, into: &mut Vec<u8>, txns: &[Name], job: JobId)
         requires known { job.tx.0 < length txns.now }
         requires room { vec_len into.old + 66 ≤ vec_capacity into.old }

@@ -1,5 +1,5 @@
 //! The heads of reports.
-use report_head::{Head, HeadError, read_head};
+use report_text::{Head, HeadError, read_head};
 use rt_base::Name;
 use std::alloc::Global;
 

@@ -7,10 +7,10 @@ ghost use Rattle.std.specs.Prelude.{◌≡◌, ◌<◌, ◌^◌, length, IfSome}
 mod heads;
 
 use heads::head;
-use journal_text::{Numerals, read_entry, write_entry};
-use line_fields::{
-    Numeral, done, item, job, next_unsigned, next_word, put, put_job, put_name, put_short,
-    put_signed, put_unsigned, short, signed, tx, unsigned, word,
+use journal_text::{
+    Numeral, Numerals, done, item, job, next_unsigned, next_word, put, put_job, put_name,
+    put_short, put_signed, put_unsigned, read_entry, short, signed, tx, unsigned, word,
+    write_entry,
 };
 use name_table::{NameTable, NameTables};
 use rt_base::{JobId, Name, TxId};

@@ -10,7 +10,7 @@ use Rattle.txn_set.specs.Set.{Set}
 use Rattle.step_journal.specs.Journal.{JournalSeen}
 use Rattle.step_journal.specs.Step.{ask}
 use Rattle.step_journal.specs.History.{IsLegal}
-use Rattle.history_laws.proofs.Pushes.{last_step}
+use Rattle.law_histories.proofs.Pushes.{last_step}
 use Rattle.board.specs.declared.replies.StepReply.{StepReply}
 use Rattle.board.specs.declared.replies.StepReply.TheVariants as reply
 use Rattle.board.specs.Stories.{IsStory, noted, step_entry, now_of, IsRefusal}

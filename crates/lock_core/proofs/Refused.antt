@@ -7,8 +7,8 @@ use Rattle.step_journal.specs.declared.entry.Entry.TheVariants.{Blocked}
 use Rattle.txn_set.specs.Set.{Set, IsCompiled}
 use Rattle.step_journal.specs.State.{State, opening}
 use Rattle.step_journal.specs.History.{state_after, IsLegalFrom, IsLegal}
-use Rattle.history_laws.specs.Protocol.{IsFirstRefusal}
-use Rattle.history_laws.proofs.Never.{refused_once}
+use Rattle.law_histories.specs.Protocol.{IsFirstRefusal}
+use Rattle.law_histories.proofs.Never.{refused_once}
 use Rattle.board.specs.declared.replies.StepReply.{StepReply}
 use Rattle.board.specs.declared.replies.StepReply.TheVariants as reply
 use Rattle.board.specs.Stories.{noted, step_entry, IfBlocked}

@@ -5,10 +5,10 @@ use Rattle.txn_set.specs.Set.{Set, IsCompiled}
 use Rattle.step_journal.specs.State.{State, opening}
 use Rattle.step_journal.specs.Journal.{JournalSeen}
 use Rattle.step_journal.specs.History.{IsLegal, state_of}
-use Rattle.history_laws.proofs.Never.{never_stuck}
-use Rattle.history_laws.proofs.SerialAll.{no_conflict, ended_hold_nothing, pending_alone, serial}
-use Rattle.history_laws.proofs.DelayAll.{one_delay}
-use Rattle.counting_laws.proofs.CountingAll.{entries_few}
+use Rattle.law_histories.proofs.Never.{never_stuck}
+use Rattle.law_histories.proofs.SerialAll.{no_conflict, ended_hold_nothing, pending_alone, serial}
+use Rattle.law_histories.proofs.DelayAll.{one_delay}
+use Rattle.law_histories.proofs.CountingAll.{entries_few}
 use Rattle.board.specs.Answers.{ended_number, last_end}
 use Rattle.board.proofs.Ended.{ended_few}
 use Rattle.core_tables.specs.declared.tally.Tally.{Tally}

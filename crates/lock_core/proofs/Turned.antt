@@ -17,7 +17,7 @@ use Rattle.step_journal.specs.Journal.{JournalSeen}
 use Rattle.step_journal.specs.Instant.{arrived}
 use Rattle.step_journal.specs.Step.{Event, plan, ask, idle, step, plans_of, earliest, next_job, with_plan, with_step, with_wait, end_of, next_tick}
 use Rattle.step_journal.specs.History.{state_of, event_of}
-use Rattle.history_laws.proofs.Never.{never_stuck}
+use Rattle.law_histories.proofs.Never.{never_stuck}
 use Rattle.board.specs.Answers.{plan_reply, step_reply, idle_reply, idle_reply_at, waiting_reply}
 use Rattle.board.specs.Stories.{noted, step_entry}
 use Rattle.board.specs.declared.replies.StepReply.{StepReply}

@@ -12,7 +12,7 @@ use Rattle.step_journal.specs.Running.{job_row}
 use Rattle.step_journal.specs.Step.{ask}
 use Rattle.step_journal.specs.History.{state_of}
 use Rattle.step_journal.specs.Serial.{IsSerial}
-use Rattle.history_laws.specs.Protocol.{NeverStuck, IsFirstRefusal, HoldsNothing, IsAloneSoFar, DelayedByOne}
+use Rattle.law_histories.specs.Protocol.{NeverStuck, IsFirstRefusal, HoldsNothing, IsAloneSoFar, DelayedByOne}
 use Rattle.board.specs.declared.replies.StepReply.{StepReply}
 use Rattle.board.specs.Stories.{step_entry, now_of, IsRefusal, IfBlocked}
 use Rattle.lock_core.specs.Turns.{IsTurnOf}

@@ -3,7 +3,7 @@ ghost use Rattle.std.specs.Prelude.{◌≡◌, ◌<◌, ◌≤◌, ◌^◌, [], 
 ghost use Rattle.step_journal.specs.declared.entry.Entry.{Entry as Noted};
 ghost use Rattle.step_journal.specs.State.{opening};
 ghost use Rattle.step_journal.specs.History.{state_of};
-ghost use Rattle.history_laws.specs.Protocol.{NeverStuck};
+ghost use Rattle.law_histories.specs.Protocol.{NeverStuck};
 ghost use Rattle.board.specs.Stories.{now_of, running_of, pending_of, ended_of, planned_of};
 ghost use Rattle.core_tables.specs.Tables.{AreTables};
 ghost use Rattle.lock_core.specs.Stands.{Stands};

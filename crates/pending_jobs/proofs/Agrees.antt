@@ -13,7 +13,7 @@ use Rattle.inherit_prio.specs.Waits.{Waiting, IsOrder, on_of, tx_of}
 use Rattle.item_model.specs.Work.{has_read, has_written}
 use Rattle.step_journal.specs.State.{Row, row_of, new_row}
 use Rattle.step_journal.specs.Instant.{with_row}
-use Rattle.history_laws.proofs.Invariant.{in_range}
+use Rattle.law_histories.proofs.Invariant.{in_range}
 use Rattle.pending_jobs.specs.Deadlines.{deadline_of, IsLeastDeadline}
 use Rattle.pending_jobs.specs.Tables.{row_lock, IsWait, AreRanks, IsLeast, Agree, earlier_of}
 use Rattle.pending_jobs.proofs.RankSets.{With, with_this, with_other, same_rank}

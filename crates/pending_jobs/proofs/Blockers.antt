@@ -3,8 +3,8 @@ use Rattle.std.proofs.Common.{◌≡◌, ◌==◌, ◌&&◌, ℕ, ◌<◌, ◌�
 use Rattle.std.proofs.lemmas.Bool.{cases_order, ltb-true, ltb-false, eq-eqb, lt-ltb, eqb-true, or_cases, or_left, or_right, and_parts, and_from}
 use Rattle.std.specs.Prelude.{nat_lt}
 use Rattle.rt_base.specs.LockRule.{stands_above, upper, topmost, unless_below, blocker}
-use Rattle.history_laws.proofs.Members.{In}
-use Rattle.history_laws.proofs.Topmost.{topmost_none}
+use Rattle.law_histories.proofs.Members.{In}
+use Rattle.law_histories.proofs.Topmost.{topmost_none}
 
 -- y does not stand above a: by numbers
 pub record IsNotAbove {A : Type 0} (p c : A → ℕ) (y a : A) : Type 0 where

@@ -17,8 +17,8 @@ use Rattle.item_model.specs.Work.{no_work, work_after}
 use Rattle.strict_commit.specs.Jobs.{Job}
 use Rattle.step_journal.specs.State.{Row, row_of, pending}
 use Rattle.step_journal.specs.Instant.{freed, with_row}
-use Rattle.history_laws.proofs.Members.{In, pending_in}
-use Rattle.history_laws.proofs.Invariant.{in_range}
+use Rattle.law_histories.proofs.Members.{In, pending_in}
+use Rattle.law_histories.proofs.Invariant.{in_range}
 use Rattle.pending_jobs.specs.declared.head.Head.{Head}
 use Rattle.pending_jobs.specs.Rows.{Facts, Accesses, PendingSeen, head_of, rows_stepped, rows_waiting, rows_ended}
 use Rattle.pending_jobs.specs.Waiting.{MayWait}

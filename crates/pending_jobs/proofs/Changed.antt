@@ -18,7 +18,7 @@ use Rattle.item_model.specs.declared.stored.Stored.{Stored}
 use Rattle.item_model.specs.Work.{has_read, has_written}
 use Rattle.step_journal.specs.State.{Row, row_of}
 use Rattle.step_journal.specs.Instant.{freed}
-use Rattle.history_laws.proofs.Invariant.{in_range}
+use Rattle.law_histories.proofs.Invariant.{in_range}
 use Rattle.pending_jobs.specs.Rows.{row_stepped, rows_stepped, rows_waiting}
 use Rattle.pending_jobs.specs.Deadlines.{deadline_of}
 use Rattle.pending_jobs.specs.Tables.{row_lock, op_locked_at, IsWait, AreRanks, IsLeast, Agree}

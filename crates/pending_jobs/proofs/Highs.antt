@@ -19,8 +19,8 @@ use Rattle.step_journal.specs.State.{Row, row_of, pending, prio, same_job}
 use Rattle.step_journal.specs.LockRule.{highest}
 use Rattle.step_journal.specs.Running.{running, followed, job_row, of_job}
 use Rattle.step_journal.specs.Instant.{is_due}
-use Rattle.history_laws.proofs.Members.{In, in_filter, filter_in, in_pending, pending_in, highest_is, highest_none}
-use Rattle.history_laws.proofs.Invariant.{in_range}
+use Rattle.law_histories.proofs.Members.{In, in_filter, filter_in, in_pending, pending_in, highest_is, highest_none}
+use Rattle.law_histories.proofs.Invariant.{in_range}
 use Rattle.pending_jobs.specs.declared.head.Head.{Head}
 use Rattle.pending_jobs.specs.Rows.{Facts, Accesses, AreFactsOf}
 use Rattle.ceiling_table.specs.declared.CeilRow.{CeilRow}

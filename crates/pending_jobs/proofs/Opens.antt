@@ -14,7 +14,7 @@ use Rattle.strict_commit.specs.Jobs.{Job}
 use Rattle.txn_set.specs.declared.decl.TxnDecl.{TxnDecl}
 use Rattle.txn_set.specs.Set.{Set, IsCompiled, no_txn, txn_of}
 use Rattle.step_journal.specs.State.{Row, row_of}
-use Rattle.history_laws.proofs.Calendar.{times_at}
+use Rattle.law_histories.proofs.Calendar.{times_at}
 use Rattle.pending_jobs.specs.declared.head.Head.{Head}
 use Rattle.pending_jobs.specs.Rows.{Accesses, AreRows, HasCeilings, accesses_of}
 use Rattle.pending_jobs.specs.Tables.{head_at, row_at, row_by, rows_by, row_lock, no_job, waited_job, opening_job, access_of, IsTable}

@@ -5,8 +5,8 @@ use Rattle.txn_set.specs.Set.{Set}
 use Rattle.step_journal.specs.State.{Row, row_of, prio}
 use Rattle.step_journal.specs.LockRule.{Above, locks, refusal}
 use Rattle.step_journal.specs.Running.{running}
-use Rattle.history_laws.proofs.Invariant.{IsPending, is_any, AreNamed, Protocol, running_is, refusal_is, same_row, holder_from_ceiling}
-use Rattle.history_laws.proofs.Events.{refused_facts}
+use Rattle.law_histories.proofs.Invariant.{IsPending, is_any, AreNamed, Protocol, running_is, refusal_is, same_row, holder_from_ceiling}
+use Rattle.law_histories.proofs.Events.{refused_facts}
 use Rattle.pending_jobs.specs.Waiting.{MayWait}
 
 pub may_wait : (set : Set) (rows : List (Option Row)) (refused : JobId → Bool) (x : Row) (above : Above) → AreNamed set rows → Protocol set rows refused → running set rows ≡ Some x → refusal set rows x ≡ Some above → MayWait rows x.job.tx.0 above.holder

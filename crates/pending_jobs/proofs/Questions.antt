@@ -23,9 +23,9 @@ use Rattle.step_journal.specs.LockRule.{Above, needs_lock, refusal, highest}
 use Rattle.step_journal.specs.Running.{running}
 use Rattle.step_journal.specs.Instant.{is_due}
 use Rattle.step_journal.specs.Step.{given, lock_refusal}
-use Rattle.history_laws.proofs.Members.{filter_in}
-use Rattle.history_laws.proofs.Invariant.{in_range}
-use Rattle.history_laws.proofs.Calendar.{times_at}
+use Rattle.law_histories.proofs.Members.{filter_in}
+use Rattle.law_histories.proofs.Invariant.{in_range}
+use Rattle.law_histories.proofs.Calendar.{times_at}
 use Rattle.pending_jobs.specs.declared.head.Head.{Head}
 use Rattle.pending_jobs.specs.Rows.{AreFactsOf, AreRows}
 use Rattle.pending_jobs.specs.Tables.{head_at, rows_by, access_of, IsFirstDue, NotDue, IsRunningJob, IsTable}

@@ -19,9 +19,9 @@ use Rattle.txn_set.specs.Set.{Set, txn_of}
 use Rattle.txn_set.specs.Ceilings.{greatest, write_ceiling, absolute_ceiling}
 use Rattle.step_journal.specs.State.{Row, row_of, pending, prio}
 use Rattle.step_journal.specs.LockRule.{locks, lock_ceiling, ceiling_of, needs_lock, others, refusal}
-use Rattle.history_laws.proofs.Members.{In, in_filter, filter_in, in_pending, pending_in}
-use Rattle.history_laws.proofs.Invariant.{in_range}
-use Rattle.history_laws.proofs.Holding.{locks_tell, write_le, read_le}
+use Rattle.law_histories.proofs.Members.{In, in_filter, filter_in, in_pending, pending_in}
+use Rattle.law_histories.proofs.Invariant.{in_range}
+use Rattle.law_histories.proofs.Holding.{locks_tell, write_le, read_le}
 use Rattle.pending_jobs.specs.Rows.{Facts, Accesses, AreFactsOf}
 use Rattle.pending_jobs.specs.Tables.{work_lock, row_lock, Agree}
 use Rattle.pending_jobs.proofs.Blockers.{SameBlockers, Answers, Neither, Both, answers}

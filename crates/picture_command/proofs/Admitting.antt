@@ -7,11 +7,11 @@ use Rattle.txn_compiler.specs.Refusal.{compile_refusal}
 use Rattle.set_admission.specs.declared.error.AdmitError.{AdmitError}
 use Rattle.set_admission.specs.declared.error.AdmitError.TheVariants as admitting
 use Rattle.set_admission.specs.Admission.{Refuses, refusal}
-use Rattle.report_head.specs.declared.read.Head.{Head}
-use Rattle.report_head.specs.IsHead.{set_of}
-use Rattle.report_verdict.specs.declared.verdict.SetError.{SetError}
-use Rattle.report_verdict.specs.declared.verdict.SetError.TheVariants.{Compile, Admit}
-use Rattle.report_verdict.specs.Verdict.{set_refusal, refusal_in}
+use Rattle.report_text.specs.declared.read.Head.{Head}
+use Rattle.report_text.specs.IsHead.{set_of}
+use Rattle.run_report.specs.declared.verdict.SetError.{SetError}
+use Rattle.run_report.specs.declared.verdict.SetError.TheVariants.{Compile, Admit}
+use Rattle.run_report.specs.Verdict.{set_refusal, refusal_in}
 
 -- of two that are both none, the second
 second_none : (o p : Option SetError) → first_of_both o p ≡ None → p ≡ None

@@ -2,12 +2,12 @@
 use Rattle.std.proofs.Common.{◌≡◌, ◌⊎◌, inl, inr, ℕ, ◌<◌, ◌≤◌, Bool, true, false, nat_lt, List, ◌++◌, length, Option, None, Some, refl, sym, ap, subst, ◌∙◌, arith}
 use Rattle.std.proofs.lemmas.Bool.{lt-ltb, cases_lt}
 use Rattle.std.proofs.lemmas.List.{append-nil, length-append}
-use Rattle.report_verdict.specs.declared.verdict.Verdict.{Verdict}
-use Rattle.report_verdict.specs.declared.verdict.Verdict.TheVariants.{Legal}
-use Rattle.report_verdict.specs.Verdict.{IsVerdict}
-use Rattle.report_verdict.proofs.OneOnly.{one_verdict}
-use Rattle.command_replies.specs.declared.status.Status.{Status}
-use Rattle.command_replies.specs.declared.status.Status.TheVariants as statuses
+use Rattle.run_report.specs.declared.verdict.Verdict.{Verdict}
+use Rattle.run_report.specs.declared.verdict.Verdict.TheVariants.{Legal}
+use Rattle.run_report.specs.Verdict.{IsVerdict}
+use Rattle.run_report.proofs.OneOnly.{one_verdict}
+use Rattle.process_edge.specs.declared.status.Status.{Status}
+use Rattle.process_edge.specs.declared.status.Status.TheVariants as statuses
 use Rattle.command_replies.specs.Verdicts.{status_of}
 use Rattle.picture_command.specs.declared.wanted.Wanted.{Wanted}
 use Rattle.picture_command.specs.Answers.{is_ok, DrawnReply, PictureReply, InputReply, report_limit, TakesAll, IsAnswer, Answers, IsDueFor, IsDue}

@@ -11,17 +11,17 @@ use Rattle.step_journal.specs.History.{IsLegal, state_of}
 use Rattle.serial_replay.specs.declared.serial.ReplayError.{ReplayError}
 use Rattle.serial_replay.specs.declared.serial.ReplayError.TheVariants as replaying
 use Rattle.serial_replay.specs.Replays.{Explains}
-use Rattle.report_head.specs.declared.read.Head.{Head}
-use Rattle.report_head.specs.IsHead.{set_of}
-use Rattle.report_reader.specs.declared.document.Document.{Document}
-use Rattle.report_reader.specs.declared.document.DocumentError.{DocumentError}
-use Rattle.report_reader.specs.declared.document.DocumentError.TheVariants as reading
-use Rattle.report_reader.specs.Document.{document_of, Reads}
-use Rattle.report_verdict.specs.declared.verdict.SetError.{SetError}
-use Rattle.report_verdict.specs.declared.verdict.SetError.TheVariants.{Compile}
-use Rattle.report_verdict.specs.declared.verdict.Verdict.{Verdict}
-use Rattle.report_verdict.specs.declared.verdict.Verdict.TheVariants.{Legal, BadLine, Unfinished, BadSet, NotALegalStep, WrongLine, WrongItem}
-use Rattle.report_verdict.specs.Verdict.{IsVerdict, Tells, set_refusal, refusal_in, report_for}
+use Rattle.report_text.specs.declared.read.Head.{Head}
+use Rattle.report_text.specs.IsHead.{set_of}
+use Rattle.report_text.specs.declared.document.Document.{Document}
+use Rattle.report_text.specs.declared.document.DocumentError.{DocumentError}
+use Rattle.report_text.specs.declared.document.DocumentError.TheVariants as reading
+use Rattle.report_text.specs.Document.{document_of, Reads}
+use Rattle.run_report.specs.declared.verdict.SetError.{SetError}
+use Rattle.run_report.specs.declared.verdict.SetError.TheVariants.{Compile}
+use Rattle.run_report.specs.declared.verdict.Verdict.{Verdict}
+use Rattle.run_report.specs.declared.verdict.Verdict.TheVariants.{Legal, BadLine, Unfinished, BadSet, NotALegalStep, WrongLine, WrongItem}
+use Rattle.run_report.specs.Verdict.{IsVerdict, Tells, set_refusal, refusal_in, report_for}
 use Rattle.rt_base.specs.declared.name.Names.{Names}
 use Rattle.job_rows.specs.declared.row.JobRow.{JobRow}
 use Rattle.job_rows.specs.Rows.{job_rows}
@@ -30,8 +30,8 @@ use Rattle.schedule_marks.specs.declared.shown.Limits.{Limits}
 use Rattle.schedule_marks.specs.declared.shown.Shown.{Shown}
 use Rattle.schedule_marks.specs.Shown.{shown_of}
 use Rattle.picture_command.specs.Parts.{part_of}
-use Rattle.command_replies.specs.declared.status.Status.{Status}
-use Rattle.command_replies.specs.declared.status.Status.TheVariants as statuses
+use Rattle.process_edge.specs.declared.status.Status.{Status}
+use Rattle.process_edge.specs.declared.status.Status.TheVariants as statuses
 use Rattle.command_replies.specs.Verdicts.{status_of}
 use Rattle.command_replies.specs.Replies.{VerdictReply}
 use Rattle.picture_command.specs.declared.wanted.Wanted.{Wanted}

@@ -3,3 +3,4 @@ pub mod Telling
 pub mod Due
 pub mod Admitting
 pub mod Firsts
+pub mod Sums

@@ -8,12 +8,12 @@ use Rattle.step_journal.specs.History.{state_of}
 use Rattle.item_model.specs.declared.stored.Stored.{Stored}
 use Rattle.job_rows.specs.declared.row.JobRow.{JobRow}
 use Rattle.job_rows.specs.Rows.{job_rows}
-use Rattle.report_head.specs.IsHead.{set_of}
-use Rattle.report_reader.specs.declared.document.Document.{Document}
-use Rattle.report_verdict.specs.declared.verdict.Verdict.{Verdict}
-use Rattle.report_verdict.specs.Verdict.{Tells, report_for, IsVerdict}
-use Rattle.command_replies.specs.declared.status.Status.{Status}
-use Rattle.command_replies.specs.declared.status.Status.TheVariants as statuses
+use Rattle.report_text.specs.IsHead.{set_of}
+use Rattle.report_text.specs.declared.document.Document.{Document}
+use Rattle.run_report.specs.declared.verdict.Verdict.{Verdict}
+use Rattle.run_report.specs.Verdict.{Tells, report_for, IsVerdict}
+use Rattle.process_edge.specs.declared.status.Status.{Status}
+use Rattle.process_edge.specs.declared.status.Status.TheVariants as statuses
 use Rattle.command_replies.specs.Texts.{refused_line}
 use Rattle.command_replies.specs.Replies.{Reply, VerdictReply}
 use Rattle.command_replies.specs.Verdicts.{status_of}
@@ -22,7 +22,7 @@ use Rattle.schedule_marks.specs.declared.shown.Limits.{Limits}
 use Rattle.schedule_marks.specs.declared.shown.Shown.{Shown}
 use Rattle.schedule_marks.specs.Shown.{shown_of}
 use Rattle.picture_text.specs.Texts.{text_of}
-use Rattle.picture_page.specs.Page.{page_text}
+use Rattle.picture_command.specs.Page.{page_text}
 use Rattle.picture_command.specs.declared.wanted.Wanted.{Wanted}
 use Rattle.picture_command.specs.Parts.{part_of}
 use Rattle.picture_command.specs.Limits.{limits_of}

@@ -1,12 +1,17 @@
-//! What the drawing program answers: from words, a source of bytes and a sink to a status.
+//! What the program that draws reports does: the picture of a report, or an HTML page with it.
 #![tactic(auto)]
 
 mod drawn;
+mod figure;
+mod items;
+mod jobs;
 mod limits;
+mod text;
 mod top;
 mod wanted;
+mod whole;
 
-pub use command_replies::Status;
-pub use command_words::Word;
+pub use process_edge::{Status, Word};
 pub use top::draw_report;
 pub use wanted::{Ticks, Wanted};
+pub use whole::page;

@@ -1,7 +1,7 @@
 //! What admission found of a set.
 ghost use Rattle.std.specs.Prelude.{◌≡◌, ◌<◌, [], length, None, true, IfOk};
 ghost use Rattle.set_admission.specs.declared.error.AdmitError.TheVariants.{OutOfMemory as WantOfMemory};
-ghost use Rattle.report_verdict.specs.Verdict.{refusal_in};
+ghost use Rattle.run_report.specs.Verdict.{refusal_in};
 ghost use Rattle.picture_command.specs.Limits.{age_or_none, responses_in, ages_in, limits_of};
 
 use rt_base::{ItemId, List, OutOfMemory, Tick, TxId};

@@ -1,7 +1,7 @@
 //! Where ticks, transactions, locks and ceilings stand in a picture, in pixels.
 ghost use Rattle.std.specs.Prelude.{◌≡◌, ◌<◌, ◌≤◌, ◌==◌, length, position, slice_index_or, IfSome};
 ghost use Rattle.txn_set.specs.Set.{txn_of};
-ghost use Rattle.line_fields.specs.Ids.{name_at};
+ghost use Rattle.journal_text.specs.Ids.{name_at};
 ghost use Rattle.picture_places.specs.Places.{longest as longest_of, left_of, view_of, letters_in as letter_count, ticks_shown, tick_width, number_step, width_of, x_of, middle_of, level_of, rows_top, level_y, row_height, higher_height, row_y, place_of, lock_place, lane_of, lane_y, lanes_named, is_read_lane, lane_item, first_item};
 
 use crate::view::View;

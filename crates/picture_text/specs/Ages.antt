@@ -4,7 +4,7 @@ use Rattle.std.specs.List.{flat_map}
 use Rattle.rt_base.specs.declared.name.Names.{Names}
 use Rattle.item_model.specs.Kinds.{is_dated}
 use Rattle.txn_set.specs.Set.{Set}
-use Rattle.line_fields.specs.Ids.{name_at}
+use Rattle.journal_text.specs.Ids.{name_at}
 use Rattle.journal_text.specs.Lines.{◌⊕◌}
 use Rattle.schedule_marks.specs.declared.lanes.AgeSpan.{AgeSpan}
 use Rattle.schedule_marks.specs.declared.lanes.AgeRead.{AgeRead}

@@ -10,7 +10,7 @@ use Rattle.rt_base.specs.declared.operation.End.{End}
 use Rattle.rt_base.specs.declared.operation.End.TheVariants as end
 use Rattle.txn_set.specs.declared.decl.TxnDecl.{TxnDecl}
 use Rattle.txn_set.specs.Set.{Set, txn_of}
-use Rattle.line_fields.specs.Ids.{name_at}
+use Rattle.journal_text.specs.Ids.{name_at}
 use Rattle.journal_text.specs.Lines.{◌⊕◌}
 use Rattle.schedule_marks.specs.declared.part.Part.{Part}
 use Rattle.schedule_marks.specs.declared.mark.Mark.{Mark}

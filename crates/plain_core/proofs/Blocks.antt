@@ -14,7 +14,7 @@ use Rattle.step_journal.specs.LockRule.{Above}
 use Rattle.step_journal.specs.Running.{running, of_job}
 use Rattle.step_journal.specs.Step.{ask, step, given, asked, answered, may_ask, lock_refusal, with_wait}
 use Rattle.step_journal.specs.History.{state_of, entry_given}
-use Rattle.history_laws.proofs.Invariant.{IsPending, same_job_is}
+use Rattle.law_histories.proofs.Invariant.{IsPending, same_job_is}
 use Rattle.board.specs.declared.replies.StepReply.TheVariants as reply
 use Rattle.board.specs.Answers.{step_reply}
 use Rattle.board.specs.Stories.{step_entry}

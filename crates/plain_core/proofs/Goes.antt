@@ -22,7 +22,7 @@ use Rattle.step_journal.specs.Instant.{freed}
 use Rattle.step_journal.specs.Step.{ask, step, given, asked, answered, may_ask, lock_refusal, after_effect, with_step, end_of}
 use Rattle.step_journal.specs.History.{state_of, entry_given}
 use Rattle.step_journal.specs.Journal.{JournalSeen}
-use Rattle.history_laws.proofs.Invariant.{IsPending, same_job_is}
+use Rattle.law_histories.proofs.Invariant.{IsPending, same_job_is}
 use Rattle.board.specs.declared.replies.StepReply.TheVariants as reply
 use Rattle.board.specs.Answers.{step_reply}
 use Rattle.board.specs.Stories.{step_entry}

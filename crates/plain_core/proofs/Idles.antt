@@ -10,13 +10,13 @@ use Rattle.step_journal.specs.Running.{running}
 use Rattle.step_journal.specs.Instant.{arrived}
 use Rattle.step_journal.specs.Step.{idle, step, idled, next_tick}
 use Rattle.step_journal.specs.History.{state_of}
-use Rattle.history_laws.proofs.Never.{never_stuck}
+use Rattle.law_histories.proofs.Never.{never_stuck}
 use Rattle.board.specs.declared.replies.IdleReply.TheVariants as answer
 use Rattle.board.specs.Answers.{idle_reply, idle_reply_at, waiting_reply}
 use Rattle.plain_core.specs.Rules.{idle_by, idle_of}
 use Rattle.plain_core.proofs.Runs.{running_is}
 use Rattle.std.specs.Prelude.{nat_le}
-use Rattle.counting_laws.proofs.CountingAll.{entries_few}
+use Rattle.law_histories.proofs.CountingAll.{entries_few}
 use Rattle.board.proofs.Ended.{ended_few}
 use Rattle.board.proofs.More.{story_more, not_le}
 use Rattle.plain_tables.specs.declared.tally.Tally.{Tally}

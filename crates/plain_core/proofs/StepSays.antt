@@ -20,7 +20,7 @@ use Rattle.plain_tables.specs.Slots.{head_of}
 use Rattle.plain_tables.specs.Effects.{end_here}
 use Rattle.plain_tables.proofs.Effects.{end_here_is}
 use Rattle.step_journal.specs.History.{state_of}
-use Rattle.history_laws.proofs.Invariant.{same_job_is}
+use Rattle.law_histories.proofs.Invariant.{same_job_is}
 use Rattle.board.specs.declared.replies.StepReply.{StepReply}
 use Rattle.board.specs.declared.replies.StepReply.TheVariants as reply
 use Rattle.board.specs.Answers.{step_reply, running_reply, asked_reply, checked, lock_reply, ended_number, last_end}

@@ -14,12 +14,12 @@ use Rattle.txn_set.specs.Ceilings.{greatest}
 use Rattle.step_journal.specs.State.{State, Row, row_of}
 use Rattle.step_journal.specs.Step.{plans_of, with_plan, earliest, next_job}
 use Rattle.step_journal.specs.History.{IsLegal, state_of}
-use Rattle.history_laws.proofs.Calendar.{times_at}
-use Rattle.history_laws.proofs.Never.{legal_sound}
-use Rattle.history_laws.proofs.Invariant.{in_range}
-use Rattle.history_laws.proofs.DelayAll.{legal_delay}
-use Rattle.counting_laws.specs.Counting.{greatest_period}
-use Rattle.counting_laws.proofs.CountingAll.{time_bounded}
+use Rattle.law_histories.proofs.Calendar.{times_at}
+use Rattle.law_histories.proofs.Never.{legal_sound}
+use Rattle.law_histories.proofs.Invariant.{in_range}
+use Rattle.law_histories.proofs.DelayAll.{legal_delay}
+use Rattle.law_histories.specs.Counting.{greatest_period}
+use Rattle.law_histories.proofs.CountingAll.{time_bounded}
 use Rattle.rt_base.specs.declared.release.PlanRefused.{PlanRefused}
 use Rattle.board.specs.Answers.{plan_reply}
 use Rattle.board.proofs.More.{story_more, plan_steps, passes}

@@ -11,7 +11,7 @@ use Rattle.turn_cell.specs.Turn.{Begins, total}
 use Rattle.turn_cell.proofs.Sums.{total-append}
 use Rattle.shared_plant.specs.Seats.{TableId, PlantFacts, SeatFacts, IsOf, tx_of}
 use Rattle.shared_plant.proofs.Answering.{the_tx}
-use Rattle.sim_history.specs.Sim.{Body, Workload, plans, plans_from}
+use Rattle.law_histories.specs.Sim.{Body, Workload, plans, plans_from}
 use Rattle.sim_run.specs.Workloads.{workload, ticks_of, body_of}
 use Rattle.sim_run.proofs.Turns.{mapped_at}
 use Rattle.txn_threads.specs.declared.member.Member.{Member}
@@ -21,7 +21,7 @@ use Rattle.txn_threads.specs.Plans.{plans_in, ArePlanned}
 use Rattle.txn_threads.specs.Rising.{AreRising}
 use Rattle.txn_threads.specs.Rounds.{Each}
 use Rattle.txn_threads.specs.Runs.{MayRun, HasRun}
-use Rattle.plant_history.specs.Seats.{IsSeatRun}
+use Rattle.law_runs.specs.Seats.{IsSeatRun}
 use Rattle.plant_run.specs.Deals.{sits_at, members_at, team_of, jobs_at, IsDealt, AreDealt}
 use Rattle.plant_run.proofs.Deals.{Row, rows}
 

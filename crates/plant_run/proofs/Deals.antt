@@ -13,7 +13,7 @@ use Rattle.step_journal.specs.declared.entry.Entry.{Entry}
 use Rattle.turn_cell.specs.Turn.{below, total}
 use Rattle.turn_cell.proofs.Sums.{total-append, below_next}
 use Rattle.shared_plant.specs.Seats.{TableId, SeatFacts, newcomer, newcomers, tx_of}
-use Rattle.sim_history.specs.Sim.{Body}
+use Rattle.law_histories.specs.Sim.{Body}
 use Rattle.sim_run.proofs.Turns.{mapped_at}
 use Rattle.txn_threads.specs.declared.member.Member.{Member}
 use Rattle.plant_run.specs.Deals.{sits_at, members_at, share, jobs_at, HavePlaces, IsDealt, AreDealt}

@@ -5,12 +5,12 @@ use Rattle.std.proofs.Math.Seq.{take-append_seam, drop-append_seam}
 use Rattle.txn_set.specs.Set.{Set}
 use Rattle.step_journal.specs.declared.entry.Entry.{Entry}
 use Rattle.step_journal.specs.History.{IsLegal}
-use Rattle.sim_history.specs.Sim.{Body, Workload, plans, plans_from}
+use Rattle.law_histories.specs.Sim.{Body, Workload, plans, plans_from}
 use Rattle.sim_run.specs.Workloads.{workload, AreAccepted}
 use Rattle.sim_run.specs.Handed.{CanAppend, CanTake, IsHanded, IsCut}
 use Rattle.sim_run.proofs.Runs.{begins}
 use Rattle.sim_run.proofs.Handing.{take_rest, take_all, handed_then, cut_then}
-use Rattle.plant_history.specs.Histories.{IsRunSoFar, IsRunOf}
+use Rattle.law_runs.specs.Histories.{IsRunSoFar, IsRunOf}
 use Rattle.plant_run.specs.Works.{HasWorked, WasCut, CanGoOn}
 use Rattle.plant_run.specs.Runs.{IsWholeRun, IsStoppedRun, IsShortRun}
 

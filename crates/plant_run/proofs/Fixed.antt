@@ -7,16 +7,16 @@ use Rattle.std.proofs.Math.Seq.{take-append_seam}
 use Rattle.txn_set.specs.Set.{IsCompiled}
 use Rattle.step_journal.specs.declared.entry.Entry.{Entry}
 use Rattle.step_journal.specs.declared.entry.Entry.TheVariants.{Planned}
-use Rattle.counting_laws.specs.Counting.{greatest_period}
-use Rattle.counting_laws.proofs.CountingAll.{time_bounded}
-use Rattle.sim_history.specs.Sim.{Workload, plans, plans_from}
+use Rattle.law_histories.specs.Counting.{greatest_period}
+use Rattle.law_histories.proofs.CountingAll.{time_bounded}
+use Rattle.law_histories.specs.Sim.{Workload, plans, plans_from}
 use Rattle.sim_run.proofs.Planning.{releases_legal}
-use Rattle.eager_laws.specs.Plannable.{own_jobs}
+use Rattle.law_runs.specs.Plannable.{own_jobs}
 use Rattle.sim_run.specs.Workloads.{IsObedient}
 use Rattle.sim_run.specs.Runs.{IsWhole, IsStopped}
 use Rattle.sim_run.proofs.Exist.{stories_go_on}
 use Rattle.sim_run.proofs.Whole.{way_stopped}
-use Rattle.plant_history.proofs.Fixed.{fixed_sim, fixed_under_way}
+use Rattle.law_runs.proofs.Fixed.{fixed_sim, fixed_under_way}
 use Rattle.plant_run.specs.Runs.{FixedArePlannable, IsWholeRun, IsStoppedRun, IsShortRun, IsCutShort}
 
 -- what is to be planned

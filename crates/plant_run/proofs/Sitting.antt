@@ -14,7 +14,7 @@ use Rattle.turn_cell.proofs.Lists.{at_append, at_after, at_longer2}
 use Rattle.shared_plant.specs.Seats.{SeatFacts, tx_of}
 use Rattle.txn_threads.specs.declared.member.Member.{Member}
 use Rattle.txn_threads.specs.declared.member.Worker.{Worker}
-use Rattle.plant_history.specs.Seats.{AreSeats}
+use Rattle.law_runs.specs.Seats.{AreSeats}
 use Rattle.plant_run.specs.Deals.{sits_at, members_at, seats_of, seats_in}
 use Rattle.plant_run.proofs.Crews.{teams}
 

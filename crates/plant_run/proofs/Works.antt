@@ -19,7 +19,7 @@ use Rattle.turn_cell.proofs.Sums.{total-append}
 use Rattle.turn_cell.proofs.Lists.{whole}
 use Rattle.shared_plant.specs.Seats.{TableId, PlantFacts, SeatFacts, IsOf, AreOf, Closed, newcomer, newcomers, tx_of}
 use Rattle.shared_plant.proofs.Answering.{the_tx}
-use Rattle.sim_history.specs.Sim.{Body, Workload, plans, plans_from}
+use Rattle.law_histories.specs.Sim.{Body, Workload, plans, plans_from}
 use Rattle.sim_run.specs.Workloads.{workload, ticks_of, IsObedient}
 use Rattle.txn_threads.specs.declared.member.RunStop.{RunStop}
 use Rattle.txn_threads.specs.declared.member.RunStop.TheVariants.{Refused, NoPlan, Stopped}
@@ -30,11 +30,11 @@ use Rattle.txn_threads.specs.Rising.{AreRising}
 use Rattle.txn_threads.specs.Rounds.{Each}
 use Rattle.txn_threads.specs.Runs.{MayRun, HasRun, IsDone, Operated, GotMore, MayDrain, CollectedTo, StopIs, part}
 use Rattle.txn_threads.proofs.Draining.{part_join, part_none}
-use Rattle.plant_history.specs.Seats.{HaveRun, IsSeatRun, IsDoneSeat}
-use Rattle.plant_history.specs.Histories.{IsRunSoFar, IsRunOf}
-use Rattle.plant_history.specs.Laws.{NoRefusal}
-use Rattle.eager_laws.specs.Plannable.{ArePlannable}
-use Rattle.eager_laws.specs.Laws.{NeverUnplanned}
+use Rattle.law_runs.specs.Seats.{HaveRun, IsSeatRun, IsDoneSeat}
+use Rattle.law_runs.specs.Histories.{IsRunSoFar, IsRunOf}
+use Rattle.law_runs.specs.Laws.{NoRefusal}
+use Rattle.law_runs.specs.Plannable.{ArePlannable}
+use Rattle.law_runs.specs.EagerLaws.{NeverUnplanned}
 use Rattle.plant_run.specs.Deals.{sits_at, seats_in, jobs_at, IsDealt, AreDealt}
 use Rattle.plant_run.specs.Works.{HasWorked, WasCut, CanGoOn}
 use Rattle.plant_run.proofs.Deals.{snoc_same}

@@ -7,7 +7,7 @@ use Rattle.rt_base.specs.declared.operation.Outcome.{Outcome}
 use Rattle.step_journal.specs.declared.entry.Entry.{Entry}
 use Rattle.turn_cell.specs.Turn.{below, total}
 use Rattle.shared_plant.specs.Seats.{TableId, SeatFacts, newcomer, tx_of}
-use Rattle.sim_history.specs.Sim.{Body}
+use Rattle.law_histories.specs.Sim.{Body}
 use Rattle.sim_run.specs.Workloads.{body_of, ticks_of}
 use Rattle.txn_threads.specs.declared.member.Member.{Member}
 use Rattle.txn_threads.specs.declared.member.Worker.{Worker}

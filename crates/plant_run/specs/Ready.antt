@@ -2,9 +2,9 @@
 use Rattle.std.specs.Prelude.{◌≡◌, ℕ, ◌<◌, ◌≤◌, ◌^◌, List, [], map, length, All, vec_capacity}
 use Rattle.txn_set.specs.Set.{Set}
 use Rattle.step_journal.specs.declared.entry.Entry.{Entry}
-use Rattle.sim_history.specs.Sim.{Body, Workload, plans_from}
+use Rattle.law_histories.specs.Sim.{Body, Workload, plans_from}
 use Rattle.sim_run.specs.Workloads.{workload, ticks_of, AreAccepted, IsObedient}
-use Rattle.eager_laws.specs.Plannable.{ArePlannable}
+use Rattle.law_runs.specs.Plannable.{ArePlannable}
 use Rattle.plant_run.specs.Runs.{own_at}
 use Rattle.plant_run.specs.declared.run.Run.{Run}
 

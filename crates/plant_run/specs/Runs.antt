@@ -2,11 +2,11 @@
 use Rattle.std.specs.Prelude.{◌≡◌, ℕ, List, [], ◌++◌, take, drop, slice_index_or}
 use Rattle.txn_set.specs.Set.{IsCompiled}
 use Rattle.step_journal.specs.declared.entry.Entry.{Entry}
-use Rattle.sim_history.specs.Sim.{Workload, IsSim}
+use Rattle.law_histories.specs.Sim.{Workload, IsSim}
 use Rattle.sim_run.specs.Workloads.{AreAccepted, IsObedient}
 use Rattle.sim_run.specs.Runs.{IsWhole, IsStopped}
-use Rattle.plant_history.specs.Histories.{IsRunSoFar, IsRunOf}
-use Rattle.eager_laws.specs.Plannable.{ArePlannable}
+use Rattle.law_runs.specs.Histories.{IsRunSoFar, IsRunOf}
+use Rattle.law_runs.specs.Plannable.{ArePlannable}
 
 -- how many jobs a transaction plans itself
 abbrev pub own_at : List ℕ → ℕ → ℕ

@@ -4,9 +4,9 @@ use Rattle.step_journal.specs.declared.entry.Entry.{Entry}
 use Rattle.step_journal.specs.History.{IsLegal}
 use Rattle.txn_set.specs.Set.{Set}
 use Rattle.board.specs.Stories.{IsStory}
-use Rattle.sim_history.specs.Sim.{Workload, plans}
+use Rattle.law_histories.specs.Sim.{Workload, plans}
 use Rattle.sim_run.specs.Handed.{IsHanded, IsCut, CanTake}
-use Rattle.plant_history.specs.Histories.{IsRunSoFar, IsRunOf}
+use Rattle.law_runs.specs.Histories.{IsRunSoFar, IsRunOf}
 
 -- A run of the workload, for which the board stands. Of what the board had kept before, and of what came after the plans,
 -- the out got all but what the board keeps.

@@ -8,11 +8,11 @@ ghost use Rattle.plant_run.specs.Runs.{own_at};
 
 use board::Board;
 use rt_base::{List, OutOfMemory, Tick};
+use run_out::Workers;
 use shared_plant::Seat;
 use std::alloc::Global;
 use step_script::Body;
 use txn_threads::{Member, Worker};
-use worker_count::Workers;
 
 // Places for the members of all transactions, a list for each worker, and places for the workers.
 #[derive(Drop)]

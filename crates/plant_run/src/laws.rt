@@ -3,7 +3,7 @@ ghost use Rattle.plant_run.specs.Works.{StoriesAre};
 ghost use Rattle.plant_run.specs.Runs.{FixedArePlannable, WholeIsSim, StoppedIsSim, ShortIsSim};
 
 use board::Board;
-use entry_out::EntryOut;
+use run_out::EntryOut;
 
 // What a board stands for is legal, and what it keeps is the last part.
 pub(crate) fn stories_are<B: Board>()

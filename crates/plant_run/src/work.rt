@@ -1,9 +1,9 @@
 //! Workers on a plant, from its start to its closing.
 ghost use Rattle.std.specs.Prelude.{◌≡◌, ◌+◌, ◌≤◌, ◌++◌, ◌∷◌, [], None, length, IfOk, IsErrOf};
-ghost use Rattle.entry_out.specs.Outs.{StaysGood, LosesNone};
+ghost use Rattle.run_out.specs.Outs.{StaysGood, LosesNone};
 ghost use Rattle.io_edge.specs.Causes.{Rose};
 ghost use Rattle.shared_plant.specs.Seats.{AreOf, newcomer, newcomers};
-ghost use Rattle.sim_history.specs.Sim.{plans_from};
+ghost use Rattle.law_histories.specs.Sim.{plans_from};
 ghost use Rattle.sim_run.specs.Boards.{IsFixed};
 ghost use Rattle.plant_run.specs.Deals.{IsReserved};
 ghost use Rattle.plant_run.specs.Works.{HasWorked, WasCut, CanGoOn};
@@ -14,11 +14,9 @@ use crate::gather::{closed, gather};
 use crate::laws::stories_are;
 use crate::run::Run;
 use board::Board;
-use eager_laws::never_unplanned;
-use entry_out::EntryOut;
-use plant_history::{closed_so_far, closed_whole, no_refusal};
+use law_runs::{closed_so_far, closed_whole, never_unplanned, no_refusal};
 use rt_base::{List, OutOfMemory, Tick};
-use run_fault::RunFault;
+use run_out::{EntryOut, RunFault};
 use shared_plant::{Plant, Seat};
 use std::alloc::Global;
 use std::marker::Brand;

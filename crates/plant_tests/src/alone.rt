@@ -1,15 +1,15 @@
 //! Runs of more than a piece on a board with little room, against a board that keeps all.
 ghost use Rattle.std.specs.Prelude.{◌≡◌, ◌≤◌, [], length};
 ghost use Rattle.plain_core.specs.Stands.{Stands};
-ghost use Rattle.counting_laws.specs.Counting.{room_of_jobs};
+ghost use Rattle.law_histories.specs.Counting.{room_of_jobs};
 ghost use Rattle.sim_run.specs.Workloads.{AreAccepted, ticks_of};
 ghost use Rattle.sim_run.specs.Steady.{steady_set as set_of_two};
 
 use crate::steady::{Steady, new_board, releases};
 use board::{Board, IdleReply};
-use entry_out::{KeptEntries, Stopped};
 use plain_core::PlainCore;
 use rt_base::{List, OutOfMemory, Tick, TxId};
+use run_out::{KeptEntries, Stopped};
 use sim_run::run;
 use std::alloc::Global;
 use std::test::Fail;

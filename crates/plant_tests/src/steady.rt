@@ -1,7 +1,7 @@
 //! Two transactions that read and write nothing, with bodies that always compute or always quit.
 ghost use Rattle.std.specs.Prelude.{◌≡◌, ◌≤◌, ◌^◌, ◌∷◌, [], length, true, IfOk, IfSome};
 ghost use Rattle.plain_core.specs.Stands.{Stands};
-ghost use Rattle.counting_laws.specs.Counting.{room_of_jobs};
+ghost use Rattle.law_histories.specs.Counting.{room_of_jobs};
 ghost use Rattle.sim_run.specs.Workloads.{AreSpaced, AreAccepted, ticks_of};
 ghost use Rattle.sim_run.specs.Steady.{steady_txn as steady_of, steady_txns, steady_set as set_of_two};
 

@@ -2,7 +2,7 @@
 //! without transactions.
 ghost use Rattle.std.specs.Prelude.{◌≡◌, ℕ, ◌<◌, ◌≤◌, [], length, vec_capacity, IfOk};
 ghost use Rattle.sim_run.specs.Workloads.{workload, ticks_of, AreAccepted};
-ghost use Rattle.eager_laws.specs.Plannable.{ArePlannable};
+ghost use Rattle.law_runs.specs.Plannable.{ArePlannable};
 ghost use Rattle.plant_run.specs.Ready.{CanRun};
 ghost use Rattle.plant_run.specs.Runs.{own_at};
 ghost use Rattle.plant_run.specs.EagerSlow.{fast_releases};
@@ -11,21 +11,19 @@ ghost use Rattle.sim_run.specs.Steady.{steady_op, steady_set as set_of_two};
 
 use crate::steady::{Steady, new_board, releases};
 use board::Board;
-use entry_out::{EntryOut, Stopped};
 use plain_core::PlainCore;
 use plant_run::{Run, run_workers};
 use rt_base::{List, OutOfMemory, Tick};
-use run_fault::RunFault;
+use run_out::{EntryOut, RunFault, Stopped, Workers};
 use sim_run::run;
 use std::alloc::Global;
 use std::sync::Wait;
 use std::test::Fail;
 use std::thread::Threads;
 use step_journal::Entry;
-use test_calls::{call_of, make};
+use test_sets::{call_of, make};
 use txn_set::CompiledSet;
 use txn_threads::NoGate;
-use worker_count::Workers;
 
 const ROOM: usize = 1100;
 

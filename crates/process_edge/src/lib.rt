@@ -3,7 +3,9 @@
 #![tactic(auto)]
 
 mod status;
+mod word;
 mod words;
 
-pub use status::exit_code;
+pub use status::{Status, exit_code};
+pub use word::Word;
 pub use words::words_of;

@@ -4,7 +4,7 @@ ghost use Rattle.std.specs.IoError.{error_kind};
 ghost use Rattle.std.specs.declared.io.ErrorKind.TheVariants.{OutOfMemory as out_of_memory};
 ghost use Rattle.process_edge.specs.Words.{said};
 
-use command_words::Word;
+use crate::word::Word;
 use rt_base::OutOfMemory;
 use std::alloc::Global;
 use std::env::Args;

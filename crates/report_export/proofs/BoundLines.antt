@@ -4,7 +4,7 @@ use Rattle.std.specs.Option.{unwrap_or}
 use Rattle.rt_base.specs.declared.name.Names.{Names}
 use Rattle.txn_set.specs.Set.{Set, txn_of, no_txn}
 use Rattle.txn_set.specs.Ceilings.{blocking}
-use Rattle.deadline_laws.specs.Response.{response}
+use Rattle.law_times.specs.Response.{response}
 use Rattle.report_export.specs.Json.{bound_json}
 use Rattle.report_export.specs.Whole.{bounds_json}
 

@@ -7,7 +7,7 @@ use Rattle.step_journal.specs.declared.entry.Entry.{Entry}
 use Rattle.step_journal.specs.History.{state_of}
 use Rattle.job_rows.specs.declared.row.JobRow.{JobRow}
 use Rattle.job_rows.specs.Rows.{job_rows}
-use Rattle.report_lines.specs.Rows.{numbered}
+use Rattle.report_text.specs.Rows.{numbered}
 use Rattle.report_export.specs.Json.{entry_json}
 use Rattle.report_export.specs.Table.{table_with}
 use Rattle.report_export.specs.Whole.{opening_json, closing_json, json_of, table_of}

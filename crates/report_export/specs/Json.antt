@@ -20,11 +20,11 @@ use Rattle.item_model.specs.declared.stored.Stored.{Stored}
 use Rattle.txn_set.specs.declared.decl.TxnDecl.{TxnDecl}
 use Rattle.step_journal.specs.declared.entry.Entry.{Entry}
 use Rattle.step_journal.specs.declared.entry.Entry.TheVariants.{Planned, Step, Blocked, Idle}
-use Rattle.line_fields.specs.Ids.{name_at, job_text}
+use Rattle.journal_text.specs.Ids.{name_at, job_text}
 use Rattle.journal_text.specs.Lines.{◌⊕◌}
 use Rattle.job_rows.specs.declared.row.JobRow.{JobRow}
-use Rattle.report_lines.specs.Rows.{numbered}
-use Rattle.report_lines.specs.Texts.{item_name}
+use Rattle.report_text.specs.Rows.{numbered}
+use Rattle.report_text.specs.Texts.{item_name}
 
 -- ---- declarations
 

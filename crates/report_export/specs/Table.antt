@@ -5,10 +5,10 @@ use Rattle.rt_base.specs.declared.name.Names.{Names}
 use Rattle.rt_base.specs.declared.ids.JobId.{JobId}
 use Rattle.rt_base.specs.declared.operation.End.{End}
 use Rattle.rt_base.specs.declared.operation.End.TheVariants as end
-use Rattle.line_fields.specs.Ids.{name_at, job_text}
+use Rattle.journal_text.specs.Ids.{name_at, job_text}
 use Rattle.journal_text.specs.Lines.{◌⊕◌}
 use Rattle.job_rows.specs.declared.row.JobRow.{JobRow}
-use Rattle.report_lines.specs.Rows.{numbered}
+use Rattle.report_text.specs.Rows.{numbered}
 
 abbrev pub header : List ℕ
 header = codes "txn,serial,release,tick,end,response,by,delay\n"

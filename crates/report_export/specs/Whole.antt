@@ -13,8 +13,8 @@ use Rattle.set_admission.specs.Bounds.{response_of, age_of}
 use Rattle.journal_text.specs.Lines.{◌⊕◌}
 use Rattle.job_rows.specs.declared.row.JobRow.{JobRow}
 use Rattle.job_rows.specs.Rows.{job_rows}
-use Rattle.report_lines.specs.Rows.{numbered}
-use Rattle.report_lines.specs.Texts.{is_second}
+use Rattle.report_text.specs.Rows.{numbered}
+use Rattle.report_text.specs.Texts.{is_second}
 use Rattle.report_export.specs.Json.{report_json, item_json, txn_json, together_json, mode_json, ceiling_json, bound_json, age_json, entry_json, job_json, final_json, last_json}
 use Rattle.report_export.specs.Table.{table_with}
 

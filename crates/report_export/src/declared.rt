@@ -2,14 +2,14 @@
 ghost use Rattle.std.specs.Prelude.{◌≡◌, ◌+◌, ◌<◌, ◌≤◌, ◌++◌, ◌==◌, not, length, drop, OnOk, vec_len, vec_capacity};
 ghost use Rattle.std.specs.List.{All, list_any};
 ghost use Rattle.std.specs.Fmt.{signed_decimal};
-ghost use Rattle.report_lines.specs.Rows.{numbered};
-ghost use Rattle.report_lines.specs.Texts.{item_name, is_second as is_second_set, NamesSet};
+ghost use Rattle.report_text.specs.Rows.{numbered};
+ghost use Rattle.report_text.specs.Texts.{item_name, is_second as is_second_set, NamesSet};
 ghost use Rattle.report_export.specs.Json.{report_json, kind_json, item_json, more_item, items_json, times_json, txn_json, within_json, together_json, mode_json};
 ghost use Rattle.report_export.specs.Whole.{declared_json};
 
 use crate::parts::{put_integer, put_name, put_number, put_short};
 use item_model::{ItemDecl, ItemKind};
-use line_fields::put;
+use journal_text::put;
 use rt_base::{ItemId, Names, OutOfMemory, TogetherDecl, TxId};
 use txn_set::{CompiledSet, TxnDecl};
 

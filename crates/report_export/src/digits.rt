@@ -1,9 +1,9 @@
 //! Numbers that come again from line to line.
 ghost use Rattle.std.specs.Prelude.{◌≡◌, ◌+◌, ◌<◌, ◌≤◌, ◌++◌, length, decimal, vec_len, vec_capacity};
-ghost use Rattle.line_fields.specs.Ids.{job_text};
+ghost use Rattle.journal_text.specs.Ids.{job_text};
 
 use crate::parts::put_name;
-use line_fields::Numeral;
+use journal_text::Numeral;
 use rt_base::{JobId, List, Name, Tick};
 
 // As many transactions as a set has at most.
@@ -29,7 +29,7 @@ impl Digits {
 
     /// Adds a tick.
     #[inline(always)]
-    #[tactic(auto, using(line_fields::proofs::IdLaws::unsigned_length))]
+    #[tactic(auto, using(journal_text::proofs::IdLaws::unsigned_length))]
     pub(crate) fn put_tick(&mut self, into: &mut Vec<u8>, tick: Tick)
         requires { vec_len into.old + 32 ≤ vec_capacity into.old }
         ensures items { into.new.items ≡ into.old.items ++ decimal tick }
@@ -42,7 +42,7 @@ impl Digits {
 
     /// Adds a job.
     #[inline(always)]
-    #[tactic(auto, using(line_fields::proofs::IdLaws::short_length))]
+    #[tactic(auto, using(journal_text::proofs::IdLaws::short_length))]
     pub(crate) fn put_job(&mut self, into: &mut Vec<u8>, txns: &List<Name>, job: JobId)
         requires known { job.tx.0 < length txns.now }
         requires room { vec_len into.old + 65 ≤ vec_capacity into.old }

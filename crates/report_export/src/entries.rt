@@ -2,12 +2,12 @@
 ghost use Rattle.std.specs.Prelude.{◌≡◌, ◌+◌, ◌<◌, ◌≤◌, ◌++◌, length, OnOk, vec_len, vec_capacity};
 ghost use Rattle.std.specs.List.{All};
 ghost use Rattle.journal_text.specs.Lines.{KnownOp, KnownOver, IsWritable};
-ghost use Rattle.report_lines.specs.Rows.{numbered};
+ghost use Rattle.report_text.specs.Rows.{numbered};
 ghost use Rattle.report_export.specs.Json.{op_json, stamp_json, value_json, got_json, over_json, asked_json, answer_json, refusal_json, plan_body, idle_body, entry_body, entry_json};
 
 use crate::digits::Digits;
 use crate::parts::{put_end, put_integer, put_name, put_number, put_short};
-use line_fields::put;
+use journal_text::put;
 use rt_base::{End, JobId, Names, Op, OutOfMemory, Outcome, Prio, Tick, TxId};
 use std::mem;
 use step_journal::Entry;

@@ -4,15 +4,15 @@ ghost use Rattle.std.specs.List.{All};
 ghost use Rattle.std.specs.Fmt.{signed_decimal};
 ghost use Rattle.rt_base.specs.declared.operation.End.{End as EndOf};
 ghost use Rattle.journal_text.specs.Lines.{KnownEnd};
-ghost use Rattle.report_lines.specs.Rows.{numbered};
-ghost use Rattle.report_lines.specs.Texts.{KnownBy, KnownClose, KnownRow};
+ghost use Rattle.report_text.specs.Rows.{numbered};
+ghost use Rattle.report_text.specs.Texts.{KnownBy, KnownClose, KnownRow};
 ghost use Rattle.report_export.specs.Json.{close_json, by_json, job_json, final_json};
 ghost use Rattle.report_export.specs.Table.{end_cell, close_cells, by_cell, job_cells, table_with};
 
 use crate::parts::{put_end, put_integer, put_job, put_name, put_number, put_short};
 use item_model::Stored;
 use job_rows::JobRow;
-use line_fields::put;
+use journal_text::put;
 use rt_base::{End, JobId, Names, OutOfMemory, Tick};
 use std::mem;
 

@@ -1,12 +1,12 @@
 //! Ceilings and bounds as JSON.
 ghost use Rattle.std.specs.Prelude.{◌≡◌, ◌+◌, ◌<◌, ◌≤◌, ◌++◌, true, length, is_some, IfSome, OnOk};
-ghost use Rattle.report_lines.specs.Rows.{numbered};
-ghost use Rattle.report_lines.specs.Texts.{NamesSet};
+ghost use Rattle.report_text.specs.Rows.{numbered};
+ghost use Rattle.report_text.specs.Texts.{NamesSet};
 ghost use Rattle.report_export.specs.Json.{ceiling_json, bound_json, age_json};
 ghost use Rattle.report_export.specs.Whole.{ceilings_json, bounds_json, age_of_item, ages_json, limits_json};
 
 use crate::parts::{put_name, put_number, put_short};
-use line_fields::put;
+use journal_text::put;
 use rt_base::{ItemId, Names, OutOfMemory, Prio, Tick, TxId};
 use set_admission::AdmittedSet;
 use txn_set::CompiledSet;

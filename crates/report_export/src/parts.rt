@@ -1,17 +1,17 @@
 //! Parts of lines are added to text for which there is room.
 ghost use Rattle.std.specs.Prelude.{◌≡◌, ◌+◌, ◌≤◌, ◌<◌, ◌++◌, length, decimal, vec_len, vec_capacity};
 ghost use Rattle.std.specs.Fmt.{signed_decimal};
-ghost use Rattle.line_fields.specs.Ids.{name_at, job_text};
+ghost use Rattle.journal_text.specs.Ids.{name_at, job_text};
 ghost use Rattle.journal_text.specs.Lines.{KnownEnd};
 ghost use Rattle.report_export.specs.Json.{end_json};
 
 use itoa::Buffer;
-use line_fields::put;
+use journal_text::put;
 use rt_base::{End, JobId, List, Name, Names};
 
 /// Adds a number.
 #[inline(always)]
-#[tactic(auto, using(line_fields::proofs::IdLaws::unsigned_length))]
+#[tactic(auto, using(journal_text::proofs::IdLaws::unsigned_length))]
 pub(crate) fn put_number(into: &mut Vec<u8>, n: u64)
     requires { vec_len into.old + 20 ≤ vec_capacity into.old }
     ensures items { into.new.items ≡ into.old.items ++ decimal n }
@@ -23,7 +23,7 @@ pub(crate) fn put_number(into: &mut Vec<u8>, n: u64)
 
 /// Adds a number of 32 bits.
 #[inline(always)]
-#[tactic(auto, using(line_fields::proofs::IdLaws::short_length))]
+#[tactic(auto, using(journal_text::proofs::IdLaws::short_length))]
 pub(crate) fn put_short(into: &mut Vec<u8>, n: u32)
     requires { vec_len into.old + 10 ≤ vec_capacity into.old }
     ensures items { into.new.items ≡ into.old.items ++ decimal n }
@@ -35,7 +35,7 @@ pub(crate) fn put_short(into: &mut Vec<u8>, n: u32)
 
 /// Adds a signed number.
 #[inline(always)]
-#[tactic(auto, using(line_fields::proofs::IdLaws::signed_length, line_fields::proofs::IdLaws::in_i64))]
+#[tactic(auto, using(journal_text::proofs::IdLaws::signed_length, journal_text::proofs::IdLaws::in_i64))]
 pub(crate) fn put_integer(into: &mut Vec<u8>, n: i64)
     requires { vec_len into.old + 20 ≤ vec_capacity into.old }
     ensures items { into.new.items ≡ into.old.items ++ signed_decimal n }

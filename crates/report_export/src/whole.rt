@@ -2,7 +2,7 @@
 ghost use Rattle.std.specs.Prelude.{◌≡◌, ◌≤◌, ◌<◌, ◌^◌, ◌++◌, length, is_some, IfSome, OnOk, IfOk};
 ghost use Rattle.std.specs.List.{All};
 ghost use Rattle.step_journal.specs.History.{IsLegal, state_of};
-ghost use Rattle.report_lines.specs.Texts.{NamesSet, KnownRow};
+ghost use Rattle.report_text.specs.Texts.{NamesSet, KnownRow};
 ghost use Rattle.report_export.specs.Whole.{opening_json, closing_json, json_of, table_of};
 
 use crate::declared::add_declarations;

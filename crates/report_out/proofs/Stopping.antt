@@ -5,7 +5,7 @@ use Rattle.std.proofs.Math.Seq.{take-append_seam, take-length}
 use Rattle.std.specs.Io.KnownBytes.{Appends}
 use Rattle.step_journal.specs.declared.entry.Entry.{Entry}
 use Rattle.job_rows.specs.Upkeep.{planned_jobs}
-use Rattle.report_lines.specs.Texts.{entries_text}
+use Rattle.report_text.specs.Texts.{entries_text}
 use Rattle.report_out.specs.declared.standing.Standing.{Standing}
 use Rattle.report_out.specs.declared.standing.Standing.TheVariants.{Going, Cut, Full}
 use Rattle.report_out.specs.Outs.{Begun, OutSeen, IsGoing, IsBefore, IsCut, IsOver, TakenAt, LostAt}

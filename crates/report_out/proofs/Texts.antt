@@ -12,8 +12,8 @@ use Rattle.step_journal.specs.declared.entry.Entry.{Entry}
 use Rattle.step_journal.specs.State.{State}
 use Rattle.step_journal.specs.History.{IsLegal, IsLegalFrom, state_after}
 use Rattle.job_rows.specs.Upkeep.{RowsSeen, Follows, is_plan, planned_jobs}
-use Rattle.report_lines.specs.Rows.{numbered}
-use Rattle.report_lines.specs.Texts.{entries_text, whole_entry_line}
+use Rattle.report_text.specs.Rows.{numbered}
+use Rattle.report_text.specs.Texts.{entries_text, whole_entry_line}
 use Rattle.run_report.specs.Report.{Writes}
 use Rattle.report_out.specs.Outs.{Continues}
 use Rattle.io_edge.proofs.Known.{appends_then}

@@ -4,7 +4,7 @@ use Rattle.std.specs.Io.KnownBytes.{Appends}
 use Rattle.step_journal.specs.declared.entry.Entry.{Entry}
 use Rattle.step_journal.specs.History.{IsLegal}
 use Rattle.job_rows.specs.Upkeep.{planned_jobs}
-use Rattle.report_lines.specs.Texts.{entries_text}
+use Rattle.report_text.specs.Texts.{entries_text}
 use Rattle.report_out.specs.declared.standing.Standing.TheVariants.{Cut, Full}
 use Rattle.report_out.specs.Outs.{Begun, OutSeen, HasTaken, IsLost, IsGoing}
 

@@ -2,7 +2,7 @@
 use Rattle.std.specs.Prelude.{◌≡◌, ℕ, ◌≤◌, [], vec_capacity}
 use Rattle.txn_set.specs.Set.{Set}
 use Rattle.job_rows.specs.Upkeep.{Follows}
-use Rattle.report_lines.specs.Texts.{NamesSet}
+use Rattle.report_text.specs.Texts.{NamesSet}
 use Rattle.run_report.specs.Report.{opening_text}
 use Rattle.report_out.specs.declared.report.Report.{Report}
 

@@ -6,7 +6,7 @@ use Rattle.txn_set.specs.Set.{Set}
 use Rattle.step_journal.specs.declared.entry.Entry.{Entry}
 use Rattle.step_journal.specs.History.{IsLegal}
 use Rattle.job_rows.specs.Upkeep.{RowsSeen, Follows, planned_jobs}
-use Rattle.report_lines.specs.Texts.{entries_text, NamesSet}
+use Rattle.report_text.specs.Texts.{entries_text, NamesSet}
 use Rattle.report_out.specs.declared.standing.Standing.{Standing}
 use Rattle.report_out.specs.declared.standing.Standing.TheVariants.{Going, Cut, Full}
 

@@ -4,13 +4,13 @@ ghost use Rattle.std.specs.Io.KnownBytes.{Appends};
 ghost use Rattle.io_edge.specs.Causes.{Rose};
 ghost use Rattle.step_journal.specs.declared.entry.Entry.{Entry as Noted};
 ghost use Rattle.job_rows.specs.Upkeep.{Follows};
-ghost use Rattle.report_lines.specs.Texts.{NamesSet};
+ghost use Rattle.report_text.specs.Texts.{NamesSet};
 ghost use Rattle.report_out.specs.Written.{closing_of};
 
 use board::Board;
 use io_edge::{Sink, write_all};
 use rt_base::Names;
-use run_fault::RunFault;
+use run_out::RunFault;
 use run_report::ReportWriter;
 
 /// Writes what stands after the entries in the report of a history: the history is one for which the board stands, and

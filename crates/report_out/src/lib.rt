@@ -1,32 +1,21 @@
-//! A report whose entry lines are handed to a sink as the entries come, and its closing lines.
+//! A report that goes to a sink while its run goes on.
 #![tactic(auto)]
 
-ghost use Rattle.report_out.specs.Laws.{AfterCut, AfterFull, HasFront};
-
 mod closing;
+mod history;
+mod laws;
 mod lines;
 mod out;
 mod report;
 mod standing;
+mod worked;
+mod worked_lines;
+mod written;
 
 pub use closing::write_closing;
+pub use laws::{after_cut, after_full, has_front};
 pub use out::{ReportOut, Reported};
 pub use report::Report;
 pub use standing::Standing;
-
-/// After a fault of the sink it has all lines of what the out got, and then a front of the lines of what it lost.
-pub fn after_cut()
-    ensures { AfterCut }
-{}
-
-/// An out that is full has written the lines of what it got and no more, and what it got and what it lost have together
-/// more plans than it has places.
-pub fn after_full()
-    ensures { AfterFull }
-{}
-
-/// Where what an out got and what it lost have together no more plans than it has places, it is not full, and its sink
-/// has a front of their lines.
-pub fn has_front()
-    ensures { HasFront }
-{}
+pub use worked::keep_run;
+pub use written::write_run;

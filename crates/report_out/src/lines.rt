@@ -6,7 +6,7 @@ ghost use Rattle.txn_set.specs.Set.{Set};
 ghost use Rattle.step_journal.specs.declared.entry.Entry.{Entry as Noted};
 ghost use Rattle.step_journal.specs.History.{IsLegal};
 ghost use Rattle.job_rows.specs.Upkeep.{Follows};
-ghost use Rattle.report_lines.specs.Texts.{entries_text, whole_entry_line};
+ghost use Rattle.report_text.specs.Texts.{entries_text, whole_entry_line};
 ghost use Rattle.run_report.specs.Report.{Writes};
 ghost use Rattle.report_out.specs.Outs.{Continues};
 

@@ -4,10 +4,10 @@ ghost use Rattle.report_out.specs.Outs.{Begun, nothing};
 
 use crate::lines::add_lines;
 use crate::standing::Standing;
-use entry_out::{EntryOut, Stopped};
 use io_edge::Sink;
 use job_rows::planned;
 use rt_base::Names;
+use run_out::{EntryOut, Stopped};
 use run_report::ReportWriter;
 use std::marker::{Brand, PhantomData};
 use step_journal::Entry;

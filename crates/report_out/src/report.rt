@@ -1,6 +1,6 @@
 //! A report that is begun.
 ghost use Rattle.std.specs.Prelude.{◌≡◌, is_some, IfOk, IfSome};
-ghost use Rattle.report_lines.specs.Texts.{NamesSet};
+ghost use Rattle.report_text.specs.Texts.{NamesSet};
 
 use rt_base::{Names, OutOfMemory};
 use run_report::ReportWriter;

@@ -17,14 +17,14 @@ use Rattle.step_journal.specs.State.{Row, pending, same_job}
 use Rattle.step_journal.specs.LockRule.{in_falling_priority}
 use Rattle.step_journal.specs.History.{IsLegal, state_of}
 use Rattle.step_journal.specs.Timing.{delayers, outside_read, read_in, outside_reads_of}
-use Rattle.history_laws.proofs.Members.{In, filter_in}
-use Rattle.history_laws.proofs.Lists.{all_at, filter_map_in, in_filter_map}
-use Rattle.history_laws.proofs.Invariant.{same_job_is}
-use Rattle.history_laws.specs.Protocol.{OneDelay}
-use Rattle.commit_laws.specs.Commits.{ConsistentCommits, IsConsistent}
-use Rattle.deadline_laws.specs.Response.{response}
-use Rattle.deadline_laws.specs.Deadlines.{EachIsInTime, IsInTime}
-use Rattle.fresh_laws.specs.Freshness.{EndsAreFresh, AreWithinAge, IsWithinAge}
+use Rattle.law_histories.proofs.Members.{In, filter_in}
+use Rattle.law_histories.proofs.Lists.{all_at, filter_map_in, in_filter_map}
+use Rattle.law_histories.proofs.Invariant.{same_job_is}
+use Rattle.law_histories.specs.Protocol.{OneDelay}
+use Rattle.law_histories.specs.Commits.{ConsistentCommits, IsConsistent}
+use Rattle.law_times.specs.Response.{response}
+use Rattle.law_times.specs.Deadlines.{EachIsInTime, IsInTime}
+use Rattle.law_times.specs.Freshness.{EndsAreFresh, AreWithinAge, IsWithinAge}
 use Rattle.set_admission.specs.Bounds.{response_of, age_of}
 use Rattle.set_admission.specs.Laws.{KeepsBounds as KeepsBoundsOfSet, AdmittedUnlessRefused, AdmittedKeepsBounds}
 use Rattle.job_rows.specs.declared.row.JobRow.{JobRow}

@@ -9,12 +9,12 @@ use Rattle.item_model.specs.Kinds.{validity_of, validity_of_kind, is_dated}
 use Rattle.txn_set.specs.Set.{Set, txn_of, no_txn}
 use Rattle.txn_set.specs.Ceilings.{blocking}
 use Rattle.step_journal.specs.declared.entry.Entry.{Entry}
-use Rattle.deadline_laws.specs.Response.{response}
+use Rattle.law_times.specs.Response.{response}
 use Rattle.set_admission.specs.Bounds.{response_of, age_of}
 use Rattle.job_rows.specs.declared.row.JobRow.{JobRow}
 use Rattle.job_rows.specs.Rows.{job_rows}
-use Rattle.report_lines.specs.Rows.{numbered}
-use Rattle.report_lines.specs.Texts.{NamesSet, KnownRow}
+use Rattle.report_text.specs.Rows.{numbered}
+use Rattle.report_text.specs.Texts.{NamesSet, KnownRow}
 use Rattle.report_summary.specs.declared.tally.Tally.{Tally}
 use Rattle.report_summary.specs.Worsts.{jobs_of}
 use Rattle.report_summary.specs.Texts.{bound_in, txn_lines, item_lines, summary_of}

@@ -6,8 +6,8 @@ use Rattle.item_model.specs.Kinds.{validity_of, is_dated}
 use Rattle.step_journal.specs.declared.entry.Entry.{Entry}
 use Rattle.step_journal.specs.History.{IsLegal}
 use Rattle.step_journal.specs.Timing.{IsSteady}
-use Rattle.deadline_laws.specs.Response.{response}
-use Rattle.fresh_laws.specs.Ages.{IsAdmitted}
+use Rattle.law_times.specs.Response.{response}
+use Rattle.law_times.specs.Ages.{IsAdmitted}
 use Rattle.set_admission.specs.Bounds.{response_of, age_of}
 use Rattle.job_rows.specs.Rows.{job_rows}
 use Rattle.report_summary.specs.Worsts.{worst, jobs_of, responses, delays, ages}

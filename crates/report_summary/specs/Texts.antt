@@ -8,13 +8,13 @@ use Rattle.txn_set.specs.declared.decl.TxnDecl.{TxnDecl}
 use Rattle.txn_set.specs.Set.{Set}
 use Rattle.txn_set.specs.Ceilings.{blocking}
 use Rattle.step_journal.specs.declared.entry.Entry.{Entry}
-use Rattle.line_fields.specs.Cuts.{field}
-use Rattle.line_fields.specs.Ids.{name_at}
+use Rattle.journal_text.specs.Cuts.{field}
+use Rattle.journal_text.specs.Ids.{name_at}
 use Rattle.job_rows.specs.declared.row.JobRow.{JobRow}
 use Rattle.job_rows.specs.Rows.{job_rows}
 use Rattle.journal_text.specs.Lines.{◌⊕◌}
-use Rattle.report_lines.specs.Rows.{numbered}
-use Rattle.report_lines.specs.Texts.{line_end}
+use Rattle.report_text.specs.Rows.{numbered}
+use Rattle.report_text.specs.Texts.{line_end}
 use Rattle.set_admission.specs.Bounds.{response_of, age_of}
 use Rattle.run_report.specs.Summary.{counted, is_committed, is_overrun, is_late, is_quit}
 use Rattle.run_report.specs.Counts.{row_is}

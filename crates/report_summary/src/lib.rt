@@ -3,9 +3,8 @@
 
 ghost use Rattle.report_summary.specs.Laws.{WithinBounds};
 
-use commit_laws::fresh_together;
-use deadline_laws::deadlines;
-use history_laws::one_delay;
+use law_histories::{fresh_together, one_delay};
+use law_times::deadlines;
 use set_admission::{admitted_keeps_bounds, admitted_unless_refused};
 
 mod ages;

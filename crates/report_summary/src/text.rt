@@ -4,14 +4,14 @@ ghost use Rattle.item_model.specs.Kinds.{validity_of, validity_of_kind, is_dated
 ghost use Rattle.txn_set.specs.Set.{txn_of};
 ghost use Rattle.txn_set.specs.Ceilings.{blocking as blocking_of};
 ghost use Rattle.set_admission.specs.Bounds.{response_of, age_of};
-ghost use Rattle.line_fields.specs.Cuts.{field};
+ghost use Rattle.journal_text.specs.Cuts.{field};
 ghost use Rattle.run_report.specs.Summary.{counted};
 ghost use Rattle.report_summary.specs.Texts.{number_text, ended_text, others_text, counts_line, worst_line, bound_in, age_line, age_text};
 ghost use Rattle.report_summary.specs.Tallies.{tally_lines};
 
 use crate::tally::Tally;
 use item_model::ItemKind;
-use line_fields::{put, put_field, put_name, put_unsigned};
+use journal_text::{put, put_field, put_name, put_unsigned};
 use rt_base::{ItemId, Names, OutOfMemory, Tick, TxId};
 use set_admission::AdmittedSet;
 use txn_set::CompiledSet;

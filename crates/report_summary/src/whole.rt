@@ -2,8 +2,8 @@
 ghost use Rattle.std.specs.Prelude.{◌≡◌, ◌++◌, is_some, IfSome, OnOk, IfOk};
 ghost use Rattle.std.specs.List.{All};
 ghost use Rattle.step_journal.specs.History.{IsLegal};
-ghost use Rattle.report_lines.specs.Rows.{numbered};
-ghost use Rattle.report_lines.specs.Texts.{NamesSet, KnownRow};
+ghost use Rattle.report_text.specs.Rows.{numbered};
+ghost use Rattle.report_text.specs.Texts.{NamesSet, KnownRow};
 ghost use Rattle.report_summary.specs.Texts.{txn_lines, item_lines, summary_of};
 
 use crate::ages::{ages, commits};

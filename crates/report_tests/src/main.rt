@@ -6,7 +6,7 @@ mod worked;
 
 use item_model::Stored;
 use pieces::put_row;
-use report_lines::add_finals;
+use report_text::add_finals;
 use run_report::summary;
 use std::alloc::Global;
 use std::rt::Files;

@@ -3,15 +3,15 @@ ghost use Rattle.std.specs.Prelude.{◌≡◌, ◌≤◌, ◌<◌, ℕ, [], take
 ghost use Rattle.std.specs.Io.KnownBytes.{Appends};
 ghost use Rattle.step_journal.specs.History.{IsLegal, state_of};
 ghost use Rattle.job_rows.specs.Upkeep.{Follows};
-ghost use Rattle.report_lines.specs.Texts.{NamesSet, entries_text};
-ghost use Rattle.entry_out.specs.Outs.{StaysGood, LosesNone};
+ghost use Rattle.report_text.specs.Texts.{NamesSet, entries_text};
+ghost use Rattle.run_out.specs.Outs.{StaysGood, LosesNone};
 ghost use Rattle.report_out.specs.declared.standing.Standing.TheVariants.{Going};
 
 use crate::worked::Worked;
-use entry_out::{EntryOut, Stopped};
 use io_edge::{MemSink, Sink};
 use report_out::{ReportOut, Reported, Standing};
 use rt_base::OutOfMemory;
+use run_out::{EntryOut, Stopped};
 use run_report::ReportWriter;
 use std::alloc::Global;
 use std::marker::Brand;

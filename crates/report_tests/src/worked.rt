@@ -1,10 +1,10 @@
 //! Histories that reports tell.
 ghost use Rattle.std.specs.Prelude.{◌≡◌, true, IfSome};
 ghost use Rattle.step_journal.specs.History.{IsLegal, state_of};
-ghost use Rattle.report_lines.specs.Texts.{NamesSet};
+ghost use Rattle.report_text.specs.Texts.{NamesSet};
 
 use item_model::Items;
-use report_reader::read_document;
+use report_text::read_document;
 use rt_base::{List, Names};
 use run_report::compile_head;
 use serial_replay::replay;

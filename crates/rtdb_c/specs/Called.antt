@@ -4,13 +4,13 @@ use Rattle.rt_base.specs.declared.operation.Op.{Op}
 use Rattle.step_journal.specs.declared.entry.Entry.{Entry}
 use Rattle.step_journal.specs.History.{state_of}
 use Rattle.board.specs.Stories.{noted, plan_entry, plan_next_entry, step_entry, idle_entry, plan_answer, plan_next_answer, idle_answer, now_of, running_of, pending_of, ended_of, planned_of}
-use Rattle.deadline_laws.specs.Response.{response}
+use Rattle.law_times.specs.Response.{response}
 use Rattle.txn_set.specs.Set.{Set, txn_of}
 use Rattle.txn_set.specs.Ceilings.{blocking}
-use Rattle.fresh_laws.specs.Ages.{IsAdmitted}
+use Rattle.law_times.specs.Ages.{IsAdmitted}
 use Rattle.txn_compiler.specs.Kept.{kept}
 use Rattle.txn_compiler.specs.Refusal.{compile_refusal}
-use Rattle.history_laws.specs.Protocol.{IsFirstRefusal}
+use Rattle.law_histories.specs.Protocol.{IsFirstRefusal}
 use Rattle.lock_core.specs.Stands.{Stands}
 use Rattle.board.specs.Stories.{IfBlocked}
 use Rattle.c_core.specs.declared.checked.CheckedCore.{CheckedCore}

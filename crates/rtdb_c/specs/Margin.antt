@@ -2,8 +2,8 @@
 use Rattle.std.specs.Prelude.{◌≡◌, ◌≢◌, ◌⊎◌, ℕ}
 use Rattle.c_core.specs.declared.checked.CheckedCore.{CheckedCore}
 use Rattle.c_core.specs.Open.{board_of}
-use Rattle.c_margin.specs.declared.forms.MarginForm.{MarginForm}
-use Rattle.c_margin.specs.Margins.{ToldMargin}
+use Rattle.c_core.specs.declared.margin_forms.MarginForm.{MarginForm}
+use Rattle.c_core.specs.Margins.{ToldMargin}
 
 pub record IsMarginOf (status : ℕ) (before after : MarginForm) (s t : CheckedCore) : Type 0 where
   pub same : t ≡ s

@@ -4,16 +4,16 @@ use Rattle.std.specs.Prelude.{slice_get}
 use Rattle.std.proofs.lemmas.List.{length-take}
 use Rattle.rt_base.specs.declared.name.Names.{Names}
 use Rattle.step_journal.specs.declared.entry.Entry.{Entry}
-use Rattle.sim_history.specs.Sim.{OneSim}
+use Rattle.law_histories.specs.Sim.{OneSim}
 use Rattle.scenario.specs.Shown.{Shown, set_of}
-use Rattle.workload_laws.specs.Runs.{workload_of}
-use Rattle.command_replies.specs.declared.status.Status.{Status}
-use Rattle.command_replies.specs.declared.status.Status.TheVariants as statuses
+use Rattle.law_runs.specs.Runs.{workload_of}
+use Rattle.process_edge.specs.declared.status.Status.{Status}
+use Rattle.process_edge.specs.declared.status.Status.TheVariants as statuses
 use Rattle.command_replies.specs.Replies.{Reply}
 use Rattle.durable_journal.specs.Laws.{OpenedAgain}
 use Rattle.durable_journal.specs.declared.log.LogError.TheVariants.{BadRecord, Full}
-use Rattle.journal_out.specs.Compared.{Begins, IsOtherRecord}
-use Rattle.journal_run.specs.Replies.{JournalReply, Journaled, Unhurried, HasBad, first_eager}
+use Rattle.scenario_run.specs.Compared.{Begins, IsOtherRecord}
+use Rattle.scenario_run.specs.JournalReplies.{JournalReply, Journaled, Unhurried, HasBad, first_eager}
 use Rattle.rtdb_command.specs.Answers.{Answers}
 use Rattle.rtdb_command.specs.Journals.{IsAnswerFor, JournalAnswers, HasFront, CanJournal, IsGoodFor}
 use Rattle.rtdb_command.proofs.Telling.{admitted_ok, asked_of_all}

@@ -14,22 +14,22 @@ use Rattle.update_rates.specs.Refusal.{rate_refusal}
 use Rattle.scenario.specs.Shown.{Shown, set_of}
 use Rattle.scenario_reader.specs.declared.error.ScenarioError.{ScenarioError}
 use Rattle.scenario_reader.specs.Reading.{data_of, scenario_in}
-use Rattle.report_verdict.specs.declared.verdict.Verdict.TheVariants as verdicts
-use Rattle.report_verdict.specs.Verdict.{IsVerdict}
-use Rattle.report_verdict.proofs.OneOnly.{one_verdict}
+use Rattle.run_report.specs.declared.verdict.Verdict.TheVariants as verdicts
+use Rattle.run_report.specs.Verdict.{IsVerdict}
+use Rattle.run_report.proofs.OneOnly.{one_verdict}
 use Rattle.report_out.specs.Written.{WroteFront}
 use Rattle.command_words.specs.declared.command.Command.{Command}
 use Rattle.command_words.specs.declared.command.Command.TheVariants.{Plain, Run, Load}
 use Rattle.command_words.specs.declared.command.PlainCommand.TheVariants.{Ceilings, Admit, Replay, Gen, Rates, Margin}
-use Rattle.command_replies.specs.declared.status.Status.{Status}
-use Rattle.command_replies.specs.declared.status.Status.TheVariants as statuses
+use Rattle.process_edge.specs.declared.status.Status.{Status}
+use Rattle.process_edge.specs.declared.status.Status.TheVariants as statuses
 use Rattle.command_replies.specs.Verdicts.{status_of}
 use Rattle.command_replies.specs.Replies.{Reply, Compiling, Admitting, CeilingsReply, AdmitReply, VerdictReply}
 use Rattle.command_replies.specs.Analysis.{Rating, RatesReply, MarginReply}
 use Rattle.scenario_run.specs.Replies.{RunReply, RunText}
-use Rattle.command_input.specs.Taken.{scenario_limit, report_limit, TakesAll, InputReply}
-use Rattle.command_input.specs.Scenarios.{Reading, DataReply, AskedReply, names_in, IsReadFrom}
-use Rattle.command_input.specs.Answers.{Judged, CutShort}
+use Rattle.command_replies.specs.Taken.{scenario_limit, report_limit, TakesAll, InputReply}
+use Rattle.command_replies.specs.Scenarios.{Reading, DataReply, AskedReply, names_in, IsReadFrom}
+use Rattle.command_replies.specs.Answers.{Judged, CutShort}
 use Rattle.rtdb_command.specs.Replies.{JudgedReply}
 use Rattle.rtdb_command.specs.Answers.{IsAnswer, Answers, IsRead, IsReadAdmitted, IsReadRated, IsGood}
 

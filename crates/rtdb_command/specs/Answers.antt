@@ -7,17 +7,17 @@ use Rattle.set_admission.specs.Admission.{refusal}
 use Rattle.update_rates.specs.Refusal.{rate_refusal}
 use Rattle.scenario.specs.Shown.{Shown, set_of}
 use Rattle.scenario_reader.specs.Reading.{data_of, scenario_in}
-use Rattle.report_verdict.specs.declared.verdict.Verdict.TheVariants as verdicts
-use Rattle.report_verdict.specs.Verdict.{IsVerdict}
+use Rattle.run_report.specs.declared.verdict.Verdict.TheVariants as verdicts
+use Rattle.run_report.specs.Verdict.{IsVerdict}
 use Rattle.command_words.specs.declared.command.Command.{Command}
 use Rattle.command_words.specs.declared.command.Command.TheVariants.{Plain, Run, Load}
 use Rattle.command_words.specs.declared.command.PlainCommand.TheVariants.{Ceilings, Admit, Replay, Gen, Rates, Margin}
 use Rattle.command_words.specs.Commands.{command_of}
-use Rattle.command_replies.specs.declared.status.Status.{Status}
-use Rattle.command_replies.specs.declared.status.Status.TheVariants as statuses
+use Rattle.process_edge.specs.declared.status.Status.{Status}
+use Rattle.process_edge.specs.declared.status.Status.TheVariants as statuses
 use Rattle.command_replies.specs.Replies.{Reply}
-use Rattle.command_input.specs.Taken.{scenario_limit, report_limit, TakesAll, TakesNone}
-use Rattle.command_input.specs.Answers.{Judged, Told, CutShort}
+use Rattle.command_replies.specs.Taken.{scenario_limit, report_limit, TakesAll, TakesNone}
+use Rattle.command_replies.specs.Answers.{Judged, Told, CutShort}
 use Rattle.rtdb_command.specs.Replies.{Replies}
 
 -- the commands that `rtdb_plain` takes

@@ -3,19 +3,19 @@ use Rattle.std.specs.Prelude.{◌≡◌, ◌⊎◌, ℕ, Bool, true, false, not,
 use Rattle.std.specs.Str.{bytes_eq}
 use Rattle.std.specs.Io.KnownBytes.{Keeps}
 use Rattle.step_journal.specs.declared.entry.Entry.{Entry}
-use Rattle.sim_history.specs.Sim.{IsSim}
+use Rattle.law_histories.specs.Sim.{IsSim}
 use Rattle.scenario.specs.Shown.{Shown, set_of}
-use Rattle.workload_laws.specs.Runs.{workload_of}
-use Rattle.command_replies.specs.declared.status.Status.{Status}
-use Rattle.command_replies.specs.declared.status.Status.TheVariants as statuses
+use Rattle.law_runs.specs.Runs.{workload_of}
+use Rattle.process_edge.specs.declared.status.Status.{Status}
+use Rattle.process_edge.specs.declared.status.Status.TheVariants as statuses
 use Rattle.command_replies.specs.Replies.{Reply}
 use Rattle.durable_journal.specs.Log.{OpensAs}
-use Rattle.journal_out.specs.Compared.{Begins}
-use Rattle.journal_run.specs.Replies.{JournalReply, HoldsRun, first_eager}
-use Rattle.journal_run.specs.Left.{IsKept, LeavesSo}
-use Rattle.command_input.specs.Taken.{scenario_limit, TakesAll, TakesNone}
-use Rattle.command_input.specs.Scenarios.{AskedReply, IsReadFrom}
-use Rattle.command_input.specs.Answers.{Judged, Told, CutShort}
+use Rattle.scenario_run.specs.Compared.{Begins}
+use Rattle.scenario_run.specs.JournalReplies.{JournalReply, HoldsRun, first_eager}
+use Rattle.scenario_run.specs.JournalLeft.{IsKept, LeavesSo}
+use Rattle.command_replies.specs.Taken.{scenario_limit, TakesAll, TakesNone}
+use Rattle.command_replies.specs.Scenarios.{AskedReply, IsReadFrom}
+use Rattle.command_replies.specs.Answers.{Judged, Told, CutShort}
 use Rattle.rtdb_command.specs.Replies.{usage_text}
 use Rattle.rtdb_command.specs.Answers.{IsReadAdmitted, IsWithin}
 

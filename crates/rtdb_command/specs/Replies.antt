@@ -6,11 +6,11 @@ use Rattle.scenario_writer.specs.Generated.{generated_of}
 use Rattle.command_words.specs.declared.command.Command.{Command}
 use Rattle.command_words.specs.declared.command.Command.TheVariants.{Plain, Run, Load}
 use Rattle.command_words.specs.declared.command.PlainCommand.TheVariants.{Ceilings, Admit, Replay, Gen, Rates, Margin}
-use Rattle.command_replies.specs.declared.status.Status.TheVariants as statuses
+use Rattle.process_edge.specs.declared.status.Status.TheVariants as statuses
 use Rattle.command_replies.specs.Replies.{Reply, Written, CeilingsReply, AdmitReply, VerdictReply}
 use Rattle.command_replies.specs.Analysis.{RatesReply, MarginReply}
-use Rattle.command_input.specs.Taken.{report_limit, InputReply}
-use Rattle.command_input.specs.Scenarios.{AskedReply}
+use Rattle.command_replies.specs.Taken.{report_limit, InputReply}
+use Rattle.command_replies.specs.Scenarios.{AskedReply}
 use Rattle.scenario_run.specs.Replies.{RunReply, LoadReply}
 
 -- the answer to the bytes of a report

@@ -2,20 +2,19 @@
 ghost use Rattle.std.specs.Prelude.{◌≡◌, ◌⊎◌, ◌↔◌, true, IfOk, IfErr, IfSome, IsErrOf, IsSome, IsTrue};
 ghost use Rattle.io_edge.specs.Causes.{Rose};
 ghost use Rattle.command_replies.specs.Causes.{HasReadCause, HasWriteCause};
-ghost use Rattle.journal_run.specs.Replies.{LeavesDisk};
-ghost use Rattle.journal_run.specs.Left.{IsSameFile};
+ghost use Rattle.scenario_run.specs.JournalReplies.{LeavesDisk};
+ghost use Rattle.scenario_run.specs.JournalLeft.{IsSameFile};
 ghost use Rattle.rtdb_command.specs.Journals.{is_path as is_path_of, is_journal as is_journal_of, IsAnswerFor, JournalAnswers, HoldsFrom, KeptFrom, IsGoodFor, IsMute};
 
 use crate::top::answer_no_command;
-use command_input::scenario_from;
-use command_replies::{Reply, Status, Unanswered};
-use command_words::Word;
+use command_replies::{Reply, Unanswered, scenario_from};
 use durable_disk::Disk;
 use durable_journal::opened_again;
 use io_edge::{Sink, Source, write_all};
-use journal_run::run_journal;
-use run_fault::RunFault;
-use sim_history::one_run_at_most;
+use law_histories::one_run_at_most;
+use process_edge::{Status, Word};
+use run_out::RunFault;
+use scenario_run::run_journal;
 use std::alloc::Global;
 
 fn is_path(word: &[u8]) -> bool

@@ -4,7 +4,6 @@
 mod journal;
 mod top;
 
-pub use command_replies::Status;
-pub use command_words::Word;
 pub use journal::{is_journal, rtdb_journal};
+pub use process_edge::{Status, Word};
 pub use top::{rtdb, rtdb_plain};

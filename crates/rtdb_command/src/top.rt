@@ -7,26 +7,25 @@ ghost use Rattle.scenario.specs.Shown.{shown};
 ghost use Rattle.scenario.specs.Scenarios.{IsScenario};
 ghost use Rattle.report_out.specs.Written.{Wrote, WroteFront};
 ghost use Rattle.command_words.specs.Commands.{command_of, IsInRange};
-ghost use Rattle.command_input.specs.Answers.{Told, CutShort};
+ghost use Rattle.command_replies.specs.Answers.{Told, CutShort};
 ghost use Rattle.rtdb_command.specs.Replies.{generated_text};
 ghost use Rattle.rtdb_command.specs.Answers.{plain_command_of, IsAnswer, TakesNoInput, RanOut, Answers, IsGood};
 
-use command_input::scenario_from;
 use command_replies::{
-    REPORT_LIMIT, Reply, Status, Unanswered, bounds, ceilings, margins, rates, refused, replayed,
-    written,
+    REPORT_LIMIT, Reply, Unanswered, bounds, ceilings, margins, rates, refused, replayed,
+    scenario_from, written,
 };
-use command_words::{Command, PlainCommand, Word, read_command};
+use command_words::{Command, PlainCommand, read_command};
 use io_edge::{ReadError, Sink, Source, read_all, write_all};
+use process_edge::{Status, Word};
 use rt_base::OutOfMemory;
-use run_fault::RunFault;
+use run_out::{RunFault, Workers};
 use scenario_run::{load, run_admitted, run_trial};
 use scenario_writer::{generated, write_scenario};
 use std::alloc::Global;
 use std::sync::Wait;
 use std::thread::Threads;
 use txn_threads::Gate;
-use worker_count::Workers;
 
 const USAGE: &[u8] =
     b"usage: rtdb ceilings | admit | run [--trial] [--workers N] | replay | gen N | load N [--workers K] | rates | margin | journal PATH\n";

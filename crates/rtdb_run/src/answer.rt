@@ -3,7 +3,7 @@ ghost use Rattle.std.specs.Prelude.{◌≡◌, ◌⊎◌, true, false, option_ma
 ghost use Rattle.io_edge.specs.Causes.{Rose};
 ghost use Rattle.command_replies.specs.Causes.{HasReadCause, HasWriteCause};
 ghost use Rattle.command_words.specs.Commands.{command_of};
-ghost use Rattle.journal_run.specs.Replies.{LeavesDisk};
+ghost use Rattle.scenario_run.specs.JournalReplies.{LeavesDisk};
 ghost use Rattle.rtdb_command.specs.Answers.{Answers, IsGood, TakesNoInput};
 ghost use Rattle.rtdb_command.specs.Journals.{is_journal as is_journal_of, JournalAnswers, HoldsFrom, IsGoodFor};
 ghost use Rattle.rtdb_run.specs.Asked.{is_for_journal as is_for_journal_of, path_in};

@@ -4,8 +4,8 @@ use Rattle.std.specs.Option.{unwrap_or}
 use Rattle.rt_base.specs.declared.name.Names.{Names}
 use Rattle.txn_set.specs.Set.{Set, txn_of, no_txn}
 use Rattle.txn_set.specs.Ceilings.{blocking}
-use Rattle.deadline_laws.specs.Response.{response}
-use Rattle.report_lines.specs.Texts.{bound_line}
+use Rattle.law_times.specs.Response.{response}
+use Rattle.report_text.specs.Texts.{bound_line}
 use Rattle.run_report.specs.Bounds.{bounds_line}
 
 -- a transaction's line by its answers

@@ -1,7 +1,7 @@
 -- The declarations of a head may be compiled, and are kept as they are.
 use Rattle.txn_compiler.specs.Kept.{IsInRange, AreLists}
-use Rattle.report_head.specs.declared.read.Head.{Head}
-use Rattle.report_head.specs.IsHead.{IsHead, set_of}
+use Rattle.report_text.specs.declared.read.Head.{Head}
+use Rattle.report_text.specs.IsHead.{IsHead, set_of}
 
 pub in_range : (head : Head) → IsHead head → IsInRange (set_of head)
 in_range head h = record {

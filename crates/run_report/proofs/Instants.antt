@@ -8,8 +8,8 @@ use Rattle.step_journal.specs.State.{State, Row, opening}
 use Rattle.rt_base.specs.declared.operation.Op.{Op}
 use Rattle.step_journal.specs.Step.{with_step}
 use Rattle.step_journal.specs.History.{state_after, IsLegal, state_of}
-use Rattle.history_laws.proofs.Histories.{arrived_now, wait_now, plan_now}
-use Rattle.counting_laws.specs.Counting.{TimeIsBounded}
+use Rattle.law_histories.proofs.Histories.{arrived_now, wait_now, plan_now}
+use Rattle.law_histories.specs.Counting.{TimeIsBounded}
 use Rattle.job_rows.proofs.Going.{state_next, next_legal}
 use Rattle.job_rows.proofs.Moved.{Moves, moves}
 use Rattle.run_report.specs.Counts.{instant_after}

@@ -27,17 +27,17 @@ use Rattle.step_journal.specs.Running.{running, of_job}
 use Rattle.step_journal.specs.Instant.{with_end, with_late, is_due, with_cancellations, with_releases, arrived}
 use Rattle.step_journal.specs.Step.{Event, plan, ask, idle, given, may_plan, with_plan, may_ask, lock_refusal, row_after, end_by, settled, after_effect, with_step, end_of, with_wait, answered, asked, next_tick, idled, step}
 use Rattle.step_journal.specs.History.{event_of, state_given, entry_given, state_after, states_after, IsLegalFrom, IsLegal, state_of}
-use Rattle.history_laws.proofs.Members.{In, filter_in}
-use Rattle.history_laws.proofs.Lists.{all_at, any_in, find_some, filter_map_in}
-use Rattle.history_laws.proofs.Invariant.{IsPending, in_range, refusal_is, running_is}
-use Rattle.history_laws.proofs.Holding.{append_in}
-use Rattle.history_laws.proofs.Calendar.{named_from, sorted_in}
-use Rattle.history_laws.proofs.Histories.{may_plan_is}
-use Rattle.history_laws.proofs.Never.{refused_all, refusal_at, legal_sound}
-use Rattle.history_laws.proofs.DelayAll.{legal_delay}
-use Rattle.history_laws.proofs.Pushes.{pushed}
+use Rattle.law_histories.proofs.Members.{In, filter_in}
+use Rattle.law_histories.proofs.Lists.{all_at, any_in, find_some, filter_map_in}
+use Rattle.law_histories.proofs.Invariant.{IsPending, in_range, refusal_is, running_is}
+use Rattle.law_histories.proofs.Holding.{append_in}
+use Rattle.law_histories.proofs.Calendar.{named_from, sorted_in}
+use Rattle.law_histories.proofs.Histories.{may_plan_is}
+use Rattle.law_histories.proofs.Never.{refused_all, refusal_at, legal_sound}
+use Rattle.law_histories.proofs.DelayAll.{legal_delay}
+use Rattle.law_histories.proofs.Pushes.{pushed}
 use Rattle.journal_text.specs.Lines.{Answers, KnownOp, KnownEnd, KnownOver, IsWritable}
-use Rattle.report_lines.specs.Texts.{NamesSet}
+use Rattle.report_text.specs.Texts.{NamesSet}
 use Rattle.run_report.specs.Legal.{LegalHasLines}
 
 parts : (a b : Bool) → (a && b) ≡ true → (a ≡ true) × (b ≡ true)

@@ -15,15 +15,15 @@ use Rattle.step_journal.specs.State.{Row, pending, prio_of}
 use Rattle.step_journal.specs.LockRule.{in_falling_priority}
 use Rattle.step_journal.specs.Timing.{Span, span_of, delayer_in, delayers_within, delayers}
 use Rattle.step_journal.specs.History.{IsLegal, state_of}
-use Rattle.history_laws.proofs.Members.{In, in_at, pending_in}
-use Rattle.history_laws.proofs.Lists.{all_at, filter_map_in}
-use Rattle.history_laws.proofs.Invariant.{in_range}
-use Rattle.history_laws.proofs.Calendar.{sorted_in}
-use Rattle.history_laws.proofs.Never.{legal_sound}
-use Rattle.history_laws.proofs.SerialAll.{legal_serial}
+use Rattle.law_histories.proofs.Members.{In, in_at, pending_in}
+use Rattle.law_histories.proofs.Lists.{all_at, filter_map_in}
+use Rattle.law_histories.proofs.Invariant.{in_range}
+use Rattle.law_histories.proofs.Calendar.{sorted_in}
+use Rattle.law_histories.proofs.Never.{legal_sound}
+use Rattle.law_histories.proofs.SerialAll.{legal_serial}
 use Rattle.job_rows.specs.Rows.{delay_of, with_delay, ended_row, pending_row}
 use Rattle.journal_text.specs.Lines.{IsWritable}
-use Rattle.report_lines.specs.Texts.{NamesSet, KnownBy, KnownClose, KnownRow}
+use Rattle.report_text.specs.Texts.{NamesSet, KnownBy, KnownClose, KnownRow}
 use Rattle.run_report.specs.Legal.{LegalHasRows}
 use Rattle.run_report.proofs.LegalLines.{legal_told}
 

@@ -5,3 +5,11 @@ pub mod LegalLines
 pub mod LegalRows
 pub mod Summed
 pub mod Writing
+pub mod Comparing
+pub mod WholeVerdict
+pub mod Documents
+pub mod Judging
+pub mod OneOnly
+pub mod Sound
+pub mod Between
+pub mod Parts

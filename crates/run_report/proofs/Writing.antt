@@ -11,7 +11,7 @@ use Rattle.board.proofs.Counts.{items_count}
 use Rattle.job_rows.specs.Rows.{job_rows}
 use Rattle.job_rows.specs.Upkeep.{RowsSeen, Follows}
 use Rattle.journal_text.specs.Lines.{IsWritable}
-use Rattle.report_lines.specs.Texts.{KnownRow, NamesSet}
+use Rattle.report_text.specs.Texts.{KnownRow, NamesSet}
 use Rattle.run_report.specs.Report.{Writes, Closes}
 use Rattle.run_report.proofs.LegalLines.{legal_lines}
 use Rattle.run_report.proofs.LegalRows.{legal_rows}

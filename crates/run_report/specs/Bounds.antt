@@ -8,8 +8,8 @@ use Rattle.txn_set.specs.Set.{Set}
 use Rattle.txn_set.specs.Ceilings.{blocking}
 use Rattle.journal_text.specs.Lines.{◌⊕◌}
 use Rattle.set_admission.specs.Bounds.{response_of, age_of}
-use Rattle.report_lines.specs.Rows.{numbered}
-use Rattle.report_lines.specs.Texts.{bound_line, age_line}
+use Rattle.report_text.specs.Rows.{numbered}
+use Rattle.report_text.specs.Texts.{bound_line, age_line}
 
 -- the blocking and the response of each transaction, in list order
 abbrev pub bounds_line : Names → Set → ℕ → TxnDecl → List ℕ

@@ -7,7 +7,7 @@ use Rattle.step_journal.specs.declared.entry.Entry.{Entry}
 use Rattle.step_journal.specs.History.{IsLegal}
 use Rattle.job_rows.specs.Rows.{job_rows}
 use Rattle.journal_text.specs.Lines.{IsWritable}
-use Rattle.report_lines.specs.Texts.{NamesSet, KnownRow}
+use Rattle.report_text.specs.Texts.{NamesSet, KnownRow}
 
 abbrev pub LegalHasLines : Type 0
 LegalHasLines =

@@ -3,3 +3,7 @@ pub mod Counts
 pub mod Legal
 pub mod Report
 pub mod Summary
+pub mod Compared
+pub mod Verdict
+pub mod Laws
+pub mod Judged

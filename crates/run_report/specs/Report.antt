@@ -9,7 +9,7 @@ use Rattle.job_rows.specs.declared.row.JobRow.{JobRow}
 use Rattle.job_rows.specs.Rows.{job_rows}
 use Rattle.job_rows.specs.Upkeep.{RowsSeen, Follows, GoesOn}
 use Rattle.journal_text.specs.Lines.{◌⊕◌}
-use Rattle.report_lines.specs.Texts.{declarations, ceilings_of, entries_text, jobs_text, finals_text, NamesSet}
+use Rattle.report_text.specs.Texts.{declarations, ceilings_of, entries_text, jobs_text, finals_text, NamesSet}
 use Rattle.run_report.specs.Bounds.{limits_of}
 
 -- bounds and ages, in mode admitted alone

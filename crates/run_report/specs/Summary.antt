@@ -9,11 +9,11 @@ use Rattle.step_journal.specs.declared.entry.Entry.{Entry}
 use Rattle.step_journal.specs.declared.entry.Entry.TheVariants.{Planned, Step, Blocked, Idle}
 use Rattle.step_journal.specs.declared.entry.EndedJob.{EndedJob}
 use Rattle.step_journal.specs.History.{state_of}
-use Rattle.line_fields.specs.Cuts.{field}
+use Rattle.journal_text.specs.Cuts.{field}
 use Rattle.job_rows.specs.Rows.{job_rows}
 use Rattle.job_rows.specs.Upkeep.{is_plan}
 use Rattle.journal_text.specs.Lines.{◌⊕◌}
-use Rattle.report_lines.specs.Texts.{line_end}
+use Rattle.report_text.specs.Texts.{line_end}
 
 -- by the end: committed, overrun, late, with values that are stale or apart, or quit
 abbrev pub by_end : {A : Type 0} → A → A → A → A → A → End → A

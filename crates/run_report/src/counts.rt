@@ -5,8 +5,8 @@ ghost use Rattle.txn_set.specs.Ceilings.{greatest};
 ghost use Rattle.step_journal.specs.History.{IsLegal, state_of};
 ghost use Rattle.run_report.specs.Counts.{with_close, with_entry, row_is, AreEnds, AreKinds, FewEnds, FewKinds, instant_after};
 
-use counting_laws::counting;
 use job_rows::JobRow;
+use law_histories::counting;
 use rt_base::{End, Tick};
 use step_journal::Entry;
 use txn_set::CompiledSet;

@@ -1,10 +1,10 @@
 //! The declared set of a report.
 ghost use Rattle.std.specs.Prelude.{◌≡◌, IfOk, IfErr, None};
 ghost use Rattle.txn_compiler.specs.Refusal.{Refuses, compile_refusal};
-ghost use Rattle.report_head.specs.IsHead.{IsHead, set_of};
+ghost use Rattle.report_text.specs.IsHead.{IsHead, set_of};
 
 use name_table::NameTables;
-use report_head::Head;
+use report_text::Head;
 use std::alloc::Global;
 use txn_compiler::{CompileError, compile, kept_as_declared};
 use txn_set::CompiledSet;

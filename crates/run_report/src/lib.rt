@@ -1,28 +1,24 @@
-//! Reports on sets and runs.
+//! Bounds, reports and summaries as text, and the verdict on a document that is to be a report.
 #![tactic(auto)]
 
-ghost use Rattle.run_report.specs.Legal.{LegalHasLines, LegalHasRows};
-
+mod compared;
 mod counts;
 mod declared;
+mod judged;
+mod laws;
 mod limits;
 mod summing;
+mod verdict;
+mod verdict_laws;
 mod whole;
 mod writer;
 
 pub use declared::compile_head;
+pub use judged::{Judged, LegalReport, ReportedSet};
+pub use laws::{legal_has_lines, legal_has_rows};
 pub use limits::{admit_text, ceilings_text};
 pub use summing::summary;
+pub use verdict::{SetError, Verdict, check_document, judge_document};
+pub use verdict_laws::{legal_is_report, one_verdict_at_most};
 pub use whole::{report, report_ends, report_with_items};
 pub use writer::ReportWriter;
-
-/// Every entry of a legal history of a compiled set has a line: its ids have names, and its outcome answers its operation.
-pub fn legal_has_lines()
-    ensures { LegalHasLines }
-{}
-
-/// The row of each job of a legal history of a compiled set has a line: its ids have names, and it did not end before its
-/// release.
-pub fn legal_has_rows()
-    ensures { LegalHasRows }
-{}

@@ -1,10 +1,10 @@
 //! The ceilings and the bounds of a set.
 ghost use Rattle.std.specs.Prelude.{◌≡◌, ◌<◌, ◌++◌, length, OnOk, IfOk, Option};
-ghost use Rattle.report_lines.specs.Rows.{numbered};
-ghost use Rattle.report_lines.specs.Texts.{ceilings_of, NamesSet};
+ghost use Rattle.report_text.specs.Rows.{numbered};
+ghost use Rattle.report_text.specs.Texts.{ceilings_of, NamesSet};
 ghost use Rattle.run_report.specs.Bounds.{bounds_line, age_of_item, ages_line, limits_of, admitted_of};
 
-use report_lines::{add_age, add_bound, add_ceilings};
+use report_text::{add_age, add_bound, add_ceilings};
 use rt_base::{ItemId, Names, OutOfMemory, TxId};
 use set_admission::AdmittedSet;
 use std::alloc::Global;

@@ -5,7 +5,7 @@ ghost use Rattle.run_report.specs.Summary.{counted, jobs_line, entries_line, las
 
 use crate::counts::{Ends, Kinds, count_ends, count_kinds, last_instant, longest_delay};
 use job_rows::rows_of;
-use line_fields::{put, put_field, put_unsigned};
+use journal_text::{put, put_field, put_unsigned};
 use rt_base::{OutOfMemory, Tick};
 use std::alloc::Global;
 use step_journal::Entry;

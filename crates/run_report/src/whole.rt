@@ -5,7 +5,7 @@ ghost use Rattle.step_journal.specs.declared.entry.Entry.{Entry as Noted};
 ghost use Rattle.step_journal.specs.History.{IsLegal, state_of};
 ghost use Rattle.job_rows.specs.Rows.{job_rows};
 ghost use Rattle.job_rows.specs.Upkeep.{Follows};
-ghost use Rattle.report_lines.specs.Texts.{NamesSet, whole_entry_line};
+ghost use Rattle.report_text.specs.Texts.{NamesSet, whole_entry_line};
 ghost use Rattle.run_report.specs.Report.{Writes, opening_text, closing_text, report_of};
 
 use crate::writer::{ReportWriter, add_closing, add_opening};

@@ -7,14 +7,14 @@ ghost use Rattle.step_journal.specs.History.{IsLegal};
 ghost use Rattle.job_rows.specs.Rows.{job_rows};
 ghost use Rattle.job_rows.specs.Upkeep.{Follows};
 ghost use Rattle.journal_text.specs.Lines.{entry_line};
-ghost use Rattle.report_lines.specs.Texts.{NamesSet, KnownRow};
+ghost use Rattle.report_text.specs.Texts.{NamesSet, KnownRow};
 ghost use Rattle.run_report.specs.Report.{opening_text, closing_text, limits_text, Writes, Closes};
 
 use crate::limits::add_limits;
 use item_model::{Items, Stored};
 use job_rows::{JobRow, JobRows};
 use journal_text::{Numerals, write_entry};
-use report_lines::{add_ceilings, add_declarations, add_finals, add_jobs};
+use report_text::{add_ceilings, add_declarations, add_finals, add_jobs};
 use rt_base::{Names, OutOfMemory};
 use set_admission::AdmittedSet;
 use std::alloc::Global;

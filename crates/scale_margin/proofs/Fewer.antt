@@ -12,9 +12,9 @@ use Rattle.item_model.specs.Kinds.{is_dated, is_derived}
 use Rattle.txn_set.specs.declared.decl.TxnDecl.{TxnDecl}
 use Rattle.txn_set.specs.Set.{Set, no_txn, txn_of, names_item}
 use Rattle.txn_set.specs.Ceilings.{greatest, may_block, blocking}
-use Rattle.deadline_laws.specs.Response.{higher_demand, demand, HoldsDemand, response, IsResponse}
-use Rattle.deadline_laws.proofs.Demand.{response_none}
-use Rattle.fresh_laws.specs.Ages.{greatest_read, writer_of, age_by, age_bound, IsAdmittedBy}
+use Rattle.law_times.specs.Response.{higher_demand, demand, HoldsDemand, response, IsResponse}
+use Rattle.law_times.proofs.Demand.{response_none}
+use Rattle.law_times.specs.Ages.{greatest_read, writer_of, age_by, age_bound, IsAdmittedBy}
 use Rattle.set_admission.specs.Bounds.{response_of, age_of, MeetsAdmission}
 use Rattle.set_admission.proofs.Found.{response_of-is, response_of-le}
 use Rattle.scale_margin.specs.Scaled.{StepCounts, counted_txn, counted, AreFewer}

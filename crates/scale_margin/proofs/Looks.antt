@@ -11,7 +11,7 @@ use Rattle.txn_compiler.specs.Refusal as compiling
 use Rattle.txn_compiler.specs.Kept.{set_of, IsInRange, AreLists, kept}
 use Rattle.txn_compiler.proofs.Keeping.{kept-as-declared}
 use Rattle.txn_compiler.proofs.Verdict.{compiled-unless-refused}
-use Rattle.fresh_laws.specs.Ages.{IsAdmitted}
+use Rattle.law_times.specs.Ages.{IsAdmitted}
 use Rattle.set_admission.specs.declared.error.AdmitError.{AdmitError}
 use Rattle.set_admission.specs.declared.error.AdmitError.TheVariants as admitting
 use Rattle.set_admission.specs.Admission.{refusal, Refuses}

@@ -9,7 +9,7 @@ use Rattle.item_model.specs.Kinds.{is_dated, is_derived}
 use Rattle.txn_set.specs.declared.decl.TxnDecl.{TxnDecl}
 use Rattle.txn_set.specs.Set.{Set, no_txn, txn_of, may_read, may_write}
 use Rattle.txn_set.specs.Ceilings.{greatest, prios, write_ceiling, absolute_ceiling, may_block}
-use Rattle.fresh_laws.specs.Ages.{greatest_read, first_writer, writer_of, age_by}
+use Rattle.law_times.specs.Ages.{greatest_read, first_writer, writer_of, age_by}
 use Rattle.scale_margin.specs.Scaled.{StepCounts, counted_txn, counted}
 
 pub field_at : {A : Type 0} (f : TxnDecl → A) (c : StepCounts) → ((t : TxnDecl) → f (counted_txn c t) ≡ f t) → (ts : List TxnDecl) (tx : ℕ)

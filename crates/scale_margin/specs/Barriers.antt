@@ -8,7 +8,7 @@ use Rattle.txn_compiler.specs.declared.error.Which.TheVariants.{Steps}
 use Rattle.txn_compiler.specs.declared.error.CompileError.{CompileError}
 use Rattle.txn_compiler.specs.declared.error.CompileError.TheVariants.{BadTimes, OutOfMemory as CompilerWant}
 use Rattle.txn_compiler.specs.Refusal.{given, first_refusal, compile_refusal}
-use Rattle.fresh_laws.specs.Ages.{IsAdmitted}
+use Rattle.law_times.specs.Ages.{IsAdmitted}
 use Rattle.set_admission.specs.declared.error.AdmitError.TheVariants.{OutOfMemory as AdmissionWant}
 use Rattle.set_admission.specs.Admission.{refusal}
 use Rattle.scale_margin.specs.declared.barrier.Barrier.{Barrier}

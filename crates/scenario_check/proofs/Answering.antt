@@ -2,11 +2,11 @@
 use Rattle.std.proofs.Common.{◌≡◌, ℕ, Bool, List, [], Option, Some, None, Result, Ok, Err, refl, sym, ap, subst, ◌∙◌}
 use Rattle.serde_json.specs.Data.{Data}
 use Rattle.rt_base.specs.declared.name.Names.{Names}
-use Rattle.command_replies.specs.declared.status.Status.{Status}
+use Rattle.process_edge.specs.declared.status.Status.{Status}
 use Rattle.scenario.specs.Shown.{Shown}
 use Rattle.scenario_reader.specs.declared.error.ScenarioError.{ScenarioError}
 use Rattle.scenario_reader.specs.Reading.{data_of, scenario_in}
-use Rattle.scenario_warnings.specs.declared.kinds.Warning.{Warning}
+use Rattle.scenario_check.specs.declared.kinds.Warning.{Warning}
 use Rattle.scenario_check.specs.declared.found.Refusal.{Refusal}
 use Rattle.scenario_check.specs.declared.found.Refusal.TheVariants.{Scenario}
 use Rattle.scenario_check.specs.declared.found.Verdict.{Verdict}

@@ -8,8 +8,8 @@ use Rattle.txn_compiler.specs.declared.error.CompileError.{CompileError}
 use Rattle.set_admission.specs.Admission.{refusal}
 use Rattle.set_admission.specs.declared.error.AdmitError.{AdmitError}
 use Rattle.scenario.specs.Shown.{Shown}
-use Rattle.scenario_warnings.specs.declared.kinds.Warning.{Warning}
-use Rattle.scenario_warnings.specs.Warnings.{warnings_of}
+use Rattle.scenario_check.specs.declared.kinds.Warning.{Warning}
+use Rattle.scenario_check.specs.Warnings.{warnings_of}
 use Rattle.scenario_check.specs.declared.found.Refusal.{Refusal}
 use Rattle.scenario_check.specs.declared.found.Refusal.TheVariants.{Compile, Admit}
 use Rattle.scenario_check.specs.Verdicts.{admit_refusal, set_refusal, is_small, told_warnings}

@@ -4,8 +4,8 @@ use Rattle.rt_base.specs.declared.ids.ItemId.{ItemId}
 use Rattle.rt_base.specs.declared.ids.TxId.{TxId}
 use Rattle.rt_base.specs.declared.name.Names.{Names}
 use Rattle.refusal_lines.specs.Causes.{scenario_cause, compile_cause, admit_cause, item, txn}
-use Rattle.scenario_warnings.specs.declared.kinds.Warning.{Warning}
-use Rattle.scenario_warnings.specs.declared.kinds.Warning.TheVariants.{NoScript, NoEnd, LongScript, UnreadLast, NotPeriodic, NeverReleased, Unread, Unused}
+use Rattle.scenario_check.specs.declared.kinds.Warning.{Warning}
+use Rattle.scenario_check.specs.declared.kinds.Warning.TheVariants.{NoScript, NoEnd, LongScript, UnreadLast, NotPeriodic, NeverReleased, Unread, Unused}
 use Rattle.scenario_check.specs.declared.found.Finding.{Finding}
 use Rattle.scenario_check.specs.declared.found.Refusal.{Refusal}
 use Rattle.scenario_check.specs.declared.found.Refusal.TheVariants.{Scenario, Compile, Admit}

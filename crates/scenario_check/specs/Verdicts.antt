@@ -12,8 +12,8 @@ use Rattle.scenario_reader.specs.declared.error.ScenarioError.TheVariants.{NotJs
 use Rattle.scenario_reader.specs.Reading.{scenario_in}
 use Rattle.txn_compiler.specs.Refusal.{compile_refusal}
 use Rattle.set_admission.specs.Admission.{refusal}
-use Rattle.scenario_warnings.specs.declared.kinds.Warning.{Warning}
-use Rattle.scenario_warnings.specs.Warnings.{warnings_of}
+use Rattle.scenario_check.specs.declared.kinds.Warning.{Warning}
+use Rattle.scenario_check.specs.Warnings.{warnings_of}
 use Rattle.scenario_check.specs.declared.found.Refusal.{Refusal}
 use Rattle.scenario_check.specs.declared.found.Refusal.TheVariants.{Scenario, Compile, Admit}
 use Rattle.scenario_check.specs.declared.found.Verdict.{Verdict}

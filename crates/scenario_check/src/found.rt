@@ -1,7 +1,7 @@
 //! Findings.
+use crate::kinds::Warning;
 use rt_base::Names;
 use scenario_reader::ScenarioError;
-use scenario_warnings::Warning;
 use set_admission::AdmitError;
 use txn_compiler::CompileError;
 

@@ -5,17 +5,18 @@ ghost use Rattle.scenario.specs.Shown.{shown, set_of};
 ghost use Rattle.scenario.specs.Scenarios.{IsScenario};
 ghost use Rattle.scenario_forms.specs.Root.{forms_view};
 ghost use Rattle.scenario_reader.specs.Reading.{data_of, scenario_in};
-ghost use Rattle.scenario_warnings.specs.Warnings.{warnings_of};
+ghost use Rattle.scenario_check.specs.Warnings.{warnings_of};
 ghost use Rattle.scenario_check.specs.Verdicts.{names_of_forms, names_of_data, names_by, is_small as is_small_scenario, admit_refusal, set_refusal, told_warnings, IsVerdictOn, IsVerdictIn, IsVerdict};
 
 use crate::found::{Refusal, Verdict};
+use crate::kinds::Warning;
+use crate::listing::warnings;
 use command_replies::{admitted, compiled, no_names};
 use item_model::ItemDecl;
 use rt_base::{List, Names, OutOfMemory, TogetherDecl};
 use scenario::Scenario;
 use scenario_forms::{FormError, Forms, ItemTable, TextError, TxnTable, read_forms, read_value};
 use scenario_reader::{ScenarioError, read_scenario};
-use scenario_warnings::{Warning, warnings};
 use std::alloc::Global;
 use txn_compiler::{CompiledSet, TxnDecl};
 

@@ -5,13 +5,13 @@ ghost use Rattle.scenario_check.specs.Findings.{what as what_of, AreOthers, AreT
 
 use crate::faults::REPEATED;
 use crate::found::{Finding, Refusal, What};
+use crate::kinds::Warning;
 use crate::lines::{lines, placed};
 use crate::place_of::{refusal_place, refusal_reason, warning_place, warning_reason};
 use json_places::{Sheet, json_fault};
 use rt_base::{Names, OutOfMemory};
 use scenario_faults::{Places, repeated};
 use scenario_reader::ScenarioError;
-use scenario_warnings::Warning;
 
 // A byte of the text, and why something is amiss there.
 #[derive(Clone, Copy)]

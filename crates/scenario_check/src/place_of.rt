@@ -1,9 +1,9 @@
 //! The place of a refusal and of a warning, and what its line says besides.
 use crate::found::Refusal;
+use crate::kinds::Warning;
 use rt_base::{ItemId, PlanRefused, TxId};
 use scenario_forms::{ItemMember, Place, TxnMember};
 use scenario_reader::ScenarioError;
-use scenario_warnings::Warning;
 use set_admission::AdmitError;
 use txn_compiler::{CompileError, Which};
 

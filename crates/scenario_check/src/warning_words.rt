@@ -4,9 +4,9 @@ ghost use Rattle.refusal_lines.specs.Causes.{item, txn};
 ghost use Rattle.scenario_check.specs.Texts.{refusal_words, warning_words, what_words};
 
 use crate::found::{Refusal, What};
+use crate::kinds::Warning;
 use refusal_lines::{put_admit_cause, put_compile_cause, put_scenario_cause, put_txn};
 use rt_base::{ItemId, Names, OutOfMemory, TxId};
-use scenario_warnings::Warning;
 
 fn put(out: &mut Vec<u8>, bytes: &[u8]) -> Result<(), OutOfMemory>
     ensures { OnOk result (out.new.items ≡ out.old.items ++ bytes.now) }

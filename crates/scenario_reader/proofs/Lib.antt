@@ -5,3 +5,8 @@ pub mod Making
 pub mod Ranges
 pub mod Meets
 pub mod Counts
+pub mod Marking
+pub mod Standing
+pub mod Turning
+pub mod JudgePositions
+pub mod Counting

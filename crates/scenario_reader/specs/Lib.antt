@@ -3,3 +3,5 @@ pub mod Unknown
 pub mod Made
 pub mod Judged
 pub mod Reading
+pub mod Walks
+pub mod Planning

@@ -8,9 +8,10 @@ ghost use Rattle.scenario_reader.specs.Refusals.{Gives};
 ghost use Rattle.scenario_reader.specs.Judged.{judged, judged_scripts, judged_jobs, tx_id as id_of};
 
 use crate::error::ScenarioError;
+use crate::plans::{bad_release, eager_end, room, total_jobs};
+use crate::scripts::{bad_script, long_script};
 use rt_base::TxId;
 use scenario::Scenario;
-use scenario_judge::{bad_release, bad_script, eager_end, long_script, room, total_jobs};
 use std::alloc::Global;
 
 const MOST_JOBS: u64 = 65_536;

@@ -3,23 +3,23 @@ use Rattle.std.proofs.Common.{◌≡◌, ℕ, ◌<◌, Bool, true, false, not, L
 use Rattle.txn_set.specs.Set.{Set, IsCompiled}
 use Rattle.step_journal.specs.declared.entry.Entry.{Entry}
 use Rattle.step_journal.specs.History.{IsLegal}
-use Rattle.history_laws.proofs.SerialAll.{serial}
-use Rattle.history_laws.proofs.DelayAll.{one_delay}
-use Rattle.counting_laws.proofs.CountingAll.{entries_few}
-use Rattle.commit_laws.proofs.Commits.{fresh_commits}
+use Rattle.law_histories.proofs.SerialAll.{serial}
+use Rattle.law_histories.proofs.DelayAll.{one_delay}
+use Rattle.law_histories.proofs.CountingAll.{entries_few}
+use Rattle.law_histories.proofs.Commits.{fresh_commits}
 use Rattle.set_admission.specs.Admission.{refusal}
 use Rattle.set_admission.proofs.Admitted.{decided}
 use Rattle.set_admission.proofs.Kept.{keeps_bounds}
 use Rattle.scenario.specs.Shown.{Shown, set_of}
 use Rattle.scenario.specs.Scenarios.{IsScenario}
 use Rattle.scenario_run.specs.Runs.{IsGuaranteed, KeepsBoundsUnless, IsRunText}
-use Rattle.eager_laws.specs.Plannable.{own_of}
-use Rattle.eager_laws.proofs.Scenario.{none_eager}
-use Rattle.eager_laws.proofs.Fits.{run_fits, scenario_room}
-use Rattle.plant_history.specs.Histories.{IsRunOf}
-use Rattle.plant_history.proofs.Fixed.{fixed_sim}
-use Rattle.plant_report.specs.Eager.{IsRunTextBy}
-use Rattle.workload_laws.specs.Runs.{workload_of}
+use Rattle.law_runs.specs.Plannable.{own_of}
+use Rattle.law_runs.proofs.Scenario.{none_eager}
+use Rattle.law_runs.proofs.Fits.{run_fits, scenario_room}
+use Rattle.law_runs.specs.Histories.{IsRunOf}
+use Rattle.law_runs.proofs.Fixed.{fixed_sim}
+use Rattle.report_out.specs.Eager.{IsRunTextBy}
+use Rattle.law_runs.specs.Runs.{workload_of}
 
 guaranteed : (set : Set) (history : List Entry) → IsCompiled set → IsLegal set history → IsGuaranteed set history
 guaranteed set history ok legal = record {

@@ -5,3 +5,13 @@ pub mod Ready
 pub mod Started
 pub mod Replying
 pub mod Summaries
+pub mod Outs
+pub mod FirstByte
+pub mod JournalBegun
+pub mod Refusing
+pub mod Left
+pub mod Kept
+pub mod Joined
+pub mod Fronts
+pub mod Putting
+pub mod Same

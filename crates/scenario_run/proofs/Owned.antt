@@ -4,12 +4,12 @@ use mathlib.Core.Path.{fun_ext}
 use Rattle.std.specs.List.{sum}
 use Rattle.std.proofs.Math.ListN.{get_or-map}
 use Rattle.txn_set.specs.Set.{Set}
-use Rattle.counting_laws.proofs.Sums.{sum_below, sum_places}
+use Rattle.law_histories.proofs.Sums.{sum_below, sum_places}
 use Rattle.scenario.specs.declared.releases.Releases.TheVariants.{At}
 use Rattle.scenario.specs.Releases.{eager_of}
 use Rattle.scenario.specs.Shown.{Shown}
-use Rattle.eager_laws.specs.Plannable.{own_jobs, own_of}
-use Rattle.eager_laws.proofs.Plans.{own_sum, listed_sum}
+use Rattle.law_runs.specs.Plannable.{own_jobs, own_of}
+use Rattle.law_runs.proofs.Plans.{own_sum, listed_sum}
 use Rattle.plant_run.specs.Runs.{own_at}
 
 -- those of the releases are the scenario's

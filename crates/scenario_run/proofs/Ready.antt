@@ -5,20 +5,20 @@ use Rattle.rt_base.specs.declared.name.Names.{Names}
 use Rattle.step_script.specs.declared.script.Script.{Script}
 use Rattle.step_script.specs.Scripts.{Program, program_of, next_of}
 use Rattle.txn_set.specs.Set.{Set, IsCompiled}
-use Rattle.counting_laws.specs.Counting.{room_of_jobs}
-use Rattle.sim_history.specs.Sim.{Body, Workload}
+use Rattle.law_histories.specs.Counting.{room_of_jobs}
+use Rattle.law_histories.specs.Sim.{Body, Workload}
 use Rattle.sim_run.specs.Workloads.{workload, ticks_of, AreAccepted, IsObedient}
 use Rattle.scenario.specs.declared.releases.Releases.{Releases}
 use Rattle.scenario.specs.Shown.{set_of}
 use Rattle.scenario.specs.Releases.{eager_of, fixed_ticks}
 use Rattle.std.specs.List.{sum}
-use Rattle.eager_laws.specs.Plannable.{ArePlannable, own_jobs, own_of}
-use Rattle.eager_laws.proofs.Scenario.{plannable, eager_alone}
-use Rattle.eager_laws.proofs.Fits.{scenario_room}
-use Rattle.workload_laws.specs.Runs.{workload_of}
-use Rattle.workload_laws.proofs.Obeys.{obeys}
-use Rattle.workload_laws.proofs.Accepted.{accepted}
-use Rattle.plant_report.specs.Eager.{IsRunTextBy}
+use Rattle.law_runs.specs.Plannable.{ArePlannable, own_jobs, own_of}
+use Rattle.law_runs.proofs.Scenario.{plannable, eager_alone}
+use Rattle.law_runs.proofs.Fits.{scenario_room}
+use Rattle.law_runs.specs.Runs.{workload_of}
+use Rattle.law_runs.proofs.Obeys.{obeys}
+use Rattle.law_runs.proofs.Accepted.{accepted}
+use Rattle.report_out.specs.Eager.{IsRunTextBy}
 use Rattle.plant_run.specs.Runs.{own_at}
 use Rattle.scenario_run.specs.Runs.{Declares, IsReady, asked_by, functions_of}
 use Rattle.scenario_run.proofs.Owned.{own_is, own_total}

@@ -4,17 +4,17 @@ use Rattle.rt_base.specs.declared.name.Names.{Names}
 use Rattle.txn_set.specs.Set.{Set}
 use Rattle.step_journal.specs.declared.entry.Entry.{Entry}
 use Rattle.step_script.specs.declared.script.Script.{Script}
-use Rattle.counting_laws.specs.Counting.{room_of_jobs}
-use Rattle.sim_history.specs.Sim.{Workload}
+use Rattle.law_histories.specs.Counting.{room_of_jobs}
+use Rattle.law_histories.specs.Sim.{Workload}
 use Rattle.sim_run.specs.Workloads.{workload, ticks_of}
 use Rattle.plant_run.specs.Runs.{own_at}
-use Rattle.eager_laws.specs.Plannable.{own_of}
+use Rattle.law_runs.specs.Plannable.{own_of}
 use Rattle.scenario.specs.Shown.{Shown, set_of}
 use Rattle.scenario.specs.Scenarios.{IsScenario}
-use Rattle.report_lines.specs.Texts.{NamesSet}
-use Rattle.workload_laws.specs.Runs.{workload_of}
+use Rattle.report_text.specs.Texts.{NamesSet}
+use Rattle.law_runs.specs.Runs.{workload_of}
 use Rattle.report_out.specs.Opened.{IsOpened}
-use Rattle.plant_report.specs.Eager.{IsRunTextBy}
+use Rattle.report_out.specs.Eager.{IsRunTextBy}
 use Rattle.scenario_run.specs.declared.begun.Tasks.{Tasks}
 use Rattle.scenario_run.specs.declared.begun.Begun.{Begun}
 use Rattle.scenario_run.specs.Runs.{Declares, IsReady, functions_of}

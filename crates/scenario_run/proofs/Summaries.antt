@@ -6,20 +6,20 @@ use Rattle.txn_set.specs.Set.{Set, IsCompiled}
 use Rattle.txn_compiler.specs.Refusal.{compile_refusal}
 use Rattle.txn_compiler.proofs.Verdict.{compiled-unless-refused}
 use Rattle.step_journal.specs.declared.entry.Entry.{Entry}
-use Rattle.sim_history.specs.Sim.{Workload, IsSim}
-use Rattle.counting_laws.specs.Counting.{room_of_jobs}
+use Rattle.law_histories.specs.Sim.{Workload, IsSim}
+use Rattle.law_histories.specs.Counting.{room_of_jobs}
 use Rattle.sim_run.specs.Workloads.{workload, ticks_of}
-use Rattle.plant_history.specs.Histories.{IsRunOf}
-use Rattle.eager_laws.specs.Plannable.{own_of}
-use Rattle.eager_laws.proofs.Fits.{run_fits, scenario_room}
+use Rattle.law_runs.specs.Histories.{IsRunOf}
+use Rattle.law_runs.specs.Plannable.{own_of}
+use Rattle.law_runs.proofs.Fits.{run_fits, scenario_room}
 use Rattle.step_script.specs.declared.script.Script.{Script}
 use Rattle.step_script.specs.Scripts.{next_of}
 use Rattle.scenario.specs.declared.releases.Releases.{Releases}
 use Rattle.scenario.specs.Shown.{Shown, set_of}
 use Rattle.scenario.specs.Scenarios.{IsScenario}
 use Rattle.scenario.specs.Releases.{is_eager, eager_of, fixed_ticks}
-use Rattle.eager_laws.proofs.Scenario.{none_eager}
-use Rattle.workload_laws.specs.Runs.{workload_of}
+use Rattle.law_runs.proofs.Scenario.{none_eager}
+use Rattle.law_runs.specs.Runs.{workload_of}
 use Rattle.run_report.specs.Summary.{summary_of}
 use Rattle.step_journal.specs.History.{IsLegal}
 use Rattle.scenario_writer.specs.Generated.{generated_of, releases_each, each}

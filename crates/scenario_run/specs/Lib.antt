@@ -1,3 +1,12 @@
 pub mod Runs
 pub mod Begun
 pub mod Replies
+pub mod Found
+pub mod JournalLeft
+pub mod JournalReady
+pub mod Ran
+pub mod JournalReplies
+pub mod Plans
+pub mod Refused
+pub mod Compared
+pub mod Outs

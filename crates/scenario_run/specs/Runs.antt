@@ -5,14 +5,14 @@ use Rattle.rt_base.specs.declared.ids.JobId.{JobId}
 use Rattle.txn_set.specs.Set.{Set}
 use Rattle.step_journal.specs.declared.entry.Entry.{Entry}
 use Rattle.step_journal.specs.Serial.{IsSerial}
-use Rattle.history_laws.specs.Protocol.{DelayedByOne}
-use Rattle.counting_laws.specs.Counting.{refusal_count, room_of_jobs}
-use Rattle.commit_laws.specs.Commits.{CommitsAreFresh}
+use Rattle.law_histories.specs.Protocol.{DelayedByOne}
+use Rattle.law_histories.specs.Counting.{refusal_count, room_of_jobs}
+use Rattle.law_histories.specs.Commits.{CommitsAreFresh}
 use Rattle.set_admission.specs.Laws.{KeepsBounds}
-use Rattle.sim_history.specs.Sim.{Body, Workload, IsSim}
+use Rattle.law_histories.specs.Sim.{Body, Workload, IsSim}
 use Rattle.sim_run.specs.Workloads.{workload, ticks_of, AreAccepted, IsObedient}
-use Rattle.plant_history.specs.Histories.{IsRunOf}
-use Rattle.eager_laws.specs.Plannable.{ArePlannable, own_of}
+use Rattle.law_runs.specs.Histories.{IsRunOf}
+use Rattle.law_runs.specs.Plannable.{ArePlannable, own_of}
 use Rattle.plant_run.specs.Runs.{own_at}
 use Rattle.step_script.specs.declared.script.Script.{Script}
 use Rattle.step_script.specs.Scripts.{program_of, next_of}
@@ -20,7 +20,7 @@ use Rattle.scenario.specs.declared.releases.Releases.{Releases}
 use Rattle.scenario.specs.Scenarios.{IsScenario}
 use Rattle.scenario.specs.Releases.{is_eager}
 use Rattle.scenario.specs.Shown.{Shown, set_of}
-use Rattle.workload_laws.specs.Runs.{workload_of}
+use Rattle.law_runs.specs.Runs.{workload_of}
 use Rattle.scenario_writer.specs.Generated.{generated_of}
 use Rattle.run_report.specs.Report.{report_of}
 use Rattle.run_report.specs.Summary.{summary_of}

@@ -2,7 +2,7 @@
 ghost use Rattle.std.specs.Prelude.{◌≡◌, ◌⊎◌, IfOk, IfSome, IsErrOf, OnOk, true, false, is_some};
 ghost use Rattle.std.specs.Io.KnownBytes.{Keeps};
 ghost use Rattle.io_edge.specs.Causes.{Rose};
-ghost use Rattle.report_lines.specs.Texts.{NamesSet};
+ghost use Rattle.report_text.specs.Texts.{NamesSet};
 ghost use Rattle.report_out.specs.Written.{Wrote, WroteFront};
 ghost use Rattle.scenario_run.specs.Runs.{Declares};
 ghost use Rattle.scenario_run.specs.Begun.{AreTasks, AreBegun, HasBegun, IsBegun, BegunText};
@@ -12,10 +12,9 @@ use admitted_core::AdmittedCore;
 use board::Board;
 use io_edge::Sink;
 use lock_core::Core;
-use plant_report::write_run;
-use report_out::Report;
+use report_out::{Report, write_run};
 use rt_base::{List, Names, OutOfMemory};
-use run_fault::RunFault;
+use run_out::{RunFault, Workers};
 use scenario::Releases;
 use set_admission::AdmittedSet;
 use std::alloc::Global;
@@ -24,7 +23,6 @@ use std::thread::Threads;
 use step_script::Script;
 use txn_set::CompiledSet;
 use txn_threads::Gate;
-use worker_count::Workers;
 
 /// What the transactions of a set are to do.
 #[derive(Drop)]

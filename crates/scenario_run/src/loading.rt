@@ -1,7 +1,7 @@
 //! The summary of a generated scenario's run.
 ghost use Rattle.std.specs.Prelude.{◌≡◌, ◌+◌, ◌<◌, ◌≤◌, ℕ, [], length, IfOk};
 ghost use Rattle.txn_set.specs.Set.{IsCompiled};
-ghost use Rattle.counting_laws.specs.Counting.{room_of_jobs};
+ghost use Rattle.law_histories.specs.Counting.{room_of_jobs};
 ghost use Rattle.sim_run.specs.Workloads.{workload, ticks_of};
 ghost use Rattle.plant_run.specs.Runs.{own_at};
 ghost use Rattle.plant_run.specs.Ready.{CanRun, workload_in, own_in};
@@ -14,9 +14,10 @@ use crate::making::{BOARD_ROOM, Bodies, prepared, run_on};
 use board::Board;
 use command_replies::{Reply, compiled, written};
 use lock_core::Core;
-use plant_report::keep_run;
 use plant_run::Run;
+use report_out::keep_run;
 use rt_base::OutOfMemory;
+use run_out::Workers;
 use run_report::summary;
 use scenario::Scenario;
 use scenario_writer::generated;
@@ -26,7 +27,6 @@ use std::thread::Threads;
 use step_script::Script;
 use txn_set::CompiledSet;
 use txn_threads::Gate;
-use worker_count::Workers;
 
 // The summary of a run of scripts. There is room for so many entries.
 fn summary_on<R: Threads + Wait + Sync, B: Board + Send + Drop, G: Gate + Sync>(

@@ -15,12 +15,12 @@ use command_replies::{Reply, admitted, compiled, refused_admission, refused_set}
 use item_model::ItemDecl;
 use plant_run::Run;
 use rt_base::{List, Names, OutOfMemory, Tick, TogetherDecl};
+use run_out::Workers;
 use scenario::Releases;
 use set_admission::AdmittedSet;
 use std::alloc::Global;
 use step_script::Script;
 use txn_set::{CompiledSet, TxnDecl};
-use worker_count::Workers;
 
 /// How many entries the board of a run keeps at most.
 pub const BOARD_ROOM: usize = 4_096;

@@ -12,13 +12,12 @@ use crate::making::judged;
 use command_replies::{Reply, compiled, refused_set};
 use io_edge::Sink;
 use rt_base::OutOfMemory;
-use run_fault::RunFault;
+use run_out::{RunFault, Workers};
 use scenario::Scenario;
 use std::alloc::Global;
 use std::sync::Wait;
 use std::thread::Threads;
 use txn_threads::Gate;
-use worker_count::Workers;
 
 /// Runs a scenario as a trial, by workers, and writes its report: its declarations as one piece, and later lines as they come,
 /// or, where a transaction is eager, when the run is over. Some is a refusal that is still to be written; None comes after

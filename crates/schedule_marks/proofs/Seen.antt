@@ -11,7 +11,7 @@ use Rattle.txn_set.specs.Set.{Set}
 use Rattle.step_journal.specs.State.{same_job}
 use Rattle.step_journal.specs.declared.entry.Entry.{Entry}
 use Rattle.step_journal.specs.declared.entry.Entry.TheVariants.{Planned, Step, Blocked, Idle}
-use Rattle.history_laws.proofs.Invariant.{same_job_is}
+use Rattle.law_histories.proofs.Invariant.{same_job_is}
 use Rattle.job_rows.specs.declared.row.JobRow.{JobRow}
 use Rattle.schedule_marks.specs.declared.part.Part.{Part}
 use Rattle.schedule_marks.specs.declared.mark.Mark.{Mark}

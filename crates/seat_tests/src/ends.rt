@@ -6,7 +6,7 @@ use board::Board;
 use rt_base::{End, JobId, TxId};
 use std::alloc::Global;
 use step_journal::Entry;
-use test_calls::{call_of, make};
+use test_sets::{call_of, make};
 use txn_set::CompiledSet;
 
 /// How many jobs of a transaction were planned, and how many ended in each way. A job that ends late at a step of another

@@ -4,7 +4,7 @@ use plain_core::PlainCore;
 use rt_base::TxId;
 use std::alloc::Global;
 use step_journal::Entry;
-use test_calls::{call_of, make};
+use test_sets::{call_of, make};
 use txn_set::CompiledSet;
 
 // The entry with 0 for the tick at which it came.

@@ -12,9 +12,9 @@ use Rattle.step_journal.specs.State.{State, Row, same_job}
 use Rattle.step_journal.specs.Running.{running, of_job}
 use Rattle.step_journal.specs.Step.{plan, ask, given, may_plan, earliest, plans_of, with_plan, asked, step}
 use Rattle.step_journal.specs.History.{IsLegal, state_of, entry_given}
-use Rattle.history_laws.proofs.Invariant.{in_range}
-use Rattle.history_laws.proofs.Never.{legal_sound}
-use Rattle.history_laws.proofs.SerialSteps.{other_false}
+use Rattle.law_histories.proofs.Invariant.{in_range}
+use Rattle.law_histories.proofs.Never.{legal_sound}
+use Rattle.law_histories.proofs.SerialSteps.{other_false}
 use Rattle.board.proofs.Asks.{running_here}
 
 pub plan_outside : (set : Set) (s : State) (tx tick : ℕ) → nat_lt tx (length set.txns) ≡ false → None ≡ entry_given (step set s (plan tx tick))

@@ -9,10 +9,10 @@ use Rattle.step_journal.specs.LockRule.{in_falling_priority}
 use Rattle.step_journal.specs.Running.{job_row}
 use Rattle.step_journal.specs.History.{IsLegal, state_of}
 use Rattle.step_journal.specs.Timing.{Span, pending_span, ended_span}
-use Rattle.history_laws.proofs.Members.{In, pending_in}
-use Rattle.history_laws.proofs.Conflict.{in_get_or}
-use Rattle.history_laws.proofs.Holding.{append_in, in_find}
-use Rattle.history_laws.proofs.Calendar.{sorted_in}
+use Rattle.law_histories.proofs.Members.{In, pending_in}
+use Rattle.law_histories.proofs.Conflict.{in_get_or}
+use Rattle.law_histories.proofs.Holding.{append_in, in_find}
+use Rattle.law_histories.proofs.Calendar.{sorted_in}
 use Rattle.board.proofs.Asks.{job_row_here}
 use Rattle.job_rows.specs.declared.row.JobRow.{JobRow}
 use Rattle.job_rows.specs.Rows.{pending_row, ended_row, job_rows}

@@ -9,7 +9,7 @@ use Rattle.step_journal.specs.State.{Row, pending, prio_of}
 use Rattle.step_journal.specs.LockRule.{in_falling_priority}
 use Rattle.step_journal.specs.History.{state_of}
 use Rattle.rt_base.specs.declared.ids.JobId.{JobId}
-use Rattle.history_laws.specs.Protocol.{DelayedByOne}
+use Rattle.law_histories.specs.Protocol.{DelayedByOne}
 use Rattle.job_rows.specs.declared.row.JobRow.{JobRow}
 use Rattle.job_rows.specs.Rows.{pending_row, ended_row, job_rows}
 

@@ -28,18 +28,18 @@ use Rattle.step_journal.specs.History.{state_after, IsLegal, state_of}
 use Rattle.step_journal.specs.Serial.{ops_of}
 use Rattle.step_journal.specs.Running.{running, job_row}
 use Rattle.step_journal.specs.Timing.{planned_tick_in, pending_span, ended_span, span_of, delayers}
-use Rattle.history_laws.proofs.Members.{In, filter_in, pending_in}
-use Rattle.history_laws.proofs.Lists.{find_some}
-use Rattle.history_laws.proofs.Invariant.{IsPending, in_range, written, same_job_is, job_row_is, running_is}
-use Rattle.history_laws.proofs.Histories.{may_plan_is, idle_early, settled_sound}
-use Rattle.history_laws.proofs.Holding.{append_in}
-use Rattle.history_laws.proofs.Ends.{left}
-use Rattle.history_laws.proofs.Calendar.{Sound, named_from, sorted_in, late_rows, after_cancelled, after_late, due, after_due, came_at}
-use Rattle.history_laws.proofs.Never.{legal_sound, nothing_at, refused_all}
-use Rattle.history_laws.proofs.SerialAll.{legal_serial}
-use Rattle.history_laws.proofs.DelayAll.{IsPast, AllPast, legal_delay}
-use Rattle.counting_laws.specs.Counting.{greatest_planned}
-use Rattle.counting_laws.proofs.CountingAll.{time_bounded}
+use Rattle.law_histories.proofs.Members.{In, filter_in, pending_in}
+use Rattle.law_histories.proofs.Lists.{find_some}
+use Rattle.law_histories.proofs.Invariant.{IsPending, in_range, written, same_job_is, job_row_is, running_is}
+use Rattle.law_histories.proofs.Histories.{may_plan_is, idle_early, settled_sound}
+use Rattle.law_histories.proofs.Holding.{append_in}
+use Rattle.law_histories.proofs.Ends.{left}
+use Rattle.law_histories.proofs.Calendar.{Sound, named_from, sorted_in, late_rows, after_cancelled, after_late, due, after_due, came_at}
+use Rattle.law_histories.proofs.Never.{legal_sound, nothing_at, refused_all}
+use Rattle.law_histories.proofs.SerialAll.{legal_serial}
+use Rattle.law_histories.proofs.DelayAll.{IsPast, AllPast, legal_delay}
+use Rattle.law_histories.specs.Counting.{greatest_planned}
+use Rattle.law_histories.proofs.CountingAll.{time_bounded}
 use Rattle.board.specs.Over.{over_of}
 use Rattle.board.proofs.Asks.{running_here}
 use Rattle.board.proofs.Bounds.{arrived_plans}

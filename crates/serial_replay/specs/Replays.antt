@@ -11,9 +11,9 @@ use Rattle.step_journal.specs.Running.{job_row}
 use Rattle.step_journal.specs.History.{IsLegal, state_of}
 use Rattle.step_journal.specs.Serial.{IsSerial, serial_items}
 use Rattle.step_journal.specs.Timing.{IsSteady}
-use Rattle.history_laws.specs.Protocol.{IsAloneSoFar, DelayedByOne}
-use Rattle.fresh_laws.specs.Ages.{IsAdmitted, age_bound}
-use Rattle.fresh_laws.specs.Freshness.{EndsAreFresh}
+use Rattle.law_histories.specs.Protocol.{IsAloneSoFar, DelayedByOne}
+use Rattle.law_times.specs.Ages.{IsAdmitted, age_bound}
+use Rattle.law_times.specs.Freshness.{EndsAreFresh}
 use Rattle.job_rows.specs.declared.row.JobRow.{JobRow}
 use Rattle.job_rows.specs.Rows.{job_rows}
 use Rattle.serial_replay.specs.declared.serial.ReplayError.{ReplayError}

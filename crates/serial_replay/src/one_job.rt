@@ -3,12 +3,12 @@ ghost use Rattle.std.specs.Prelude.{◌≡◌, ◌↔◌, None};
 ghost use Rattle.step_journal.specs.State.{prio_of as level_of, same_job};
 ghost use Rattle.step_journal.specs.Timing.{planned_tick_in, delayer_in};
 ghost use Rattle.step_journal.specs.History.{IsLegal};
-ghost use Rattle.history_laws.specs.Protocol.{DelayedByOne};
+ghost use Rattle.law_histories.specs.Protocol.{DelayedByOne};
 ghost use Rattle.job_rows.specs.Rows.{delay_of};
 ghost use Rattle.serial_replay.specs.Spans.{WasReleased, release_in, ends_at, end_in, delay_between, is_early, AreEarly};
 
-use history_laws::one_delay;
 use job_rows::Delay;
+use law_histories::one_delay;
 use rt_base::{JobId, Prio, Tick, TxId};
 use step_journal::Entry;
 use txn_set::CompiledSet;

@@ -6,10 +6,10 @@ ghost use Rattle.serial_replay.specs.Replays.{IsReplayed, Explains};
 
 use crate::again::again;
 use board::Board;
-use fresh_laws::freshness;
-use history_laws::{one_delay, pending_replies, serial_replies};
 use item_model::Items;
 use job_rows::{JobRow, rows_of};
+use law_histories::{one_delay, pending_replies, serial_replies};
+use law_times::freshness;
 use lock_core::Core;
 use rt_base::{List, OutOfMemory};
 use std::alloc::Global;

@@ -14,11 +14,11 @@ use Rattle.item_model.specs.Work.{is_above, first_of_both}
 use Rattle.txn_set.specs.declared.decl.TxnDecl.{TxnDecl}
 use Rattle.txn_set.specs.Set.{Set, IsCompiled, txn_of, no_txn, may_read}
 use Rattle.txn_set.specs.Ceilings.{greatest}
-use Rattle.history_laws.proofs.Members.{In}
-use Rattle.history_laws.proofs.Lists.{any_in, in_any}
-use Rattle.deadline_laws.specs.Response.{IsResponse, response}
-use Rattle.fresh_laws.specs.Ages.{IsAgeBound, IsAdmitted, age_bound}
-use Rattle.fresh_laws.proofs.Levels.{age_bounds}
+use Rattle.law_histories.proofs.Members.{In}
+use Rattle.law_histories.proofs.Lists.{any_in, in_any}
+use Rattle.law_times.specs.Response.{IsResponse, response}
+use Rattle.law_times.specs.Ages.{IsAgeBound, IsAdmitted, age_bound}
+use Rattle.law_times.proofs.Levels.{age_bounds}
 use Rattle.set_admission.specs.declared.error.AdmitError.{AdmitError}
 use Rattle.set_admission.specs.declared.error.AdmitError.TheVariants.{NotSchedulable, TooOld, TooApart, OutOfMemory}
 use Rattle.set_admission.specs.Bounds.{response_of, age_of, MeetsAdmission}

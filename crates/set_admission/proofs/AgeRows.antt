@@ -12,8 +12,8 @@ use Rattle.txn_set.specs.declared.decl.TxnDecl.{TxnDecl}
 use Rattle.txn_set.specs.Set.{Set, txn_of, no_txn, may_read, may_write, HasGoodTimes, IsCompiled, DependsOn}
 use Rattle.txn_set.specs.Set.{Walk as SetWalk}
 use Rattle.txn_set.specs.Ceilings.{greatest}
-use Rattle.commit_laws.proofs.Installs.{dated_in_range}
-use Rattle.fresh_laws.specs.Ages.{first_writer, writer_of, age_by}
+use Rattle.law_histories.proofs.Installs.{dated_in_range}
+use Rattle.law_times.specs.Ages.{first_writer, writer_of, age_by}
 use Rattle.age_bounds.specs.declared.AgeRow.{AgeRow}
 use Rattle.age_bounds.specs.Age as rows
 use Rattle.age_bounds.proofs.Levels.{age_of-rule}

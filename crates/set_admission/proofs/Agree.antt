@@ -2,7 +2,7 @@
 use Rattle.std.proofs.Common.{◌∙◌, ap}
 use Rattle.rt_base.specs.declared.ids.TxId.{TxId}
 use Rattle.txn_set.specs.Set.{Set, IsCompiled}
-use Rattle.deadline_laws.specs.Response.{response}
+use Rattle.law_times.specs.Response.{response}
 use Rattle.set_admission.specs.Laws.{RowsAgree}
 use Rattle.set_admission.proofs.Link.{response-at}
 use Rattle.set_admission.proofs.AgeRows.{same-age}

@@ -2,8 +2,8 @@
 use Rattle.std.proofs.Common.{◌≡◌, ℕ, ◌≤◌, Option, None, Some, refl, ap, arith}
 use Rattle.std.specs.Option.{unwrap_or}
 use Rattle.txn_set.specs.Set.{Set, txn_of}
-use Rattle.deadline_laws.specs.Response.{IsResponse, response}
-use Rattle.deadline_laws.proofs.Demand.{response_found, response_none}
+use Rattle.law_times.specs.Response.{IsResponse, response}
+use Rattle.law_times.proofs.Demand.{response_found, response_none}
 use Rattle.set_admission.specs.Bounds.{response_of}
 
 is-found : (set : Set) (tx r : ℕ) → IsResponse set tx r → (o : Option ℕ) → response set tx ≡ o → o ≡ Some r

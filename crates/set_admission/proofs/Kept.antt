@@ -3,11 +3,11 @@ use Rattle.std.proofs.Common.{ℕ, ◌<◌, List, length}
 use Rattle.step_journal.specs.declared.entry.Entry.{Entry}
 use Rattle.step_journal.specs.History.{IsLegal, state_of}
 use Rattle.txn_set.specs.Set.{Set, IsCompiled}
-use Rattle.deadline_laws.specs.Deadlines.{IsInTime}
-use Rattle.deadline_laws.proofs.DeadlinesAll.{in_time, none_late}
-use Rattle.fresh_laws.specs.Ages.{age_bound}
-use Rattle.fresh_laws.proofs.Levels.{age_bounds}
-use Rattle.fresh_laws.proofs.WithinAge.{freshness}
+use Rattle.law_times.specs.Deadlines.{IsInTime}
+use Rattle.law_times.proofs.DeadlinesAll.{in_time, none_late}
+use Rattle.law_times.specs.Ages.{age_bound}
+use Rattle.law_times.proofs.Levels.{age_bounds}
+use Rattle.law_times.proofs.WithinAge.{freshness}
 use Rattle.set_admission.specs.Bounds.{response_of, age_of, MeetsAdmission}
 use Rattle.set_admission.specs.Laws.{KeepsBounds}
 

@@ -15,7 +15,7 @@ use Rattle.response_test.specs.Response as rows
 use Rattle.response_test.specs.Response.{least_from, HasGoodRanges}
 use Rattle.txn_set.specs.Set.{Set, txn_of, no_txn, HasGoodTimes, IsCompiled}
 use Rattle.txn_set.specs.Ceilings.{greatest, blocking, may_block}
-use Rattle.deadline_laws.specs.Response.{part_of, higher_demand, demand, first_window, response}
+use Rattle.law_times.specs.Response.{part_of, higher_demand, demand, first_window, response}
 use Rattle.set_admission.specs.Admission.{prio_of, falling, last_demand}
 use Rattle.set_admission.specs.Rows.{resp_row, resp_rows}
 use Rattle.set_admission.proofs.Falling.{length-falling, above-is, sum-falling}

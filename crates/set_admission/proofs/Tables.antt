@@ -8,7 +8,7 @@ use Rattle.rt_base.specs.declared.ids.TxId.{TxId}
 use Rattle.response_test.specs.Response.{AreResponses, IsFirstWithout}
 use Rattle.item_model.specs.Work.{first_of_both}
 use Rattle.txn_set.specs.Set.{Set, txn_of, IsCompiled}
-use Rattle.deadline_laws.specs.Response.{response, demand}
+use Rattle.law_times.specs.Response.{response, demand}
 use Rattle.set_admission.specs.declared.error.AdmitError.{AdmitError}
 use Rattle.set_admission.specs.declared.error.AdmitError.TheVariants.{NotSchedulable, TooOld, TooApart, OutOfMemory}
 use Rattle.set_admission.specs.Bounds.{AreResponsesOf}

@@ -9,7 +9,7 @@ use Rattle.item_model.specs.Kinds.{validity_of}
 use Rattle.item_model.specs.Work.{is_above, first_of_both}
 use Rattle.txn_set.specs.Set.{Set, IsCompiled, txn_of, may_read}
 use Rattle.txn_set.specs.Ceilings.{greatest}
-use Rattle.deadline_laws.specs.Response.{demand, response}
+use Rattle.law_times.specs.Response.{demand, response}
 use Rattle.set_admission.specs.declared.error.AdmitError.{AdmitError}
 use Rattle.set_admission.specs.declared.error.AdmitError.TheVariants.{NotSchedulable, TooOld, TooApart, OutOfMemory}
 use Rattle.set_admission.specs.Bounds.{age_of, MeetsAdmission, AreResponsesOf, AreAgesOf}

@@ -2,8 +2,8 @@
 use Rattle.std.specs.Prelude.{◌≡◌, ℕ, ◌<◌, List, length, slice_index, Some}
 use Rattle.std.specs.Option.{unwrap_or}
 use Rattle.txn_set.specs.Set.{Set}
-use Rattle.deadline_laws.specs.Response.{IsResponse, response}
-use Rattle.fresh_laws.specs.Ages.{age_bound, IsAdmittedBy}
+use Rattle.law_times.specs.Response.{IsResponse, response}
+use Rattle.law_times.specs.Ages.{age_bound, IsAdmittedBy}
 
 -- the response of a transaction, and 0 where it has none
 abbrev pub response_of : Set → ℕ → ℕ

@@ -10,10 +10,10 @@ use Rattle.step_journal.specs.declared.entry.Entry.{Entry}
 use Rattle.step_journal.specs.History.{IsLegal, state_of}
 use Rattle.step_journal.specs.Timing.{IsSteady}
 use Rattle.txn_set.specs.Set.{Set, IsCompiled}
-use Rattle.deadline_laws.specs.Response.{response}
-use Rattle.deadline_laws.specs.Deadlines.{IsInTime}
-use Rattle.fresh_laws.specs.Ages.{IsAdmitted}
-use Rattle.fresh_laws.specs.Freshness.{EndsAreFresh}
+use Rattle.law_times.specs.Response.{response}
+use Rattle.law_times.specs.Deadlines.{IsInTime}
+use Rattle.law_times.specs.Ages.{IsAdmitted}
+use Rattle.law_times.specs.Freshness.{EndsAreFresh}
 use Rattle.set_admission.specs.Bounds.{response_of, age_of, MeetsAdmission}
 use Rattle.set_admission.specs.Admission.{prio_of, falling, refusal}
 use Rattle.set_admission.specs.Rows.{resp_rows, age_rows}

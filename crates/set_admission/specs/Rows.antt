@@ -8,7 +8,7 @@ use Rattle.txn_set.specs.Set.{Set, txn_of}
 use Rattle.txn_set.specs.Ceilings.{blocking}
 use Rattle.response_test.specs.declared.RespRow.{RespRow}
 use Rattle.age_bounds.specs.declared.AgeRow.{AgeRow}
-use Rattle.fresh_laws.specs.Ages.{writer_of}
+use Rattle.law_times.specs.Ages.{writer_of}
 use Rattle.set_admission.specs.Bounds.{response_of}
 
 abbrev pub resp_row : Set → TxnDecl → RespRow

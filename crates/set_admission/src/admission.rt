@@ -4,8 +4,8 @@ ghost use Rattle.std.specs.Prelude.{◌≡◌, ◌≢◌, ◌<◌, length, IfOk,
 ghost use Rattle.item_model.specs.Kinds.{is_dated as dated};
 ghost use Rattle.txn_set.specs.Set.{IsCompiled, txn_of};
 ghost use Rattle.txn_set.specs.Ceilings.{blocking};
-ghost use Rattle.deadline_laws.specs.Response.{response};
-ghost use Rattle.fresh_laws.specs.Ages.{IsAdmitted};
+ghost use Rattle.law_times.specs.Response.{response};
+ghost use Rattle.law_times.specs.Ages.{IsAdmitted};
 ghost use Rattle.set_admission.specs.Bounds.{age_of, MeetsAdmission, AreResponsesOf, AreAgesOf};
 ghost use Rattle.set_admission.specs.Admission.{refusal, Refuses};
 ghost use Rattle.set_admission.specs.declared.error.AdmitError.TheVariants.{OutOfMemory as WantOfMemory};

@@ -4,7 +4,7 @@ ghost use Rattle.std.specs.Prelude.{◌≡◌, ◌<◌, length, map, IfOk, IfSom
 ghost use Rattle.std.specs.List.{All, filter};
 ghost use Rattle.item_model.specs.Kinds.{is_dated as dated};
 ghost use Rattle.txn_set.specs.Set.{IsCompiled, txn_of};
-ghost use Rattle.fresh_laws.specs.Ages.{writer_of};
+ghost use Rattle.law_times.specs.Ages.{writer_of};
 ghost use Rattle.set_admission.specs.Bounds.{AreResponsesOf, AreAgesOf};
 ghost use Rattle.set_admission.specs.Rows.{age_row, age_rows};
 

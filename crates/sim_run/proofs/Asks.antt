@@ -20,11 +20,11 @@ use Rattle.board.specs.declared.replies.StepReply.{StepReply}
 use Rattle.board.specs.declared.replies.StepReply.TheVariants as reply
 use Rattle.board.specs.Stories.{IsStory, noted, step_entry, step_answer, now_of, running_of}
 use Rattle.board.proofs.Asks.{steps_are_steps}
-use Rattle.history_laws.proofs.Invariant.{running_is, in_range, same_job_is}
-use Rattle.history_laws.proofs.Calendar.{named_from}
-use Rattle.history_laws.proofs.Never.{legal_sound, refused_all}
-use Rattle.history_laws.proofs.Alone.{outcomes_more_in}
-use Rattle.sim_history.specs.Sim.{Body}
+use Rattle.law_histories.proofs.Invariant.{running_is, in_range, same_job_is}
+use Rattle.law_histories.proofs.Calendar.{named_from}
+use Rattle.law_histories.proofs.Never.{legal_sound, refused_all}
+use Rattle.law_histories.proofs.Alone.{outcomes_more_in}
+use Rattle.law_histories.specs.Sim.{Body}
 use Rattle.sim_run.specs.Turns.{IsReached, IsFollowing, MayAsk, CanAsk, HasAsked, job_of}
 use Rattle.sim_run.proofs.Behind.{behind_after, behind_running, running_past}
 use Rattle.sim_run.proofs.Histories.{state_next}

@@ -21,13 +21,13 @@ use Rattle.step_journal.specs.Step.{Event, plan, ask, idle, given, plans_of, may
 use Rattle.step_journal.specs.History.{event_of, state_given, entry_given, state_after, IsLegalEntry, IsLegal, state_of}
 use Rattle.sim_run.specs.Turns.{IsReached}
 use Rattle.board.proofs.Bounds.{arrived_plans}
-use Rattle.history_laws.proofs.Members.{In}
-use Rattle.history_laws.proofs.Holding.{append_in}
-use Rattle.history_laws.proofs.Invariant.{IsPending, Runs, running_is, in_range, written, same_row}
-use Rattle.history_laws.proofs.Ends.{left}
-use Rattle.history_laws.proofs.Calendar.{Sound, named_from, after_cancelled, due, after_late, after_due, came_at, left_planned, late_rows}
-use Rattle.history_laws.proofs.Histories.{may_plan_is, settled_sound, idle_early}
-use Rattle.history_laws.proofs.Never.{legal_sound, refused_all}
+use Rattle.law_histories.proofs.Members.{In}
+use Rattle.law_histories.proofs.Holding.{append_in}
+use Rattle.law_histories.proofs.Invariant.{IsPending, Runs, running_is, in_range, written, same_row}
+use Rattle.law_histories.proofs.Ends.{left}
+use Rattle.law_histories.proofs.Calendar.{Sound, named_from, after_cancelled, due, after_late, after_due, came_at, left_planned, late_rows}
+use Rattle.law_histories.proofs.Histories.{may_plan_is, settled_sound, idle_early}
+use Rattle.law_histories.proofs.Never.{legal_sound, refused_all}
 
 pub all_at : {A : Type 0} (P : A → Type 0) (xs : List A) → All P xs → (x : A) → In x xs → P x
 all_at P [] h x i = absurd i

@@ -8,9 +8,9 @@ use Rattle.step_journal.specs.State.{State, Row}
 use Rattle.step_journal.specs.Running.{running}
 use Rattle.step_journal.specs.Step.{Event}
 use Rattle.step_journal.specs.History.{IsLegal, state_of}
-use Rattle.counting_laws.specs.Counting.{room_of_jobs}
-use Rattle.history_laws.proofs.Never.{never_stuck}
-use Rattle.sim_history.specs.Sim.{Workload, IsSim, plans_from, next_event, event_for, event_in}
+use Rattle.law_histories.specs.Counting.{room_of_jobs}
+use Rattle.law_histories.proofs.Never.{never_stuck}
+use Rattle.law_histories.specs.Sim.{Workload, IsSim, plans_from, next_event, event_for, event_in}
 use Rattle.sim_run.specs.Workloads.{ticks_of, IsObedient}
 use Rattle.sim_run.specs.Turns.{IsUnderWay}
 use Rattle.sim_run.specs.Runs.{HasRun, RunsExist, StoriesGoOn}

@@ -17,7 +17,7 @@ use Rattle.step_journal.specs.Step.{plan, given, plans_of, earliest, may_plan, n
 use Rattle.step_journal.specs.History.{state_given, entry_given, state_after, states_after, IsLegalFrom, IsLegal, state_of}
 use Rattle.board.specs.Stories.{noted, plan_entry, plan_answer}
 use Rattle.board.proofs.Plans.{plans_are_steps}
-use Rattle.sim_history.specs.Sim.{plans_from}
+use Rattle.law_histories.specs.Sim.{plans_from}
 use Rattle.sim_run.specs.Workloads.{AreSpaced, AreAccepted}
 use Rattle.sim_run.proofs.Histories.{legal_parts, legal_split, legal_join}
 

@@ -18,10 +18,10 @@ use Rattle.step_journal.specs.Step.{Event, plan, ask, idle, may_ask, next_tick, 
 use Rattle.step_journal.specs.History.{event_of, entry_given, IsLegalEntry, IsLegal, state_of}
 use Rattle.step_journal.specs.Serial.{outcomes_of}
 use Rattle.board.specs.Stories.{IsStory}
-use Rattle.counting_laws.specs.Counting.{plans_in, plan_count, room_of_jobs}
-use Rattle.counting_laws.proofs.CountingAll.{entries_few}
-use Rattle.history_laws.proofs.Never.{never_stuck}
-use Rattle.sim_history.specs.Sim.{Body, Workload, IsAsked, IsScriptRun, IsFixed, IsSim, plans, plans_from, next_event, event_for, event_in, op_asked}
+use Rattle.law_histories.specs.Counting.{plans_in, plan_count, room_of_jobs}
+use Rattle.law_histories.proofs.CountingAll.{entries_few}
+use Rattle.law_histories.proofs.Never.{never_stuck}
+use Rattle.law_histories.specs.Sim.{Body, Workload, IsAsked, IsScriptRun, IsFixed, IsSim, plans, plans_from, next_event, event_for, event_in, op_asked}
 use Rattle.sim_run.specs.Workloads.{ticks_of, workload, ObeysAt}
 use Rattle.sim_run.specs.Turns.{IsFollowing, IsUnderWay, IsTurned, job_of}
 use Rattle.sim_run.proofs.Asks.{asked_entry, asked_legal}

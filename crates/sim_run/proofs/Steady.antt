@@ -13,8 +13,8 @@ use Rattle.txn_set.specs.Ceilings.{IsCeilingsOf}
 use Rattle.step_journal.specs.declared.entry.Entry.{Entry}
 use Rattle.step_journal.specs.State.{Row}
 use Rattle.step_journal.specs.Step.{may_ask}
-use Rattle.counting_laws.specs.Counting.{room_of_jobs}
-use Rattle.sim_history.specs.Sim.{Body, Workload, IsSim}
+use Rattle.law_histories.specs.Counting.{room_of_jobs}
+use Rattle.law_histories.specs.Sim.{Body, Workload, IsSim}
 use Rattle.sim_run.specs.Workloads.{AreSpaced, body_of, ticks_of}
 use Rattle.sim_run.specs.Steady.{steady_txns, steady_set, steady_op}
 use Rattle.sim_run.proofs.Planning.{drop_here}

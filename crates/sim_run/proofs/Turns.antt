@@ -20,8 +20,8 @@ use Rattle.board.specs.Answers.{idle_reply_at, waiting_reply}
 use Rattle.board.specs.Stories.{IsStory, noted, idle_entry, idle_answer, now_of, running_of}
 use Rattle.board.proofs.Tests.{lt_false}
 use Rattle.board.proofs.Asks.{idles_are_steps}
-use Rattle.history_laws.proofs.Never.{never_stuck}
-use Rattle.sim_history.specs.Sim.{Body, Workload, next_event, event_for, event_in, op_asked}
+use Rattle.law_histories.proofs.Never.{never_stuck}
+use Rattle.law_histories.specs.Sim.{Body, Workload, next_event, event_for, event_in, op_asked}
 use Rattle.sim_run.specs.Workloads.{workload, body_of, ObeysAt}
 use Rattle.sim_run.specs.Turns.{IsFollowing, AreFollowing, MayAsk, IsNoted, HasAsked, HasTurned, job_of}
 use Rattle.sim_run.proofs.Histories.{legal_parts}

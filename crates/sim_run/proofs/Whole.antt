@@ -7,8 +7,8 @@ use Rattle.txn_set.specs.Set.{Set, IsCompiled}
 use Rattle.step_journal.specs.declared.entry.Entry.{Entry}
 use Rattle.step_journal.specs.History.{IsLegal}
 use Rattle.board.specs.Stories.{IsStory}
-use Rattle.counting_laws.specs.Counting.{room_of_jobs}
-use Rattle.sim_history.specs.Sim.{Body, Workload, IsSim}
+use Rattle.law_histories.specs.Counting.{room_of_jobs}
+use Rattle.law_histories.specs.Sim.{Body, Workload, IsSim}
 use Rattle.sim_run.specs.Workloads.{workload, ticks_of, ObeysAt, IsObedient}
 use Rattle.sim_run.specs.Turns.{AreFollowing, IsUnderWay, IsTurned, CanTurn, HasTurned}
 use Rattle.sim_run.specs.Handed.{CanTake, IsHanded, IsCut}

@@ -3,7 +3,7 @@ use Rattle.std.specs.Prelude.{◌≡◌, ℕ, List, ◌++◌, take, drop}
 use Rattle.txn_set.specs.Set.{IsCompiled}
 use Rattle.step_journal.specs.declared.entry.Entry.{Entry}
 use Rattle.step_journal.specs.History.{IsLegal}
-use Rattle.sim_history.specs.Sim.{Workload, IsSim}
+use Rattle.law_histories.specs.Sim.{Workload, IsSim}
 use Rattle.sim_run.specs.Workloads.{AreAccepted, IsObedient}
 use Rattle.sim_run.specs.Turns.{IsUnderWay}
 

@@ -11,7 +11,7 @@ use Rattle.step_journal.specs.Step.{Event, plans_of, may_ask}
 use Rattle.step_journal.specs.History.{state_of, event_of}
 use Rattle.step_journal.specs.Serial.{outcomes_of}
 use Rattle.board.specs.Stories.{running_of}
-use Rattle.sim_history.specs.Sim.{Body, Workload, IsScriptRun, IsFixed, plans, next_event}
+use Rattle.law_histories.specs.Sim.{Body, Workload, IsScriptRun, IsFixed, plans, next_event}
 use Rattle.sim_run.specs.Workloads.{ObeysAt}
 
 -- the jobs of a transaction that are pending, planned or to be planned have this serial or a later one

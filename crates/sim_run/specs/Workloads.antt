@@ -8,7 +8,7 @@ use Rattle.step_journal.specs.State.{Row}
 use Rattle.step_journal.specs.Running.{running}
 use Rattle.step_journal.specs.Step.{may_ask}
 use Rattle.step_journal.specs.History.{IsLegal, state_of}
-use Rattle.sim_history.specs.Sim.{Body, Workload, IsScriptRun, op_asked}
+use Rattle.law_histories.specs.Sim.{Body, Workload, IsScriptRun, op_asked}
 
 -- the body of a transaction; where there is none it computes for ever
 abbrev pub body_of : List Body → ℕ → Body

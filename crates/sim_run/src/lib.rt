@@ -9,17 +9,17 @@ ghost use Rattle.step_journal.specs.declared.entry.Entry.TheVariants.{Planned};
 ghost use Rattle.step_journal.specs.Step.{ask as asking};
 ghost use Rattle.step_journal.specs.History.{IsLegal};
 ghost use Rattle.step_journal.specs.Serial.{outcomes_of};
-ghost use Rattle.sim_history.specs.Sim.{IsSim, plans_from};
+ghost use Rattle.law_histories.specs.Sim.{IsSim, plans_from};
 ghost use Rattle.sim_run.specs.Workloads.{workload, AreAccepted, IsObedient};
 ghost use Rattle.sim_run.specs.Turns.{CanAsk, HasAsked, CanTurn, HasTurned};
-ghost use Rattle.entry_out.specs.Outs.{StaysGood, LosesNone};
+ghost use Rattle.run_out.specs.Outs.{StaysGood, LosesNone};
 ghost use Rattle.sim_run.specs.Boards.{IsFixed};
 ghost use Rattle.sim_run.specs.Handed.{CanAppend, CanTake, IsHanded, IsCut, IsReady};
 ghost use Rattle.sim_run.specs.Runs.{IsWhole, IsStopped, RunsExist, StoriesGoOn};
 
 use board::{Board, IdleReply, StepReply};
-use entry_out::{EntryOut, Stopped};
 use rt_base::{JobId, List, Tick, TxId};
+use run_out::{EntryOut, Stopped};
 use step_script::Body;
 
 /// How many entries are handed on at a time.

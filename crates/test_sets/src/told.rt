@@ -2,7 +2,7 @@
 use crate::range::compile_in_range;
 use journal_text::read_entry;
 use name_table::{NameTable, NameTables};
-use report_head::{Head, read_head};
+use report_text::{Head, read_head};
 use rt_base::Name;
 use std::alloc::Global;
 use step_journal::Entry;

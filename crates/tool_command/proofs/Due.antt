@@ -4,8 +4,8 @@ use Rattle.std.proofs.lemmas.Bool.{lt-ltb, cases_lt}
 use Rattle.std.proofs.lemmas.List.{append-nil, length-append}
 use Rattle.rt_base.specs.declared.name.Names.{Names}
 use Rattle.txn_set.specs.Set.{Set}
-use Rattle.priority_laws.specs.Assigned.{with_prios}
-use Rattle.priority_laws.specs.Pass.{prio_at, pass}
+use Rattle.law_times.specs.Assigned.{with_prios}
+use Rattle.law_times.specs.Pass.{prio_at, pass}
 use Rattle.txn_priorities.specs.Limits.{limit}
 use Rattle.run_report.specs.Bounds.{admitted_of}
 use Rattle.txn_compiler.specs.declared.error.CompileError.{CompileError}
@@ -15,18 +15,18 @@ use Rattle.set_admission.specs.Admission.{refusal}
 use Rattle.scenario.specs.Shown.{Shown, set_of}
 use Rattle.scenario_reader.specs.declared.error.ScenarioError.{ScenarioError}
 use Rattle.scenario_reader.specs.Reading.{data_of, scenario_in}
-use Rattle.command_replies.specs.declared.status.Status.{Status}
-use Rattle.command_replies.specs.declared.status.Status.TheVariants as statuses
+use Rattle.process_edge.specs.declared.status.Status.{Status}
+use Rattle.process_edge.specs.declared.status.Status.TheVariants as statuses
 use Rattle.command_replies.specs.Replies.{Reply, Written, Compiling, Admitting}
 use Rattle.command_replies.specs.Verdicts.{status_of}
-use Rattle.report_verdict.specs.declared.verdict.Verdict.TheVariants.{Legal}
-use Rattle.report_verdict.specs.declared.judged.LegalReport.{LegalReport}
-use Rattle.report_verdict.specs.Verdict.{IsVerdict}
-use Rattle.report_verdict.specs.Judged.{IsLegalReport}
-use Rattle.report_verdict.proofs.OneOnly.{one_verdict}
-use Rattle.command_input.specs.Taken.{TakesAll, InputReply}
-use Rattle.command_input.specs.Reports.{is_ok, LegalOr, ReportReply}
-use Rattle.command_input.specs.Scenarios.{Reading, names_in}
+use Rattle.run_report.specs.declared.verdict.Verdict.TheVariants.{Legal}
+use Rattle.run_report.specs.declared.judged.LegalReport.{LegalReport}
+use Rattle.run_report.specs.Verdict.{IsVerdict}
+use Rattle.run_report.specs.Judged.{IsLegalReport}
+use Rattle.run_report.proofs.OneOnly.{one_verdict}
+use Rattle.command_replies.specs.Taken.{TakesAll, InputReply}
+use Rattle.command_replies.specs.Reports.{is_ok, LegalOr, ReportReply}
+use Rattle.command_replies.specs.Scenarios.{Reading, names_in}
 use Rattle.tool_command.specs.declared.command.ToolCommand.{ToolCommand}
 use Rattle.tool_command.specs.declared.command.ToolCommand.TheVariants.{Slack, Priorities, Summary, Json, Table, Check}
 use Rattle.scenario_check.specs.Findings.{CheckReply}

@@ -5,8 +5,8 @@ use Rattle.txn_compiler.specs.declared.error.CompileError.{CompileError}
 use Rattle.set_admission.specs.Admission.{refusal}
 use Rattle.set_admission.specs.declared.error.AdmitError.{AdmitError}
 use Rattle.scenario.specs.Shown.{Shown, set_of}
-use Rattle.command_replies.specs.declared.status.Status.{Status}
-use Rattle.command_replies.specs.declared.status.Status.TheVariants as statuses
+use Rattle.process_edge.specs.declared.status.Status.{Status}
+use Rattle.process_edge.specs.declared.status.Status.TheVariants as statuses
 use Rattle.command_replies.specs.Replies.{Written, Compiling, Admitting}
 use Rattle.tool_command.specs.Slacks.{slack_text, SlackReply}
 

@@ -10,23 +10,23 @@ use Rattle.set_admission.specs.Admission.{refusal}
 use Rattle.scenario.specs.Shown.{Shown, set_of}
 use Rattle.scenario_reader.specs.declared.error.ScenarioError.{ScenarioError}
 use Rattle.scenario_reader.specs.Reading.{data_of, scenario_in}
-use Rattle.priority_laws.specs.Assigned.{with_prios}
-use Rattle.priority_laws.specs.Pass.{prio_at, pass}
+use Rattle.law_times.specs.Assigned.{with_prios}
+use Rattle.law_times.specs.Pass.{prio_at, pass}
 use Rattle.txn_priorities.specs.Limits.{limit}
 use Rattle.run_report.specs.Bounds.{admitted_of}
-use Rattle.report_verdict.specs.declared.verdict.Verdict.{Verdict}
-use Rattle.report_verdict.specs.declared.verdict.Verdict.TheVariants.{Legal, BadLine, Unfinished, BadSet, NotALegalStep, WrongLine, WrongItem}
-use Rattle.report_verdict.specs.declared.judged.LegalReport.{LegalReport}
+use Rattle.run_report.specs.declared.verdict.Verdict.{Verdict}
+use Rattle.run_report.specs.declared.verdict.Verdict.TheVariants.{Legal, BadLine, Unfinished, BadSet, NotALegalStep, WrongLine, WrongItem}
+use Rattle.run_report.specs.declared.judged.LegalReport.{LegalReport}
 use Rattle.scenario_check.specs.declared.found.Refusal.{Refusal}
 use Rattle.scenario_check.specs.Findings.{CheckReply, status_of as checked_status}
-use Rattle.command_replies.specs.declared.status.Status.{Status}
-use Rattle.command_replies.specs.declared.status.Status.TheVariants as statuses
+use Rattle.process_edge.specs.declared.status.Status.{Status}
+use Rattle.process_edge.specs.declared.status.Status.TheVariants as statuses
 use Rattle.command_replies.specs.Replies.{Reply, Written, Compiling, Admitting}
 use Rattle.command_replies.specs.Verdicts.{status_of}
-use Rattle.command_input.specs.Taken.{report_limit, TakesAll, InputReply}
-use Rattle.command_input.specs.Scenarios.{Reading, names_in}
-use Rattle.command_input.specs.Reports.{is_ok, LegalOr, ReportReply, IsReportFrom}
-use Rattle.command_input.specs.Answers.{Judged, AnswersBy}
+use Rattle.command_replies.specs.Taken.{report_limit, TakesAll, InputReply}
+use Rattle.command_replies.specs.Scenarios.{Reading, names_in}
+use Rattle.command_replies.specs.Reports.{is_ok, LegalOr, ReportReply, IsReportFrom}
+use Rattle.command_replies.specs.Answers.{Judged, AnswersBy}
 use Rattle.tool_command.specs.declared.command.ToolCommand.{ToolCommand}
 use Rattle.tool_command.specs.declared.command.ToolCommand.TheVariants.{Slack, Priorities, Summary, Json, Table, Check}
 use Rattle.tool_command.specs.Slacks.{slack_text, SlackReply}

@@ -8,7 +8,7 @@ use Rattle.clap.specs.Kinds.{IsAmong, Kinds}
 use Rattle.clap.specs.Faults.{fault_of, walk_fault, defaults_fault}
 use Rattle.clap.specs.declared.error.kind.ErrorKind.{ErrorKind}
 use Rattle.clap.proofs.OnLiterals.{clap_on_literals}
-use Rattle.line_fields.proofs.CutLaws.{both_true}
+use Rattle.journal_text.proofs.CutLaws.{both_true}
 use Rattle.command_words.specs.Asking.{is_name}
 use Rattle.command_words.proofs.Parts.{plain_word}
 use Rattle.tool_command.specs.declared.command.ToolCommand.{ToolCommand}

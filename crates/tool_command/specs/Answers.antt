@@ -1,13 +1,13 @@
 -- What the program answers, and what it does to its source and its sink.
 use Rattle.std.specs.Prelude.{◌≡◌, ℕ, List, length, nat_lt, codes, Option, Some, None}
 use Rattle.scenario_reader.specs.Reading.{data_of}
-use Rattle.command_replies.specs.declared.status.Status.{Status}
-use Rattle.command_replies.specs.declared.status.Status.TheVariants as statuses
+use Rattle.process_edge.specs.declared.status.Status.{Status}
+use Rattle.process_edge.specs.declared.status.Status.TheVariants as statuses
 use Rattle.command_replies.specs.Replies.{Reply}
-use Rattle.command_input.specs.Taken.{scenario_limit, report_limit, TakesAll, TakesNone, InputReply}
-use Rattle.command_input.specs.Scenarios.{DataReply}
-use Rattle.command_input.specs.Reports.{ReportReply}
-use Rattle.command_input.specs.Answers.{Judged, AnswersBy}
+use Rattle.command_replies.specs.Taken.{scenario_limit, report_limit, TakesAll, TakesNone, InputReply}
+use Rattle.command_replies.specs.Scenarios.{DataReply}
+use Rattle.command_replies.specs.Reports.{ReportReply}
+use Rattle.command_replies.specs.Answers.{Judged, AnswersBy}
 use Rattle.tool_command.specs.declared.command.ToolCommand.{ToolCommand}
 use Rattle.tool_command.specs.declared.command.ToolCommand.TheVariants.{Slack, Priorities, Summary, Json, Table, Check}
 use Rattle.scenario_check.specs.Findings.{CheckReply}

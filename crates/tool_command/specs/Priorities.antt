@@ -6,17 +6,17 @@ use Rattle.txn_set.specs.Set.{Set}
 use Rattle.txn_compiler.specs.Refusal.{compile_refusal}
 use Rattle.set_admission.specs.Admission.{refusal}
 use Rattle.scenario.specs.Shown.{Shown, set_of}
-use Rattle.priority_laws.specs.Assigned.{with_prios}
-use Rattle.priority_laws.specs.Pass.{prio_at, pass, pass_to, IsStuck}
-use Rattle.priority_laws.specs.Laws.{IsSolved, NoneKeeps}
+use Rattle.law_times.specs.Assigned.{with_prios}
+use Rattle.law_times.specs.Pass.{prio_at, pass, pass_to, IsStuck}
+use Rattle.law_times.specs.Laws.{IsSolved, NoneKeeps}
 use Rattle.txn_priorities.specs.declared.refusal.Unplaced.{Unplaced}
 use Rattle.txn_priorities.specs.Limits.{limit}
 use Rattle.txn_priorities.specs.Answers.{unplaced}
 use Rattle.run_report.specs.Bounds.{admitted_of}
-use Rattle.report_lines.specs.Rows.{numbered}
+use Rattle.report_text.specs.Rows.{numbered}
 use Rattle.refusal_lines.specs.Causes.{number, txn}
-use Rattle.command_replies.specs.declared.status.Status.{Status}
-use Rattle.command_replies.specs.declared.status.Status.TheVariants as statuses
+use Rattle.process_edge.specs.declared.status.Status.{Status}
+use Rattle.process_edge.specs.declared.status.Status.TheVariants as statuses
 use Rattle.command_replies.specs.Texts.{refused_line}
 use Rattle.command_replies.specs.Replies.{Reply, Written, Compiling, Admitting}
 

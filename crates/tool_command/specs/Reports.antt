@@ -1,8 +1,8 @@
 -- What the commands write of a legal report.
 use Rattle.std.specs.Prelude.{ℕ, List}
 use Rattle.command_replies.specs.Replies.{Reply, Written}
-use Rattle.report_verdict.specs.declared.judged.LegalReport.{LegalReport}
-use Rattle.report_verdict.specs.Judged.{set_in, is_admitted}
+use Rattle.run_report.specs.declared.judged.LegalReport.{LegalReport}
+use Rattle.run_report.specs.Judged.{set_in, is_admitted}
 use Rattle.report_summary.specs.Texts.{summary_of}
 use Rattle.report_export.specs.Whole.{json_of, table_of}
 

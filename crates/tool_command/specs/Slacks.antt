@@ -12,7 +12,7 @@ use Rattle.txn_slack.specs.declared.limits.Spare.{Spare}
 use Rattle.txn_slack.specs.Steps.{barrier_within}
 use Rattle.txn_slack.specs.Slacks.{most_steps}
 use Rattle.txn_slack.specs.Spares.{spare_of}
-use Rattle.report_lines.specs.Rows.{numbered}
+use Rattle.report_text.specs.Rows.{numbered}
 use Rattle.refusal_lines.specs.Causes.{word, number, txn, item, admit_cause}
 use Rattle.command_replies.specs.Replies.{Reply, Written, Compiling, Admitting}
 

@@ -13,6 +13,5 @@ mod top;
 
 pub use asked::read_command;
 pub use command::ToolCommand;
-pub use command_replies::Status;
-pub use command_words::Word;
+pub use process_edge::{Status, Word};
 pub use top::rtdb_tool;

@@ -2,17 +2,18 @@
 ghost use Rattle.std.specs.Prelude.{◌≡◌, IfOk, IfErr};
 ghost use Rattle.scenario.specs.Shown.{shown};
 ghost use Rattle.scenario.specs.Scenarios.{IsScenario};
-ghost use Rattle.priority_laws.specs.Pass.{pass};
-ghost use Rattle.priority_laws.specs.Laws.{IsSolved, NoneKeeps};
+ghost use Rattle.law_times.specs.Pass.{pass};
+ghost use Rattle.law_times.specs.Laws.{IsSolved, NoneKeeps};
 ghost use Rattle.txn_priorities.specs.Limits.{limit};
 ghost use Rattle.txn_priorities.specs.Answers.{IsRefusal};
-ghost use Rattle.report_lines.specs.Texts.{NamesSet};
+ghost use Rattle.report_text.specs.Texts.{NamesSet};
 ghost use Rattle.tool_command.specs.Priorities.{Admission, GivenReply, Sticks, PriorityReply};
 
 use crate::priority_lines::{level_cause, prio_text, put_unplaced};
 use command_replies::{
-    Reply, Status, admitted, compiled, refused, refused_admission, refused_set, written,
+    Reply, admitted, compiled, refused, refused_admission, refused_set, written,
 };
+use process_edge::Status;
 use rt_base::{Names, OutOfMemory, Prio, Steps};
 use run_report::admit_text;
 use scenario::Scenario;

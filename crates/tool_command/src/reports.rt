@@ -1,12 +1,12 @@
 //! The replies of the commands that read a report.
 ghost use Rattle.std.specs.Prelude.{◌≡◌, IfOk};
 ghost use Rattle.step_journal.specs.History.{IsLegal, state_of};
-ghost use Rattle.report_lines.specs.Texts.{NamesSet};
-ghost use Rattle.report_verdict.specs.Judged.{set_in};
+ghost use Rattle.report_text.specs.Texts.{NamesSet};
+ghost use Rattle.run_report.specs.Judged.{set_in};
 ghost use Rattle.tool_command.specs.Reports.{summary_in, json_in, table_in};
 
-use report_verdict::{LegalReport, ReportedSet};
 use rt_base::OutOfMemory;
+use run_report::{LegalReport, ReportedSet};
 use std::alloc::Global;
 
 /// The text of `summary`.

@@ -10,10 +10,11 @@ use crate::command::ToolCommand;
 use crate::priorities::priorities;
 use crate::reports::{json, summary, table};
 use crate::slacks::slacks;
-use command_input::{SCENARIO_LIMIT, report_from, scenario_from};
-use command_replies::{Reply, Status, Unanswered, refused, written};
-use command_words::Word;
+use command_replies::{
+    Reply, SCENARIO_LIMIT, Unanswered, refused, report_from, scenario_from, written,
+};
 use io_edge::{ReadError, Sink, Source, read_all, write_all};
+use process_edge::{Status, Word};
 use rt_base::OutOfMemory;
 use scenario_check::check;
 use std::alloc::Global;

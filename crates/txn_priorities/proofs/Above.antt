@@ -7,11 +7,11 @@ use Rattle.std.specs.List.{filter}
 use Rattle.txn_set.specs.declared.decl.TxnDecl.{TxnDecl}
 use Rattle.txn_set.specs.Set.{Set, no_txn, txn_of, may_read, may_write}
 use Rattle.txn_set.specs.Ceilings.{greatest, prios, write_ceiling, absolute_ceiling, may_block, blocking}
-use Rattle.priority_laws.specs.Assigned.{txns_with}
-use Rattle.priority_laws.specs.Pass.{trial, is_placed}
-use Rattle.priority_laws.proofs.Standing.{loud, blocking_le}
-use Rattle.priority_laws.proofs.Moving.{with-length, with-at}
-use Rattle.priority_laws.proofs.Exchanging.{Lowest, Own, Other, kind, trial-lowest, trial-own, trial-other}
+use Rattle.law_times.specs.Assigned.{txns_with}
+use Rattle.law_times.specs.Pass.{trial, is_placed}
+use Rattle.law_times.proofs.Standing.{loud, blocking_le}
+use Rattle.law_times.proofs.Moving.{with-length, with-at}
+use Rattle.law_times.proofs.Exchanging.{Lowest, Own, Other, kind, trial-lowest, trial-own, trial-other}
 use Rattle.txn_priorities.specs.Around.{around, around_set, trial_set}
 
 -- the transactions from a place on

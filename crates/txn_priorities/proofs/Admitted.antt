@@ -10,10 +10,10 @@ use Rattle.item_model.specs.declared.decl.ItemKind.TheVariants.{Sensor, Derived,
 use Rattle.item_model.specs.Kinds.{validity_of_kind, is_derived_kind, is_derived_decl, validity_of, is_dated, is_derived}
 use Rattle.txn_set.specs.declared.decl.TxnDecl.{TxnDecl}
 use Rattle.txn_set.specs.Set.{Set, no_txn, txn_of, names_item, may_read, may_write, IsTheWriter, IsCompiled}
-use Rattle.fresh_laws.specs.Ages.{age_bound, IsAdmitted}
-use Rattle.fresh_laws.proofs.Levels.{age_bounds}
-use Rattle.priority_laws.specs.Assigned.{txns_with, with_prios, IsAssignment, RespondsWithin}
-use Rattle.priority_laws.proofs.Moving.{with-length, with-at, deadline-with}
+use Rattle.law_times.specs.Ages.{age_bound, IsAdmitted}
+use Rattle.law_times.proofs.Levels.{age_bounds}
+use Rattle.law_times.specs.Assigned.{txns_with, with_prios, IsAssignment, RespondsWithin}
+use Rattle.law_times.proofs.Moving.{with-length, with-at, deadline-with}
 use Rattle.txn_priorities.specs.Limits.{kind_validity, sensor_validity, limit, IsInLimits}
 use Rattle.txn_priorities.specs.Laws.{NoneIsAdmitted}
 use Rattle.txn_priorities.proofs.Limited.{limits-are-exact}

@@ -11,8 +11,8 @@ use Rattle.txn_compiler.specs.Refusal.{compile_refusal}
 use Rattle.txn_compiler.specs.Kept.{set_of, IsInRange, AreLists, kept}
 use Rattle.txn_compiler.proofs.Keeping.{kept-as-declared}
 use Rattle.txn_compiler.proofs.Verdict.{compiled-unless-refused}
-use Rattle.priority_laws.specs.Assigned.{txns_with, with_prios, IsAssignment}
-use Rattle.priority_laws.proofs.Moving.{with-length}
+use Rattle.law_times.specs.Assigned.{txns_with, with_prios, IsAssignment}
+use Rattle.law_times.proofs.Moving.{with-length}
 use Rattle.txn_priorities.specs.Laws.{AreInRange, CompiledWithPrios}
 use Rattle.txn_priorities.proofs.Unchanged.{reads-with, writes-with, get-with}
 

@@ -9,19 +9,19 @@ use Rattle.std.specs.Int.{div_ceil}
 use Rattle.txn_set.specs.declared.decl.TxnDecl.{TxnDecl}
 use Rattle.txn_set.specs.Set.{Set, txn_of, IsCompiled}
 use Rattle.txn_set.specs.Ceilings.{blocking}
-use Rattle.deadline_laws.specs.Response.{part_of, higher_demand, demand, HoldsDemand, response}
-use Rattle.deadline_laws.proofs.Demand.{response_found, response_none}
+use Rattle.law_times.specs.Response.{part_of, higher_demand, demand, HoldsDemand, response}
+use Rattle.law_times.proofs.Demand.{response_found, response_none}
 use Rattle.response_test.specs.Response.{least_from}
 use Rattle.response_test.specs.declared.windows.Load.{Load}
 use Rattle.response_test.specs.Loads.{uses, window}
 use Rattle.response_test.proofs.Least.{IsLeastFrom, least_from-is, least_from-fails}
 use Rattle.response_test.proofs.Quotients.{div_ceil-le}
-use Rattle.priority_laws.specs.Pass.{trial, prio_at, is_placed, is_within, passes, first_passing, left, pass_to, pass, AreGiven, IsStuck}
-use Rattle.priority_laws.specs.Laws.{IsSolved, NoneKeeps}
-use Rattle.priority_laws.proofs.Deciding.{pass-decides}
-use Rattle.priority_laws.proofs.Levels.{given-to, passing-is}
-use Rattle.priority_laws.proofs.Moving.{demand-with, deadline-with}
-use Rattle.priority_laws.proofs.Exchanging.{trial-lowest, trial-own, trial-other}
+use Rattle.law_times.specs.Pass.{trial, prio_at, is_placed, is_within, passes, first_passing, left, pass_to, pass, AreGiven, IsStuck}
+use Rattle.law_times.specs.Laws.{IsSolved, NoneKeeps}
+use Rattle.law_times.proofs.Deciding.{pass-decides}
+use Rattle.law_times.proofs.PriorityLevels.{given-to, passing-is}
+use Rattle.law_times.proofs.Moving.{demand-with, deadline-with}
+use Rattle.law_times.proofs.Exchanging.{trial-lowest, trial-own, trial-other}
 use Rattle.txn_priorities.specs.Limits.{limit}
 use Rattle.txn_priorities.proofs.Limited.{limit-le}
 use Rattle.txn_priorities.specs.Around.{around_set, trial_set, StandForHigher}

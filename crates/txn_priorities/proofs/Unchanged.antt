@@ -4,8 +4,8 @@ use Rattle.std.proofs.Math.Seq.{take-suc}
 use Rattle.std.proofs.lemmas.List.{take_all}
 use Rattle.txn_set.specs.declared.decl.TxnDecl.{TxnDecl}
 use Rattle.txn_set.specs.Set.{no_txn}
-use Rattle.priority_laws.specs.Assigned.{txns_with}
-use Rattle.priority_laws.proofs.Moving.{with-length}
+use Rattle.law_times.specs.Assigned.{txns_with}
+use Rattle.law_times.proofs.Moving.{with-length}
 
 pub reads-with : (p : ℕ → ℕ) (ts : List TxnDecl) (tx : ℕ) → (get_or (txns_with p ts) tx no_txn).reads ≡ (get_or ts tx no_txn).reads
 reads-with p [] tx = refl

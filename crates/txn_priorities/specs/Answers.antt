@@ -2,8 +2,8 @@
 use Rattle.std.specs.Prelude.{◌≡◌, ℕ, suc, not, List, map, length}
 use Rattle.std.specs.List.{filter, range_with_len}
 use Rattle.txn_set.specs.Set.{Set}
-use Rattle.deadline_laws.specs.Response.{demand}
-use Rattle.priority_laws.specs.Pass.{is_placed, pass_to, IsStuck}
+use Rattle.law_times.specs.Response.{demand}
+use Rattle.law_times.specs.Pass.{is_placed, pass_to, IsStuck}
 use Rattle.txn_priorities.specs.declared.refusal.Unplaced.{Unplaced}
 use Rattle.txn_priorities.specs.declared.refusal.NoAssignment.{NoAssignment}
 use Rattle.txn_priorities.specs.Limits.{limit}

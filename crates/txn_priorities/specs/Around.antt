@@ -1,11 +1,11 @@
 -- What the test of one level knows of the others.
 use Rattle.std.specs.Prelude.{◌≡◌, ℕ, Bool, if◌then◌else◌, List}
 use Rattle.txn_set.specs.Set.{Set}
-use Rattle.deadline_laws.specs.Response.{higher_demand}
+use Rattle.law_times.specs.Response.{higher_demand}
 use Rattle.response_test.specs.declared.windows.Load.{Load}
 use Rattle.response_test.specs.Loads.{uses}
-use Rattle.priority_laws.specs.Assigned.{with_prios}
-use Rattle.priority_laws.specs.Pass.{trial, is_placed}
+use Rattle.law_times.specs.Assigned.{with_prios}
+use Rattle.law_times.specs.Pass.{trial, is_placed}
 
 -- the placed ones below, and all others above
 abbrev pub around : (ℕ → Bool) → ℕ → ℕ

@@ -1,9 +1,9 @@
 -- What the limits of responses are to admission, and that other priorities break no rule of compiling.
 use Rattle.std.specs.Prelude.{ℕ, ◌<◌, ◌≤◌, length}
 use Rattle.txn_set.specs.Set.{Set, IsCompiled}
-use Rattle.fresh_laws.specs.Ages.{IsAdmitted}
-use Rattle.priority_laws.specs.Assigned.{with_prios, IsAssignment, Keeps}
-use Rattle.priority_laws.specs.Laws.{NoneKeeps}
+use Rattle.law_times.specs.Ages.{IsAdmitted}
+use Rattle.law_times.specs.Assigned.{with_prios, IsAssignment, Keeps}
+use Rattle.law_times.specs.Laws.{NoneKeeps}
 use Rattle.txn_priorities.specs.Limits.{limit}
 
 -- each priority is at most the greatest one of a compiled set

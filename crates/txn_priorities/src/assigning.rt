@@ -1,8 +1,8 @@
 //! The pass from the lowest level up, and a set with its priorities.
 ghost use Rattle.std.specs.Prelude.{◌≡◌, ◌+◌, ◌*◌, ◌≤◌, length, None, IfOk, IfErr};
-ghost use Rattle.priority_laws.specs.Assigned.{IsAssignment, with_prios};
-ghost use Rattle.priority_laws.specs.Pass.{pass, prio_at};
-ghost use Rattle.priority_laws.specs.Laws.{IsSolved, NoneKeeps};
+ghost use Rattle.law_times.specs.Assigned.{IsAssignment, with_prios};
+ghost use Rattle.law_times.specs.Pass.{pass, prio_at};
+ghost use Rattle.law_times.specs.Laws.{IsSolved, NoneKeeps};
 ghost use Rattle.txn_compiler.specs.Refusal.{Refuses};
 ghost use Rattle.txn_priorities.specs.Limits.{limit};
 ghost use Rattle.txn_priorities.specs.Answers.{IsRefusal};

@@ -3,7 +3,7 @@ ghost use Rattle.std.specs.Prelude.{◌≡◌, ◌-◌, ◌<◌, ◌≤◌, ◌&
 ghost use Rattle.std.specs.List.{list_any};
 ghost use Rattle.txn_set.specs.Set.{may_read, may_write, txn_of};
 ghost use Rattle.txn_set.specs.Ceilings.{write_ceiling, absolute_ceiling, may_block, blocking};
-ghost use Rattle.priority_laws.specs.Pass.{is_placed};
+ghost use Rattle.law_times.specs.Pass.{is_placed};
 ghost use Rattle.txn_priorities.specs.Around.{around_set};
 
 use rt_base::{ItemId, Prio, TxId};

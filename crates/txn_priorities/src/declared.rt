@@ -1,7 +1,7 @@
 //! The declarations of a set, with other priorities.
 ghost use Rattle.std.specs.Prelude.{◌≡◌, length, IfOk};
-ghost use Rattle.priority_laws.specs.Assigned.{txns_with as with_each};
-ghost use Rattle.priority_laws.specs.Pass.{prio_at};
+ghost use Rattle.law_times.specs.Assigned.{txns_with as with_each};
+ghost use Rattle.law_times.specs.Pass.{prio_at};
 
 use rt_base::{ItemId, List, OutOfMemory, Prio, TogetherDecl};
 use std::alloc::Global;

@@ -2,8 +2,8 @@
 ghost use Rattle.std.specs.Prelude.{◌≡◌, ◌+◌, ◌<◌, ◌≤◌, ◌^◌, ◌==◌, ◌&&◌, not, length, map, false, if◌then◌else◌, IfOk};
 ghost use Rattle.txn_set.specs.Set.{IsCompiled};
 ghost use Rattle.txn_set.specs.Ceilings.{blocking as blocking_at};
-ghost use Rattle.deadline_laws.specs.Response.{demand};
-ghost use Rattle.priority_laws.specs.Pass.{prio_at, is_placed, passes as passes_at, first_passing as first_passing_at, left};
+ghost use Rattle.law_times.specs.Response.{demand};
+ghost use Rattle.law_times.specs.Pass.{prio_at, is_placed, passes as passes_at, first_passing as first_passing_at, left};
 ghost use Rattle.txn_priorities.specs.Limits.{limit_of as limit_in, limit};
 ghost use Rattle.txn_priorities.specs.Around.{around_set, trial_set, StandForHigher};
 ghost use Rattle.txn_priorities.specs.Answers.{unplaced};

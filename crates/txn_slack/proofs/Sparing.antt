@@ -14,8 +14,8 @@ use Rattle.item_model.specs.Kinds.{validity_of_kind, is_derived_kind, validity_o
 use Rattle.txn_set.specs.declared.decl.TxnDecl.{TxnDecl}
 use Rattle.txn_set.specs.Set.{Set, no_txn, txn_of, may_read, AreItemsOf, IsTheWriter, DependsOn, Walk, IsCompiled}
 use Rattle.txn_set.specs.Ceilings.{greatest, write_ceiling, absolute_ceiling, blocking}
-use Rattle.deadline_laws.specs.Response.{demand, first_window, response, HoldsDemand, IsResponse}
-use Rattle.fresh_laws.specs.Ages.{greatest_read, writer_of, age_by, age_bound, IsAdmittedBy, IsAdmitted}
+use Rattle.law_times.specs.Response.{demand, first_window, response, HoldsDemand, IsResponse}
+use Rattle.law_times.specs.Ages.{greatest_read, writer_of, age_by, age_bound, IsAdmittedBy, IsAdmitted}
 use Rattle.set_admission.specs.Bounds.{response_of, age_of, MeetsAdmission}
 use Rattle.set_admission.proofs.Admitted.{decided}
 use Rattle.txn_slack.specs.Spares.{kind_with, no_item, item_with, with_validity, is_read}

@@ -2,7 +2,7 @@
 use Rattle.std.specs.Prelude.{◌≡◌, ◌↔◌, ℕ, ◌<◌, ◌≤◌, length, None, Some, IsTrue}
 use Rattle.item_model.specs.Kinds.{validity_of}
 use Rattle.txn_set.specs.Set.{Set, txn_of, IsCompiled}
-use Rattle.fresh_laws.specs.Ages.{IsAdmitted}
+use Rattle.law_times.specs.Ages.{IsAdmitted}
 use Rattle.set_admission.specs.Bounds.{age_of}
 use Rattle.txn_slack.specs.Steps.{with_steps, IsAccepted, IsCount, barrier_at}
 use Rattle.txn_slack.specs.Spares.{with_validity, is_read}

@@ -2,7 +2,7 @@
 use Rattle.std.specs.Prelude.{ℕ, ◌<◌, ◌≤◌, nat_le, if◌then◌else◌, length, slice_set, Option, None}
 use Rattle.txn_set.specs.declared.decl.TxnDecl.{TxnDecl}
 use Rattle.txn_set.specs.Set.{Set, txn_of, IsCompiled}
-use Rattle.fresh_laws.specs.Ages.{IsAdmitted}
+use Rattle.law_times.specs.Ages.{IsAdmitted}
 use Rattle.set_admission.specs.declared.error.AdmitError.{AdmitError}
 use Rattle.set_admission.specs.Admission.{refusal}
 

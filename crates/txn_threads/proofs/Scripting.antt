@@ -11,7 +11,7 @@ use Rattle.rt_base.specs.declared.operation.Outcome.{Outcome}
 use Rattle.step_journal.specs.declared.entry.Entry.{Entry}
 use Rattle.step_journal.specs.declared.entry.Entry.TheVariants.{Step}
 use Rattle.step_journal.specs.Serial.{outcome_in, outcomes_of}
-use Rattle.history_laws.proofs.Alone.{outcomes_more_in}
+use Rattle.law_histories.proofs.Alone.{outcomes_more_in}
 use Rattle.board.specs.declared.replies.StepReply.{StepReply}
 use Rattle.board.specs.declared.replies.StepReply.TheVariants.{NoJob, NotYet, Undeclared, TooEarly, Unwritten, Full, Done}
 use Rattle.board.specs.declared.replies.StepReply.TheVariants as reply

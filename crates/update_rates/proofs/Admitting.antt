@@ -13,8 +13,8 @@ use Rattle.txn_compiler.specs.Refusal.{compile_refusal}
 use Rattle.txn_compiler.specs.Refusal.{Refuses as RefusesSet}
 use Rattle.txn_compiler.proofs.Verdict.{compiled-unless-refused}
 use Rattle.txn_compiler.proofs.Keeping.{kept-as-declared}
-use Rattle.deadline_laws.specs.Response.{IsResponse, response}
-use Rattle.fresh_laws.specs.Ages.{IsAdmitted}
+use Rattle.law_times.specs.Response.{IsResponse, response}
+use Rattle.law_times.specs.Ages.{IsAdmitted}
 use Rattle.set_admission.specs.declared.error.AdmitError.{AdmitError}
 use Rattle.set_admission.specs.Admission.{refusal}
 use Rattle.set_admission.specs.Admission.{Refuses as RefusesAdmission}

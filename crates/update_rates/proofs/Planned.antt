@@ -13,7 +13,7 @@ use Rattle.txn_compiler.specs.declared.error.CompileError.TheVariants as compile
 use Rattle.txn_compiler.specs.Refusal.{compile_refusal}
 use Rattle.txn_compiler.specs.Refusal.{Refuses as RefusesSet}
 use Rattle.txn_compiler.specs.Kept.{set_of}
-use Rattle.deadline_laws.specs.Response.{response}
+use Rattle.law_times.specs.Response.{response}
 use Rattle.response_test.specs.Response.{least_from}
 use Rattle.set_admission.specs.declared.error.AdmitError.{AdmitError}
 use Rattle.set_admission.specs.declared.error.AdmitError.TheVariants as admit_error

@@ -9,8 +9,8 @@ use Rattle.rt_base.specs.declared.ids.ItemId.{ItemId}
 use Rattle.txn_set.specs.declared.decl.TxnDecl.{TxnDecl}
 use Rattle.txn_set.specs.Set.{Set, no_txn, txn_of, names_item, may_read, may_write, IsCompiled}
 use Rattle.txn_set.specs.Ceilings.{greatest, absolute_ceiling, write_ceiling, may_block, blocking}
-use Rattle.history_laws.proofs.Members.{In, filter_in, greatest_in}
-use Rattle.deadline_laws.specs.Response.{part_of, higher_demand, demand}
+use Rattle.law_histories.proofs.Members.{In, filter_in, greatest_in}
+use Rattle.law_times.specs.Response.{part_of, higher_demand, demand}
 use Rattle.update_rates.specs.declared.updaters.Updater.{Updater}
 use Rattle.update_rates.specs.declared.rates.Rate.{Rate}
 use Rattle.update_rates.specs.Updaters.{updater_of, updaters, no_updater, updater_at}

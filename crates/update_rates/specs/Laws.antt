@@ -2,7 +2,7 @@
 -- there are none, no assignment keeps them.
 use Rattle.std.specs.Prelude.{◌≡◌, ◌≢◌, ◌↔◌, ℕ, ◌+◌, ◌<◌, ◌≤◌, List, length, Some, None, IsTrue}
 use Rattle.txn_set.specs.Set.{Set, txn_of}
-use Rattle.deadline_laws.specs.Response.{response}
+use Rattle.law_times.specs.Response.{response}
 use Rattle.update_rates.specs.declared.updaters.Updater.{Updater}
 use Rattle.update_rates.specs.declared.error.RateError.{RateError}
 use Rattle.update_rates.specs.declared.error.RateError.TheVariants.{Compile, NotAnUpdater, TooTight, OutOfMemory}

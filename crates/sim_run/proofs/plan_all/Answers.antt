@@ -1,6 +1,6 @@
 use Rattle.std.proofs.Common.{◌+◌, ◌++◌, map, drop, refl, sym, ◌∙◌, arith}
 use Rattle.step_journal.specs.declared.entry.Entry.TheVariants.{Planned}
-use Rattle.sim_history.specs.Sim.{plans_from}
+use Rattle.law_histories.specs.Sim.{plans_from}
 use Rattle.sim_run.proofs.Planning.{all_go_on, all_left}
 use Rattle.sim_run.proofs.Handing.{handed_on, left_as, cut_on, take_less, take_rest, on_err}
 use Rattle.sim_run.proofs.plan_all.Goals as goal

@@ -1,6 +1,6 @@
 use Rattle.std.proofs.Common.{◌≡◌, ◌≤◌, [], ◌++◌, List, drop, length, vec_capacity}
 use Rattle.step_journal.specs.declared.entry.Entry.{Entry}
-use Rattle.sim_history.specs.Sim.{plans_from}
+use Rattle.law_histories.specs.Sim.{plans_from}
 use Rattle.sim_run.specs.Handed.{IsHanded, IsReady}
 use Rattle.sim_run.proofs.Handing.{Goes}
 use Rattle.sim_run.proofs.plan_all.Given as goal

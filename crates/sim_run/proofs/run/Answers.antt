@@ -1,7 +1,7 @@
 use Rattle.std.proofs.Common.{List, [], ◌++◌, length, map, refl, sym, subst, ◌∙◌, arith}
 use Rattle.std.proofs.lemmas.Result.{IfOk-weaker, on_err_weaker}
 use Rattle.step_journal.specs.declared.entry.Entry.{Entry}
-use Rattle.sim_history.specs.Sim.{plans_from}
+use Rattle.law_histories.specs.Sim.{plans_from}
 use Rattle.sim_run.specs.Workloads.{workload}
 use Rattle.sim_run.specs.Handed.{CanTake, IsHanded, IsCut}
 use Rattle.sim_run.proofs.Planning.{releases_legal}

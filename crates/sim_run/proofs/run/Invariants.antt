@@ -1,6 +1,6 @@
 use Rattle.std.proofs.Common.{◌≡◌, ◌+◌, ◌-◌, ◌≤◌, List, [], map, length, vec_capacity}
 use Rattle.step_journal.specs.declared.entry.Entry.{Entry}
-use Rattle.counting_laws.specs.Counting.{room_of_jobs}
+use Rattle.law_histories.specs.Counting.{room_of_jobs}
 use Rattle.sim_run.specs.Workloads.{workload, ticks_of}
 use Rattle.sim_run.specs.Handed.{IsReady}
 use Rattle.sim_run.proofs.Whole.{OnWay}

@@ -2,7 +2,7 @@ use Rattle.std.proofs.Common.{◌≡◌, None, ap, ◌∙◌}
 use Rattle.scenario.specs.Shown.{Shown, shown, set_of}
 use Rattle.update_rates.specs.RatedSet.{rated_set}
 use Rattle.update_rates.specs.Refusal.{rate_refusal}
-use Rattle.analysis_lines.specs.Lines.{rates_of}
+use Rattle.refusal_lines.specs.Lines.{rates_of}
 use Rattle.command_replies.proofs.Replying.{taken}
 use Rattle.command_replies.proofs.Analysing.{rates_reply}
 use Rattle.command_replies.proofs.analysis.rates.Goals as goal

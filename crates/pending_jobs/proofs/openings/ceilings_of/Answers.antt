@@ -1,7 +1,7 @@
 use Rattle.std.proofs.Common.{◌≡◌, ◌≤◌, ℕ, arith}
 use Rattle.txn_set.specs.Set.{Set}
 use Rattle.txn_set.specs.Ceilings.{write_ceiling, absolute_ceiling}
-use Rattle.history_laws.proofs.Holding.{write_le_absolute}
+use Rattle.law_histories.proofs.Holding.{write_le_absolute}
 use Rattle.pending_jobs.proofs.openings.ceilings_of.Goals as goal
 
 in_order : (set : Set) (item write absolute : ℕ) → write ≡ write_ceiling set item → absolute ≡ absolute_ceiling set item → write ≤ absolute

@@ -1,6 +1,6 @@
 use Rattle.std.proofs.Common.{◌∙◌, ap, map}
 use Rattle.txn_set.specs.declared.decl.TxnDecl.{TxnDecl}
-use Rattle.history_laws.proofs.Calendar.{distinct}
+use Rattle.law_histories.proofs.Calendar.{distinct}
 use Rattle.pending_jobs.proofs.openings.waits_of.Goals as goal
 
 pub new-requires-clause-distinct : goal.new-requires-clause-distinct

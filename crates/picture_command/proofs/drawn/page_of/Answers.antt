@@ -1,6 +1,6 @@
 use Rattle.std.proofs.Common.{◌≡◌, ◌∙◌, List, IfOk, subst}
 use Rattle.item_model.specs.declared.stored.Stored.{Stored}
-use Rattle.picture_page.specs.Page.{page_text}
+use Rattle.picture_command.specs.Page.{page_text}
 use Rattle.picture_command.proofs.drawn.page_of.Goals as goal
 
 pub returns : goal.returns

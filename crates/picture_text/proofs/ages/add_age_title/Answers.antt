@@ -1,5 +1,5 @@
 use Rattle.std.proofs.Common.{[], codes, decimal, rules, slice_get, ◌++◌, ◌+◌, ◌-◌, ◌≡◌}
-use Rattle.line_fields.specs.Ids.{name_at}
+use Rattle.journal_text.specs.Ids.{name_at}
 use Rattle.picture_places.specs.Places.{item_y, validity_in}
 use Rattle.picture_places.specs.Svg.{fitting, line, words}
 use Rattle.picture_text.specs.Ages.{bound_word}

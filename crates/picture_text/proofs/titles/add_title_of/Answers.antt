@@ -1,5 +1,5 @@
 use Rattle.std.proofs.Common.{ℕ, List, ap, ◌∙◌, [], codes, rules, ◌++◌, ◌+◌, ◌-◌, ◌≡◌}
-use Rattle.line_fields.specs.Ids.{name_at}
+use Rattle.journal_text.specs.Ids.{name_at}
 use Rattle.picture_places.specs.Places.{level_y, y_of}
 use Rattle.picture_places.specs.Svg.{words}
 use Rattle.picture_text.specs.Texts.{lane_titles, row_title}

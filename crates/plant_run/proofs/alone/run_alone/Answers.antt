@@ -1,10 +1,9 @@
-use Rattle.std.proofs.Common.{◌≡◌, ℕ, List, map, sym, ap, subst, ◌∙◌}
-use Rattle.txn_set.specs.Set.{Set}
-use Rattle.sim_history.specs.Sim.{Body, Workload}
+use Rattle.std.proofs.Common.{ℕ, List, map, sym, ap, subst, ◌∙◌}
+use Rattle.law_histories.specs.Sim.{Body, Workload}
 use Rattle.sim_run.specs.Workloads.{workload, IsObedient}
 use Rattle.sim_run.specs.Runs.{IsWhole, IsStopped}
 use Rattle.sim_run.proofs.Planning.{releases_legal}
-use Rattle.plant_history.proofs.Fixed.{sim_is_run}
+use Rattle.law_runs.proofs.Fixed.{sim_is_run}
 use Rattle.plant_run.specs.declared.watched.Watched.{Watched}
 use Rattle.plant_run.specs.Runs.{own_at}
 use Rattle.plant_run.proofs.Ending.{cut_before}

@@ -1,7 +1,4 @@
-use Rattle.std.proofs.Common.{◌≡◌, ◌+◌, ◌≤◌, ◌++◌, Vec, map, reverse, vec_len, vec_capacity}
-use Rattle.txn_threads.specs.declared.member.Member.{Member}
-use Rattle.txn_threads.specs.declared.member.Worker.{Worker}
-use Rattle.plant_run.specs.Deals.{team_of}
+use Rattle.std.proofs.Common.{◌≡◌, ◌+◌, ◌≤◌, ◌++◌, map, reverse, vec_len, vec_capacity}
 use Rattle.plant_run.proofs.Deals.{Row}
 use Rattle.plant_run.proofs.Crews.{teams}
 use Rattle.plant_run.proofs.deal.staff.Given as goal

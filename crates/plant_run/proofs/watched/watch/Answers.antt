@@ -1,7 +1,7 @@
 use Rattle.std.proofs.Common.{◌≡◌, ◌++◌, [], List, length, map, reverse, vec_len, sym, ap, ◌∙◌, arith, rules, append-nil}
 use Rattle.std.proofs.lemmas.List.{nil_from_length, reverse-reverse}
 use Rattle.plant_run.specs.declared.watched.Watched.{Watched}
-use Rattle.sim_history.specs.Sim.{Body}
+use Rattle.law_histories.specs.Sim.{Body}
 use Rattle.plant_run.proofs.Crews.{map_reverse}
 use Rattle.plant_run.proofs.watched.watch.Goals as goal
 

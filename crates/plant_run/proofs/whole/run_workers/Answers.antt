@@ -1,11 +1,11 @@
 use Rattle.std.proofs.Common.{ℕ, ◌++◌, List, [], length, map, sym, ap, subst, ◌∙◌, arith, rules}
 use Rattle.txn_set.specs.Set.{Set}
 use Rattle.step_journal.specs.declared.entry.Entry.{Entry}
-use Rattle.sim_history.specs.Sim.{Workload, plans_from}
+use Rattle.law_histories.specs.Sim.{Workload, plans_from}
 use Rattle.sim_run.specs.Workloads.{workload, IsObedient}
 use Rattle.sim_run.specs.Handed.{CanTake, IsHanded, IsCut}
 use Rattle.sim_run.proofs.Planning.{releases_legal}
-use Rattle.eager_laws.specs.Plannable.{ArePlannable}
+use Rattle.law_runs.specs.Plannable.{ArePlannable}
 use Rattle.sim_run.proofs.Runs.{nothing_kept}
 use Rattle.plant_run.specs.Runs.{own_at, IsShortRun}
 use Rattle.plant_run.proofs.Ending.{few_ticks, plans_so_far, cut_run, cut_before, cut_short, can_go_on, stopped_at_work, can_append_left, stopped_at_end, ended_whole}

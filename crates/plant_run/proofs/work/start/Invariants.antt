@@ -1,4 +1,4 @@
-use Rattle.sim_history.specs.Sim.{plans_from}
+use Rattle.law_histories.specs.Sim.{plans_from}
 use Rattle.plant_run.proofs.work.start.Given as goal
 
 abbrev pub ghosts-start_on : goal.ghosts-start_on

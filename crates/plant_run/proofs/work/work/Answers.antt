@@ -6,14 +6,14 @@ use Rattle.txn_set.specs.Set.{Set}
 use Rattle.step_journal.specs.declared.entry.Entry.{Entry}
 use Rattle.turn_cell.specs.Turn.{total}
 use Rattle.shared_plant.specs.Seats.{SeatFacts}
-use Rattle.sim_history.specs.Sim.{plans_from}
+use Rattle.law_histories.specs.Sim.{plans_from}
 use Rattle.sim_run.specs.Workloads.{workload, IsObedient}
 use Rattle.txn_threads.specs.declared.member.Worker.{Worker}
 use Rattle.txn_threads.specs.declared.member.Member.{Member}
 use Rattle.txn_threads.specs.Rounds.{Each}
 use Rattle.txn_threads.specs.Runs.{HasRun, StopIs, IfStopped, Collected, CollectedTo, GotMore, part}
 use Rattle.plant_run.specs.Deals.{team_of, seats_in, AreDealt}
-use Rattle.eager_laws.specs.Plannable.{ArePlannable}
+use Rattle.law_runs.specs.Plannable.{ArePlannable}
 use Rattle.plant_run.specs.Runs.{own_at}
 use Rattle.plant_run.specs.Works.{HasWorked, WasCut, CanGoOn}
 use Rattle.plant_run.proofs.Crews.{teams, same_sizes, total_teams}
@@ -190,8 +190,8 @@ returns-in-Ok-clause-worked g c =
     (has_worked w own (g.B.Board.stands c.closed-board.result) g.O.EntryOut.got c.args.out.now c.run_all-ran.new.out (g.B.Board.kept c.args.staffed.run.board) (g.B.Board.kept c.closed-board.result) c.run_all-ran.new.drain.operator.seen closed.story first c.run_all-ran.new.drain.operator.drained
     whole closed.stood is.rest low ends_at.begins ends_at.low ends_at.within ends_at.kept_is more)
 
-pub returns-in-Err-clause-cut : goal.returns-in-Err-clause-cut
-returns-in-Err-clause-cut g c = λ stopped.
+pub returns-clause-cut : goal.returns-clause-cut
+returns-clause-cut g c = λ stopped.
     let p = c.in_ok-plant.plant in let e = c.in_ok-plant.ensures in
     let first : ℕ = g.B.Board.first c.args.staffed.run.board in let past : List Entry = plans_from 0 c.args.staffed.run.ticks.now in
     let bodies = map g.Y.Body.gives c.args.staffed.run.bodies.items in
@@ -226,8 +226,8 @@ returns-in-Err-clause-cut g c = λ stopped.
     (was_cut w own g.O.EntryOut.got g.O.EntryOut.lost c.args.out.now c.run_all-ran.new.out (g.B.Board.kept c.args.staffed.run.board) (g.B.Board.kept c.closed-board.result) closed.story first c.unwrap-operator.result c.run_all-ran.new.drain.operator
     so is.rest low ends_at.begins ends_at.drained_is ends_at.within ends_at.kept_is got.1)
 
-pub returns-in-Err-clause-cause : goal.returns-in-Err-clause-cause
-returns-in-Err-clause-cause g c = λ stopped.
+pub returns-clause-cause : goal.returns-clause-cause
+returns-clause-cause g c = λ stopped.
     let p = c.in_ok-plant.plant in let e = c.in_ok-plant.ensures in
     let first : ℕ = g.B.Board.first c.args.staffed.run.board in let past : List Entry = plans_from 0 c.args.staffed.run.ticks.now in
     let bodies = map g.Y.Body.gives c.args.staffed.run.bodies.items in

@@ -1,5 +1,5 @@
 use Rattle.report_export.specs.Json.{together_json}
-use Rattle.report_lines.proofs.RowLaws.{next_row_at, all_rows}
+use Rattle.report_text.proofs.RowLaws.{next_row_at, all_rows}
 use Rattle.report_export.proofs.declared.add_sets.Goals as goal
 
 pub loop-i-preserved : goal.loop-i-preserved

@@ -1,7 +1,7 @@
 use Rattle.txn_set.specs.Set.{no_txn}
 use Rattle.report_export.specs.Json.{txn_json}
-use Rattle.report_lines.proofs.RowLaws.{next_row, all_rows}
-use Rattle.report_lines.proofs.Named.{reads_named, writes_named}
+use Rattle.report_text.proofs.RowLaws.{next_row, all_rows}
+use Rattle.report_text.proofs.Named.{reads_named, writes_named}
 use Rattle.report_export.proofs.declared.add_txns.Goals as goal
 
 pub add_txn-requires-clause-reads : goal.add_txn-requires-clause-reads

@@ -1,5 +1,5 @@
 use Rattle.report_export.specs.Json.{entry_json}
-use Rattle.report_lines.proofs.RowLaws.{next_row, all_rows}
+use Rattle.report_text.proofs.RowLaws.{next_row, all_rows}
 use Rattle.report_export.proofs.entries.add_entries.Goals as goal
 
 pub loop-i-preserved : goal.loop-i-preserved

@@ -1,5 +1,5 @@
 use Rattle.std.proofs.Common.{◌≡◌, ◌++◌, drop}
-use Rattle.report_lines.specs.Rows.{numbered}
+use Rattle.report_text.specs.Rows.{numbered}
 use Rattle.report_export.specs.Json.{entry_json}
 use Rattle.report_export.proofs.entries.add_entries.Given as goal
 

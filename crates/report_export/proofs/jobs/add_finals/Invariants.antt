@@ -1,5 +1,5 @@
 use Rattle.std.proofs.Common.{◌≡◌, ◌++◌, drop}
-use Rattle.report_lines.specs.Rows.{numbered}
+use Rattle.report_text.specs.Rows.{numbered}
 use Rattle.report_export.specs.Json.{final_json}
 use Rattle.report_export.proofs.jobs.add_finals.Given as goal
 

@@ -1,5 +1,5 @@
 use Rattle.std.proofs.Common.{◌≡◌, ◌++◌, drop}
-use Rattle.report_lines.specs.Rows.{numbered}
+use Rattle.report_text.specs.Rows.{numbered}
 use Rattle.report_export.specs.Table.{job_cells}
 use Rattle.report_export.proofs.jobs.add_rows.Given as goal
 

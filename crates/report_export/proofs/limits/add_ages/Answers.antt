@@ -1,5 +1,5 @@
 use Rattle.report_export.specs.Whole.{ages_json}
-use Rattle.report_lines.proofs.RowLaws.{no_item, next_row, all_rows}
+use Rattle.report_text.proofs.RowLaws.{no_item, next_row, all_rows}
 use Rattle.report_export.proofs.limits.add_ages.Goals as goal
 
 pub loop-i-preserved : goal.loop-i-preserved

@@ -1,5 +1,5 @@
 use Rattle.txn_set.specs.Set.{no_txn}
-use Rattle.report_lines.proofs.RowLaws.{next_row, all_rows}
+use Rattle.report_text.proofs.RowLaws.{next_row, all_rows}
 use Rattle.report_export.specs.Whole.{bounds_json}
 use Rattle.report_export.proofs.BoundLines.{bound_is}
 use Rattle.report_export.proofs.limits.add_bounds.Goals as goal

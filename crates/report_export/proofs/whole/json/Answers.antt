@@ -2,7 +2,7 @@ use Rattle.std.proofs.Common.{◌∙◌, sym, subst, ap, arith, length}
 use Rattle.std.specs.Prelude.{is_some}
 use Rattle.std.specs.List.{All}
 use Rattle.board.proofs.Counts.{items_count}
-use Rattle.report_lines.specs.Texts.{KnownRow}
+use Rattle.report_text.specs.Texts.{KnownRow}
 use Rattle.report_export.proofs.Telling.{whole_json}
 use Rattle.report_export.proofs.whole.json.Goals as goal
 

@@ -1,6 +1,6 @@
 use Rattle.std.proofs.Common.{◌∙◌, sym, subst}
 use Rattle.std.specs.List.{All}
-use Rattle.report_lines.specs.Texts.{KnownRow}
+use Rattle.report_text.specs.Texts.{KnownRow}
 use Rattle.report_export.proofs.Telling.{whole_table}
 use Rattle.report_export.proofs.whole.table.Goals as goal
 

@@ -2,7 +2,7 @@ use Rattle.std.proofs.Common.{◌<◌, ◌≤◌, ◌++◌, List, length, drop, 
 use Rattle.std.proofs.Math.ListN.{drop_of_length-le}
 use Rattle.std.proofs.lemmas.List.{take_all}
 use Rattle.step_journal.specs.declared.entry.Entry.{Entry as Noted}
-use Rattle.report_lines.specs.Texts.{entries_text}
+use Rattle.report_text.specs.Texts.{entries_text}
 use Rattle.job_rows.specs.Upkeep.{Follows}
 use Rattle.report_out.proofs.Texts.{next_writes, cut_short, all_sent, has_come, counted_next, always_err}
 use Rattle.report_out.proofs.lines.add_lines.Goals as goal

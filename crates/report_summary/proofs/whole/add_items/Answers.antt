@@ -10,7 +10,7 @@ use Rattle.txn_set.specs.Set.{Set}
 use Rattle.step_journal.specs.declared.entry.Entry.{Entry}
 use Rattle.set_admission.specs.Bounds.{age_of}
 use Rattle.job_rows.specs.declared.row.JobRow.{JobRow}
-use Rattle.report_lines.proofs.RowLaws.{next_row}
+use Rattle.report_text.proofs.RowLaws.{next_row}
 use Rattle.report_summary.specs.Worsts.{worst, commit_of, ages}
 use Rattle.report_summary.specs.Ages.{commit_at}
 use Rattle.report_summary.specs.Texts.{bound_in, age_text, item_lines}

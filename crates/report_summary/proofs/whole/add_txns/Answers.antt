@@ -4,7 +4,7 @@ use Rattle.std.proofs.lemmas.List.{get_or_read}
 use Rattle.rt_base.specs.declared.name.Names.{Names}
 use Rattle.txn_set.specs.Set.{Set, no_txn}
 use Rattle.job_rows.specs.declared.row.JobRow.{JobRow}
-use Rattle.report_lines.proofs.RowLaws.{next_row}
+use Rattle.report_text.proofs.RowLaws.{next_row}
 use Rattle.report_summary.specs.declared.tally.Tally.{Tally}
 use Rattle.report_summary.specs.Worsts.{jobs_of}
 use Rattle.report_summary.specs.Tallies.{no_jobs, tally_at, tallied, IsTally}

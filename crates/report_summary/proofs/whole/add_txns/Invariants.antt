@@ -1,6 +1,6 @@
 use Rattle.std.proofs.Common.{◌≡◌, ◌++◌, drop}
 use Rattle.std.specs.Prelude.{is_some}
-use Rattle.report_lines.specs.Rows.{numbered}
+use Rattle.report_text.specs.Rows.{numbered}
 use Rattle.report_summary.specs.Texts.{txn_lines}
 use Rattle.report_summary.proofs.whole.add_txns.Given as goal
 

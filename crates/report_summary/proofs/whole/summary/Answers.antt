@@ -1,7 +1,7 @@
 use Rattle.std.proofs.Common.{◌∙◌, sym, subst}
 use Rattle.std.specs.Prelude.{is_some}
 use Rattle.std.specs.List.{All}
-use Rattle.report_lines.specs.Texts.{KnownRow}
+use Rattle.report_text.specs.Texts.{KnownRow}
 use Rattle.report_summary.proofs.Telling.{whole_summary}
 use Rattle.report_summary.proofs.whole.summary.Goals as goal
 

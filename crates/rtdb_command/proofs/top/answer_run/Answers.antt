@@ -1,12 +1,12 @@
 use Rattle.std.proofs.Common.{rules, ◌≡◌, true, false, Some, sym, subst}
 use Rattle.scenario.specs.Shown.{Shown, shown}
 use Rattle.report_out.specs.Written.{WroteFront}
-use Rattle.run_fault.specs.declared.fault.RunFault.TheVariants.{Writing, Memory}
+use Rattle.run_out.specs.declared.fault.RunFault.TheVariants.{Writing, Memory}
 use Rattle.command_words.specs.declared.command.Command.TheVariants.{Run}
 use Rattle.std.specs.Prelude.{Bool, IsErrOf, ◌⊎◌}
 use Rattle.std.specs.Io.KnownBytes.{Keeps}
 use Rattle.scenario_run.specs.Replies.{RunReply, RunText}
-use Rattle.command_input.specs.Scenarios.{IsReadFrom}
+use Rattle.command_replies.specs.Scenarios.{IsReadFrom}
 use Rattle.rtdb_command.specs.Answers.{IsAnswer}
 use Rattle.rtdb_command.proofs.Telling.{from_read, run_cut, run_short}
 use Rattle.rtdb_command.proofs.top.answer_run.Goals as goal

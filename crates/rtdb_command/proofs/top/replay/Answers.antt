@@ -1,5 +1,5 @@
 use Rattle.std.proofs.Common.{rules, ◌≤◌, length}
-use Rattle.command_input.specs.Taken.{report_limit, TakesAll}
+use Rattle.command_replies.specs.Taken.{report_limit, TakesAll}
 use Rattle.rtdb_command.proofs.Telling.{judged_report}
 use Rattle.rtdb_command.proofs.top.replay.Goals as goal
 

@@ -1,7 +1,7 @@
 use Rattle.std.proofs.Common.{◌∙◌, subst}
 use Rattle.txn_compiler.specs.Refusal.{Refuses, compile_refusal}
 use Rattle.txn_set.specs.Set.{Set}
-use Rattle.report_head.specs.IsHead.{set_of}
+use Rattle.report_text.specs.IsHead.{set_of}
 use Rattle.run_report.proofs.HeadSets.{in_range, are_lists}
 use Rattle.run_report.proofs.declared.compile_head.Goals as goal
 

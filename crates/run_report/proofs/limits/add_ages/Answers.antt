@@ -1,4 +1,4 @@
-use Rattle.report_lines.proofs.RowLaws.{no_item, next_row, all_rows}
+use Rattle.report_text.proofs.RowLaws.{no_item, next_row, all_rows}
 use Rattle.run_report.specs.Bounds.{ages_line}
 use Rattle.run_report.proofs.limits.add_ages.Goals as goal
 

@@ -1,5 +1,5 @@
 use Rattle.txn_set.specs.Set.{no_txn}
-use Rattle.report_lines.proofs.RowLaws.{next_row, all_rows}
+use Rattle.report_text.proofs.RowLaws.{next_row, all_rows}
 use Rattle.run_report.specs.Bounds.{bounds_line}
 use Rattle.run_report.proofs.BoundLines.{bound_is}
 use Rattle.run_report.proofs.limits.add_bounds.Goals as goal

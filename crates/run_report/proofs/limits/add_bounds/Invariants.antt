@@ -1,5 +1,5 @@
 use Rattle.std.proofs.Common.{◌≡◌, ◌++◌, drop}
-use Rattle.report_lines.specs.Rows.{numbered}
+use Rattle.report_text.specs.Rows.{numbered}
 use Rattle.run_report.specs.Bounds.{bounds_line}
 use Rattle.run_report.proofs.limits.add_bounds.Given as goal
 

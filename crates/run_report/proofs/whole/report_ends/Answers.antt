@@ -1,7 +1,7 @@
 use Rattle.std.proofs.Common.{◌∙◌, sym, subst, ap, arith, length}
 use Rattle.std.specs.List.{All}
 use Rattle.board.proofs.Counts.{items_count}
-use Rattle.report_lines.specs.Texts.{KnownRow}
+use Rattle.report_text.specs.Texts.{KnownRow}
 use Rattle.run_report.proofs.LegalRows.{legal_rows}
 use Rattle.run_report.proofs.whole.report_ends.Goals as goal
 

@@ -7,8 +7,8 @@ use Rattle.step_journal.specs.declared.entry.Entry.TheVariants.{Planned}
 use Rattle.step_journal.specs.History.{state_of}
 use Rattle.job_rows.specs.Rows.{job_rows}
 use Rattle.job_rows.specs.Upkeep.{Follows}
-use Rattle.report_lines.specs.Texts.{whole_entry_line, entries_text}
-use Rattle.report_lines.proofs.RowLaws.{next_row, all_rows}
+use Rattle.report_text.specs.Texts.{whole_entry_line, entries_text}
+use Rattle.report_text.proofs.RowLaws.{next_row, all_rows}
 use Rattle.run_report.specs.Report.{opening_text, closing_text}
 use Rattle.job_rows.proofs.Fronts.{next_legal, next_fits}
 use Rattle.run_report.proofs.whole.report_with_items.Goals as goal

@@ -1,7 +1,7 @@
 use Rattle.std.proofs.Common.{◌≡◌, ◌++◌, take, drop}
 use Rattle.job_rows.specs.Upkeep.{Follows, planned_jobs}
-use Rattle.report_lines.specs.Rows.{numbered}
-use Rattle.report_lines.specs.Texts.{whole_entry_line, entries_text}
+use Rattle.report_text.specs.Rows.{numbered}
+use Rattle.report_text.specs.Texts.{whole_entry_line, entries_text}
 use Rattle.run_report.specs.Report.{opening_text}
 use Rattle.std.specs.Prelude.{is_some}
 use Rattle.run_report.proofs.whole.report_with_items.Given as goal

@@ -1,7 +1,7 @@
 use Rattle.std.proofs.Common.{refl, sym, ap, subst, ◌∙◌}
-use Rattle.plant_report.proofs.Parts.{wrote_of, front_of, kept_or_front}
-use Rattle.plant_report.proofs.Wholes.{on_ok}
-use Rattle.plant_report.specs.Eager.{IsRunTextBy}
+use Rattle.report_out.proofs.Parts.{wrote_of, front_of, kept_or_front}
+use Rattle.report_out.proofs.Wholes.{on_ok}
+use Rattle.report_out.specs.Eager.{IsRunTextBy}
 use Rattle.plant_run.specs.Runs.{own_at}
 use Rattle.report_out.specs.Opened.{IsOpened}
 use Rattle.sim_run.specs.Workloads.{workload}

@@ -1,9 +1,9 @@
 use Rattle.std.proofs.Common.{ℕ, List, ◌∙◌}
 use Rattle.step_journal.specs.declared.entry.Entry.{Entry}
-use Rattle.sim_history.specs.Sim.{Workload}
-use Rattle.plant_history.specs.Histories.{IsRunOf}
+use Rattle.law_histories.specs.Sim.{Workload}
+use Rattle.law_runs.specs.Histories.{IsRunOf}
 use Rattle.sim_run.specs.Workloads.{workload}
-use Rattle.plant_history.proofs.Fixed.{fixed_sim}
+use Rattle.law_runs.proofs.Fixed.{fixed_sim}
 use Rattle.plant_run.specs.Runs.{own_at}
 use Rattle.scenario_run.specs.Runs.{functions_of}
 use Rattle.scenario_run.proofs.Summaries.{summarized, legal_as, fixed_fits}

@@ -1,7 +1,7 @@
 use Rattle.std.proofs.Common.{Option, refl, ap, sym, ◌∙◌, subst}
 use Rattle.std.specs.Prelude.{is_some}
 use Rattle.step_journal.specs.declared.entry.Entry.{Entry}
-use Rattle.board.specs.Stories.{noted, step_entry, now_of}
+use Rattle.board.specs.Stories.{noted}
 use Rattle.serial_replay.proofs.Outside.{ask_outside}
 use Rattle.serial_replay.proofs.again.is_step_noted.Goals as goal
 

@@ -1,8 +1,8 @@
 use Rattle.std.proofs.Common.{ap, ◌∙◌, arith}
 use Rattle.txn_set.specs.declared.decl.TxnDecl.{TxnDecl}
 use Rattle.txn_set.specs.Set.{Set}
-use Rattle.history_laws.proofs.Calendar.{times_at}
-use Rattle.history_laws.proofs.DelayAll.{legal_delay}
+use Rattle.law_histories.proofs.Calendar.{times_at}
+use Rattle.law_histories.proofs.DelayAll.{legal_delay}
 use Rattle.serial_replay.proofs.Spans.{released, early_from, low_now, low_release, delay_told, nobody_delays}
 use Rattle.serial_replay.proofs.one_job.delay.Goals as goal
 

@@ -1,7 +1,7 @@
 use Rattle.std.proofs.Common.{◌∙◌, List}
 use Rattle.rt_base.specs.declared.ids.JobId.{JobId}
 use Rattle.step_journal.specs.declared.entry.Entry.{Entry}
-use Rattle.history_laws.specs.Protocol.{DelayedByOne}
+use Rattle.law_histories.specs.Protocol.{DelayedByOne}
 use Rattle.txn_set.specs.Set.{Set}
 use Rattle.serial_replay.proofs.Replayed.{rows_low}
 use Rattle.serial_replay.proofs.serial.replay.Goals as goal

@@ -1,5 +1,5 @@
 use Rattle.std.proofs.Common.{◌≡◌, ◌+◌, drop}
-use Rattle.fresh_laws.specs.Ages.{first_writer}
+use Rattle.law_times.specs.Ages.{first_writer}
 use Rattle.set_admission.proofs.age.writer_at.Given as goal
 
 abbrev pub invariant-loop-place : goal.invariant-loop-place

@@ -1,6 +1,6 @@
 use Rattle.std.proofs.Common.{◌≡◌, ◌<◌, ℕ, length, get_or, Some}
 use Rattle.rt_base.specs.declared.ids.TxId.{TxId}
-use Rattle.deadline_laws.specs.Response.{response}
+use Rattle.law_times.specs.Response.{response}
 use Rattle.set_admission.proofs.schedule.by_transaction.Given as goal
 
 abbrev pub invariant-loop-rank : goal.invariant-loop-rank

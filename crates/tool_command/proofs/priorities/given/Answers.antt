@@ -1,7 +1,7 @@
 use Rattle.std.proofs.Common.{sym, subst}
 use Rattle.txn_set.specs.Set.{Set}
-use Rattle.priority_laws.specs.Pass.{prio_at}
-use Rattle.report_lines.specs.Texts.{NamesSet}
+use Rattle.law_times.specs.Pass.{prio_at}
+use Rattle.report_text.specs.Texts.{NamesSet}
 use Rattle.tool_command.proofs.Assigning.{names_with}
 use Rattle.tool_command.proofs.priorities.given.Goals as goal
 

@@ -1,8 +1,8 @@
 use Rattle.std.proofs.Common.{◌≡◌, None, sym, subst, ◌∙◌}
 use Rattle.txn_compiler.specs.Refusal.{compile_refusal}
 use Rattle.scenario.specs.Shown.{Shown, shown, set_of}
-use Rattle.priority_laws.specs.Pass.{pass}
-use Rattle.priority_laws.specs.Laws.{IsSolved}
+use Rattle.law_times.specs.Pass.{pass}
+use Rattle.law_times.specs.Laws.{IsSolved}
 use Rattle.txn_priorities.specs.Limits.{limit}
 use Rattle.command_replies.proofs.Replying.{taken}
 use Rattle.tool_command.specs.Priorities.{GivenReply, PriorityReply}

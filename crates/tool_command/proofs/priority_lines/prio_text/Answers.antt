@@ -1,4 +1,4 @@
-use Rattle.report_lines.proofs.RowLaws.{next_row}
+use Rattle.report_text.proofs.RowLaws.{next_row}
 use Rattle.tool_command.specs.Priorities.{prio_line}
 use Rattle.tool_command.proofs.priority_lines.prio_text.Goals as goal
 

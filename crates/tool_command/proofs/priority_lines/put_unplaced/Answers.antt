@@ -1,4 +1,4 @@
-use Rattle.report_lines.proofs.RowLaws.{next_row}
+use Rattle.report_text.proofs.RowLaws.{next_row}
 use Rattle.txn_priorities.specs.declared.refusal.Unplaced.{Unplaced}
 use Rattle.tool_command.specs.Priorities.{unplaced_line}
 use Rattle.tool_command.proofs.priority_lines.put_unplaced.Goals as goal

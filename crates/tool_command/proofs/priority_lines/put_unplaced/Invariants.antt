@@ -1,5 +1,5 @@
 use Rattle.std.proofs.Common.{◌≡◌, ◌++◌, drop}
-use Rattle.report_lines.specs.Rows.{numbered}
+use Rattle.report_text.specs.Rows.{numbered}
 use Rattle.tool_command.specs.Priorities.{unplaced_line, unplaced_lines}
 use Rattle.tool_command.proofs.priority_lines.put_unplaced.Given as goal
 

@@ -1,6 +1,6 @@
 use Rattle.txn_set.specs.declared.decl.TxnDecl.{TxnDecl}
 use Rattle.txn_set.specs.Set.{no_txn}
-use Rattle.report_lines.proofs.RowLaws.{next_row}
+use Rattle.report_text.proofs.RowLaws.{next_row}
 use Rattle.tool_command.specs.Slacks.{slack_lines, slack_at}
 use Rattle.tool_command.proofs.slack_lines.put_slacks.Goals as goal
 

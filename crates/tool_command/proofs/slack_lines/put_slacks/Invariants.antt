@@ -1,5 +1,5 @@
 use Rattle.std.proofs.Common.{◌≡◌, ◌++◌, drop}
-use Rattle.report_lines.specs.Rows.{numbered}
+use Rattle.report_text.specs.Rows.{numbered}
 use Rattle.tool_command.specs.Slacks.{slack_lines, slack_at, slacks_of}
 use Rattle.tool_command.proofs.slack_lines.put_slacks.Given as goal
 

@@ -1,5 +1,5 @@
 use Rattle.std.proofs.Common.{◌∙◌}
-use Rattle.command_input.specs.Reports.{IsReportFrom}
+use Rattle.command_replies.specs.Reports.{IsReportFrom}
 use Rattle.command_replies.proofs.Replying.{taken}
 use Rattle.tool_command.specs.Reports.{JsonReply}
 use Rattle.tool_command.proofs.Statuses.{from_report}

@@ -1,5 +1,5 @@
 use Rattle.std.proofs.Common.{◌<◌, ◌∙◌, ap, length, arith}
-use Rattle.priority_laws.specs.Pass.{left}
+use Rattle.law_times.specs.Pass.{left}
 use Rattle.txn_priorities.proofs.Tested.{left-is, looks-end, looks-next, found-inside, given-length, pass-next, given-more, seen-found, none-keeps, solved-at}
 use Rattle.txn_priorities.proofs.assigning.assign.Goals as goal
 

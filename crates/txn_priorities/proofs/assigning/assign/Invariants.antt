@@ -1,5 +1,5 @@
 use Rattle.std.proofs.Common.{◌≡◌, ◌+◌, ◌-◌, ◌*◌, ◌≤◌, length}
-use Rattle.priority_laws.specs.Pass.{pass_to, AreGiven}
+use Rattle.law_times.specs.Pass.{pass_to, AreGiven}
 use Rattle.txn_priorities.specs.Limits.{limit}
 use Rattle.txn_priorities.proofs.assigning.assign.Given as goal
 

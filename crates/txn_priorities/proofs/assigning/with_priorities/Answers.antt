@@ -1,6 +1,6 @@
 use Rattle.std.proofs.Common.{◌∙◌, subst}
 use Rattle.txn_compiler.specs.Refusal.{Refuses}
-use Rattle.priority_laws.specs.Pass.{prio_at}
+use Rattle.law_times.specs.Pass.{prio_at}
 use Rattle.txn_priorities.proofs.Compiling.{declared, in-range, kept-is, no-refusal}
 use Rattle.txn_priorities.proofs.assigning.with_priorities.Goals as goal
 

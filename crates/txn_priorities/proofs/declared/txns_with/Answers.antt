@@ -1,5 +1,5 @@
 use Rattle.std.proofs.Common.{refl}
-use Rattle.priority_laws.specs.Pass.{prio_at}
+use Rattle.law_times.specs.Pass.{prio_at}
 use Rattle.txn_priorities.proofs.Unchanged.{next-with, all-with}
 use Rattle.txn_priorities.proofs.declared.txns_with.Goals as goal
 

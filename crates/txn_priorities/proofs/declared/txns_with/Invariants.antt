@@ -1,6 +1,6 @@
 use Rattle.std.proofs.Common.{◌≡◌, take}
-use Rattle.priority_laws.specs.Assigned.{txns_with}
-use Rattle.priority_laws.specs.Pass.{prio_at}
+use Rattle.law_times.specs.Assigned.{txns_with}
+use Rattle.law_times.specs.Pass.{prio_at}
 use Rattle.txn_priorities.proofs.declared.txns_with.Given as goal
 
 abbrev pub invariant-loop-tx : goal.invariant-loop-tx

@@ -1,5 +1,5 @@
 use Rattle.std.proofs.Common.{◌≡◌, ◌+◌, ◌*◌, ◌^◌, ◌≤◌}
-use Rattle.deadline_laws.specs.Response.{demand}
+use Rattle.law_times.specs.Response.{demand}
 use Rattle.txn_priorities.specs.Around.{trial_set}
 use Rattle.txn_priorities.proofs.Tested.{others}
 use Rattle.txn_priorities.proofs.testing.demand_of.Given as goal

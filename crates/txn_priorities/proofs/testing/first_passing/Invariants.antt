@@ -1,5 +1,5 @@
 use Rattle.std.proofs.Common.{◌≡◌, ◌+◌, ◌≤◌, drop}
-use Rattle.priority_laws.specs.Pass.{first_passing, left}
+use Rattle.law_times.specs.Pass.{first_passing, left}
 use Rattle.txn_priorities.specs.Limits.{limit}
 use Rattle.txn_priorities.proofs.Tested.{first_from}
 use Rattle.txn_priorities.proofs.testing.first_passing.Given as goal

@@ -1,6 +1,6 @@
 use Rattle.std.proofs.Common.{sym, ◌∙◌}
 use Rattle.std.proofs.lemmas.Bool.{not-false}
-use Rattle.priority_laws.specs.Pass.{is_placed}
+use Rattle.law_times.specs.Pass.{is_placed}
 use Rattle.txn_priorities.specs.Limits.{limit}
 use Rattle.txn_priorities.proofs.Tested.{passes-placed}
 use Rattle.txn_priorities.proofs.testing.passes.Goals as goal

@@ -1,6 +1,6 @@
 use Rattle.std.proofs.Common.{◌<◌, sym, ◌∙◌, length, arith}
 use Rattle.std.proofs.lemmas.Bool.{not-true, not-false}
-use Rattle.priority_laws.specs.Pass.{is_placed}
+use Rattle.law_times.specs.Pass.{is_placed}
 use Rattle.txn_priorities.proofs.Limited.{limit-at, limit-few}
 use Rattle.txn_priorities.proofs.Tested.{left-more, left-same, row-is}
 use Rattle.txn_priorities.proofs.testing.unplaced_of.Goals as goal

@@ -4,7 +4,7 @@ use Rattle.rt_base.specs.declared.operation.Op.{Op}
 use Rattle.board.specs.declared.replies.StepReply.{StepReply}
 use Rattle.board.specs.Stories.{noted, step_entry, now_of}
 use Rattle.lock_core.specs.Stands.{Stands}
-use Rattle.history_laws.specs.Protocol.{IsFirstRefusal}
+use Rattle.law_histories.specs.Protocol.{IsFirstRefusal}
 use Rattle.board.specs.Stories.{IfBlocked}
 use Rattle.c_core.specs.Forms.{op_named, job_of, form_of_step}
 use Rattle.c_core.specs.Calls.{step_reply_of}

@@ -1,7 +1,7 @@
 use Rattle.std.proofs.Common.{◌∙◌, sym, subst, ap, arith, length}
 use Rattle.std.specs.List.{All}
 use Rattle.job_rows.specs.Upkeep.{RowsSeen, Follows}
-use Rattle.report_lines.specs.Texts.{KnownRow}
+use Rattle.report_text.specs.Texts.{KnownRow}
 use Rattle.run_report.proofs.Writing.{closes_rows, closes_few, closes_each}
 use Rattle.run_report.proofs.writer.ReportWriter.finish.Goals as goal
 

@@ -1,4 +1,0 @@
-use Rattle.c_margin.proofs.told.told_margin.Given as goal
-
-abbrev pub ghosts-margin_of : goal.ghosts-margin_of
-ghosts-margin_of a = record { name = a.blank.name; parts = a.blank.parts }

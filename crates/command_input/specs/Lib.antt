@@ -1,4 +1,0 @@
-pub mod Taken
-pub mod Scenarios
-pub mod Reports
-pub mod Answers

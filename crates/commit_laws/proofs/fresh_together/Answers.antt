@@ -1,8 +1,0 @@
-use Rattle.commit_laws.proofs.Commits.{fresh_commits, consistent_commits}
-use Rattle.commit_laws.proofs.fresh_together.Goals as goal
-
-pub returns-clause-fresh : goal.returns-clause-fresh
-returns-clause-fresh c = fresh_commits
-
-pub returns-clause-consistent : goal.returns-clause-consistent
-returns-clause-consistent c = consistent_commits

@@ -1,9 +1,0 @@
-use Rattle.commit_laws.proofs.Commits.{reads_are_last as last}
-use Rattle.commit_laws.proofs.Timed.{timed_reads}
-use Rattle.commit_laws.proofs.reads_are_last.Goals as goal
-
-pub returns-clause-last : goal.returns-clause-last
-returns-clause-last c = last
-
-pub returns-clause-timed : goal.returns-clause-timed
-returns-clause-timed c = timed_reads

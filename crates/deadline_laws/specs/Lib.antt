@@ -1,2 +1,0 @@
-pub mod Response
-pub mod Deadlines

@@ -1,5 +1,0 @@
-use Rattle.eager_laws.proofs.Closing.{never_unplanned}
-use Rattle.eager_laws.proofs.never_unplanned.Goals as goal
-
-pub returns : goal.returns
-returns g c = never_unplanned g.B.Board.stands g.B.Board.set g.B.Board.room g.B.Board.first g.B.Board.kept

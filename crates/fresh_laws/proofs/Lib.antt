@@ -1,3 +1,0 @@
-pub mod Periodic
-pub mod Levels
-pub mod WithinAge

@@ -1,2 +1,0 @@
-mod Load
-mod Admitted

@@ -1,8 +1,0 @@
-use Rattle.history_laws.proofs.Never.{never_stuck, refused_once}
-use Rattle.history_laws.proofs.no_cycle_one_refusal.Goals as goal
-
-pub returns-clause-never_stuck : goal.returns-clause-never_stuck
-returns-clause-never_stuck c = never_stuck
-
-pub returns-clause-refused_once : goal.returns-clause-refused_once
-returns-clause-refused_once c = refused_once

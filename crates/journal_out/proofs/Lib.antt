@@ -1,4 +1,0 @@
-pub mod Joined
-pub mod Fronts
-pub mod Putting
-pub mod Same

@@ -1,5 +1,0 @@
-use Rattle.journal_text.proofs.EntryLaws.{apart}
-use Rattle.journal_text.proofs.one_entry_a_line.Goals as goal
-
-pub returns : goal.returns
-returns c = apart

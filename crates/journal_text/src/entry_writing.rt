@@ -1,0 +1,186 @@
+//! From entries to lines.
+ghost use Rattle.std.specs.Prelude.{◌≡◌, ◌+◌, ◌<◌, ◌≤◌, ◌++◌, length, codes, vec_len, vec_capacity};
+ghost use Rattle.journal_text.specs.Cuts.{field};
+ghost use Rattle.journal_text.specs.Lines.{op_text, stamp_text, outcome_text, end_text, over_text, entry_line, IsOp, IsOutcome, IsEnd, IsOver, HasLine, KnownOp, KnownEnd, KnownOver, IsWritable};
+
+use crate::numerals::Numerals;
+use crate::writing::{put, put_name, put_short, put_signed, put_unsigned};
+use rt_base::{End, Names, Op, Outcome};
+use std::mem;
+use step_journal::Entry;
+
+#[inline(always)]
+#[tactic(auto, using(crate::proofs::IdLaws::in_i64))]
+fn put_op(into: &mut Vec<u8>, names: &Names, op: Op)
+    requires known { KnownOp names.now op }
+    requires room { vec_len into.old + 60 ≤ vec_capacity into.old }
+    ensures items { into.new.items ≡ into.old.items ++ op_text names.now op }
+    ensures line { IsOp names.now op }
+    ensures len { vec_len into.new ≤ vec_len into.old + 60 }
+    ensures room { vec_capacity into.old ≤ vec_capacity into.new }
+{
+    match op {
+        Op::Read(item) => {
+            put(into, b" read");
+            put_name(into, names.items.as_slice(), item.0);
+        }
+        Op::Write(item, value) => {
+            put(into, b" write");
+            put_name(into, names.items.as_slice(), item.0);
+            put_signed(into, value);
+        }
+        Op::Compute => put(into, b" compute"),
+        Op::Commit => put(into, b" commit"),
+        Op::Quit => put(into, b" quit"),
+    }
+}
+
+#[inline(always)]
+fn put_stamp(into: &mut Vec<u8>, stamp: Option<u64>)
+    requires { vec_len into.old + 21 ≤ vec_capacity into.old }
+    ensures items { into.new.items ≡ into.old.items ++ field (stamp_text stamp) }
+    ensures len { vec_len into.new ≤ vec_len into.old + 21 }
+    ensures room { vec_capacity into.old ≤ vec_capacity into.new }
+{
+    match stamp {
+        Some(stamp) => put_unsigned(into, stamp),
+        None => put(into, b" own"),
+    }
+}
+
+#[inline(always)]
+#[tactic(auto, using(crate::proofs::IdLaws::in_i64))]
+fn put_outcome(into: &mut Vec<u8>, outcome: Outcome)
+    requires { vec_len into.old + 42 ≤ vec_capacity into.old }
+    ensures items { into.new.items ≡ into.old.items ++ outcome_text outcome }
+    ensures line { IsOutcome outcome }
+    ensures len { vec_len into.new ≤ vec_len into.old + 42 }
+    ensures room { vec_capacity into.old ≤ vec_capacity into.new }
+{
+    match outcome {
+        Outcome::Got { value, stamp } => {
+            put_signed(into, value);
+            put_stamp(into, stamp);
+        }
+        Outcome::Put => {}
+        Outcome::Computed => {}
+        Outcome::Closed => {}
+    }
+}
+
+/// Adds a blank and an end: at most 72 bytes.
+#[inline(always)]
+pub fn put_end(into: &mut Vec<u8>, names: &Names, end: End)
+    requires known { KnownEnd names.now end }
+    requires room { vec_len into.old + 72 ≤ vec_capacity into.old }
+    ensures items { into.new.items ≡ into.old.items ++ end_text names.now end }
+    ensures line { IsEnd names.now end }
+    ensures len { vec_len into.new ≤ vec_len into.old + 72 }
+    ensures room { vec_capacity into.old ≤ vec_capacity into.new }
+{
+    match end {
+        End::Committed => put(into, b" committed"),
+        End::Overrun => put(into, b" overrun"),
+        End::Late => put(into, b" late"),
+        End::Stale { item, stamp } => {
+            put(into, b" stale");
+            put_name(into, names.items.as_slice(), item.0);
+            put_unsigned(into, stamp);
+        }
+        End::Apart { a, b } => {
+            put(into, b" apart");
+            put_name(into, names.items.as_slice(), a.0);
+            put_name(into, names.items.as_slice(), b.0);
+        }
+        End::Quit => put(into, b" quit"),
+    }
+}
+
+#[inline(always)]
+fn put_over(into: &mut Vec<u8>, names: &Names, over: Option<End>)
+    requires known { KnownOver names.now over }
+    requires room { vec_len into.old + 76 ≤ vec_capacity into.old }
+    ensures items { into.new.items ≡ into.old.items ++ over_text names.now over }
+    ensures line { IsOver names.now over }
+    ensures len { vec_len into.new ≤ vec_len into.old + 76 }
+    ensures room { vec_capacity into.old ≤ vec_capacity into.new }
+{
+    match over {
+        None => {}
+        Some(end) => {
+            put(into, b" end");
+            put_end(into, names, end);
+        }
+    }
+}
+
+#[inline(always)]
+fn put_entry(into: &mut Vec<u8>, names: &Names, entry: &Entry, numerals: &mut Numerals)
+    requires known { IsWritable names.now entry.now }
+    requires room { vec_len into.old + 255 ≤ vec_capacity into.old }
+    ensures items { into.new.items ≡ into.old.items ++ entry_line names.now entry.now }
+    ensures line { HasLine names.now entry.now }
+    ensures len { vec_len into.new ≤ vec_len into.old + 254 }
+    ensures room { vec_capacity into.old ≤ vec_capacity into.new }
+{
+    match entry {
+        Entry::Planned { tx, tick } => {
+            put(into, b"plan");
+            put_name(into, names.txns.as_slice(), tx.0);
+            put_unsigned(into, *tick);
+        }
+        Entry::Step {
+            job,
+            op,
+            outcome,
+            over,
+            tick,
+        } => {
+            put(into, b"step");
+            numerals.put_job(into, names.txns.as_slice(), *job);
+            numerals.put_tick(into, *tick);
+            put_op(into, names, *op);
+            put_outcome(into, *outcome);
+            put_over(into, names, *over);
+        }
+        Entry::Blocked {
+            job,
+            op,
+            by,
+            ceiling,
+            tick,
+        } => {
+            put(into, b"block");
+            numerals.put_job(into, names.txns.as_slice(), *job);
+            numerals.put_tick(into, *tick);
+            put_op(into, names, *op);
+            put(into, b" by");
+            numerals.put_job(into, names.txns.as_slice(), *by);
+            put_short(into, *ceiling);
+        }
+        Entry::Idle { from, to } => {
+            put(into, b"idle");
+            put_unsigned(into, *from);
+            put_unsigned(into, *to);
+        }
+    }
+}
+
+/// Adds the line of an entry, with its line end: at most 256 bytes. It takes no memory. The line is that of this entry
+/// alone (`lines_both_ways`). Digits that are those of an earlier line are taken from `numerals`.
+#[inline(never)]
+pub fn write_entry(names: &Names, entry: &Entry, numerals: &mut Numerals, into: &mut Vec<u8>)
+    requires known { IsWritable names.now entry.now }
+    requires room { vec_len into.old + 256 ≤ vec_capacity into.old }
+    ensures items { into.new.items ≡ into.old.items ++ entry_line names.now entry.now ++ codes "\n" }
+    ensures line { HasLine names.now entry.now }
+    ensures len { vec_len into.new ≤ vec_len into.old + 255 }
+    ensures room { vec_capacity into.old ≤ vec_capacity into.new }
+{
+    // A list of its own stays in registers while the pieces are added.
+    let alloc = *into.allocator();
+    let mut line = mem::replace(into, Vec::new(alloc));
+    put_entry(&mut line, names, entry, numerals);
+    line.push_reserved(b'\n');
+    *into = line;
+}

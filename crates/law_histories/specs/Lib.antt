@@ -1,0 +1,4 @@
+pub mod Protocol
+pub mod Counting
+pub mod Commits
+pub mod Sim

@@ -1,0 +1,5 @@
+pub mod Types
+pub mod Laws
+pub mod Lines
+pub mod Runs
+pub mod CommandLaws

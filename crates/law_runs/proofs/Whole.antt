@@ -1,0 +1,125 @@
+-- Where of each transaction all jobs have ended, nothing is pending and nothing planned.
+use Rattle.std.proofs.Common.{◌≡◌, ℕ, ◌+◌, ◌-◌, ◌<◌, ◌≤◌, ◌==◌, Bool, true, false, cond, List, [], ◌∷◌, ◌++◌, length, Some, refl, ap, sym, ◌∙◌, subst, inl, inr, arith, append_assoc, append-nil}
+use mathlib.Core.Option.{some}
+use lib.ListN.{get_elem?}
+use Rattle.std.proofs.lemmas.Bool.{cases_eq, eqb-true, eq-eqb, ne_eqb}
+use Rattle.std.specs.List.{filter}
+use Rattle.rt_base.specs.declared.release.Release.{Release}
+use Rattle.txn_set.specs.Set.{Set, IsCompiled}
+use Rattle.step_journal.specs.declared.entry.Entry.{Entry}
+use Rattle.step_journal.specs.declared.entry.Entry.TheVariants.{Planned, Step, Blocked, Idle}
+use Rattle.step_journal.specs.declared.entry.EndedJob.{EndedJob}
+use Rattle.step_journal.specs.State.{Row, row_of, pending}
+use Rattle.step_journal.specs.History.{IsLegal, state_of}
+use Rattle.board.specs.Stories.{ended_of}
+use Rattle.law_histories.specs.Counting.{plans_in, plan_count}
+use Rattle.law_histories.proofs.Rooms.{count_more}
+use Rattle.law_histories.proofs.CountingAll.{entries_few, time_bounded}
+use Rattle.law_histories.proofs.Members.{In, pending_in}
+use Rattle.law_histories.proofs.Serials.{AreRising}
+use Rattle.law_histories.proofs.SerialAll.{legal_serial}
+use Rattle.law_histories.proofs.Invariant.{IsPending, in_range}
+use Rattle.law_histories.proofs.Never.{legal_sound}
+use Rattle.txn_threads.proofs.Counting.{ended_grow}
+use Rattle.shared_plant.specs.Seats.{SeatFacts, tx_of}
+use Rattle.law_histories.specs.Sim.{Workload, plans}
+use Rattle.sim_run.specs.Workloads.{ticks_of}
+use Rattle.law_runs.specs.Histories.{IsLater, IsRunSoFar, IsRunOf}
+use Rattle.law_runs.specs.Seats.{IsDoneSeat}
+use Rattle.law_runs.specs.Laws.{ClosedWhole}
+use Rattle.law_runs.proofs.Counts.{count_append, count_plans}
+use Rattle.law_runs.proofs.Owners.{Lies, lies}
+use Rattle.law_runs.proofs.SoFar.{story_so_far}
+
+-- of some jobs whose serials rise and lie from b below k there are at most k - b
+
+ended_at : (n b k : ℕ) (e : EndedJob) (es : List EndedJob) (t : Bool) → (e.job.tx.0 == n) ≡ t → (e.job.tx.0 ≡ n → (b ≤ e.job.serial) × (e.job.serial < k))
+    → (e.job.tx.0 ≡ n → length (filter (λ d. d.job.tx.0 == n) es) ≤ k - (e.job.serial + 1)) → length (filter (λ d. d.job.tx.0 == n) es) ≤ k - b
+    → length (cond t (e ∷ filter (λ d. d.job.tx.0 == n) es) (filter (λ d. d.job.tx.0 == n) es)) ≤ k - b
+ended_at n b k e es true is here above rest = let own : e.job.tx.0 ≡ n = eqb-true _ _ is in omega (arith, here own, above own)
+ended_at n b k e es false is here above rest = rest
+
+ended_few : (n b k : ℕ) (es : List EndedJob) → AreRising es → ((d : EndedJob) → In d es → d.job.tx.0 ≡ n → (b ≤ d.job.serial) × (d.job.serial < k)) → length (filter (λ d. d.job.tx.0 == n) es) ≤ k - b
+ended_few n b k [] rising h = omega arith
+ended_few n b k (e ∷ es) rising h =
+    ended_at n b k e es (e.job.tx.0 == n) refl (h e (inl refl))
+    (λ own. ended_few n (e.job.serial + 1) k es rising.1 (λ d i same. let r = rising.0 d i (own ∙ sym same) in (omega (arith, r), (h d (inr i) same).1)))
+    (ended_few n b k es rising.1 (λ d i. h d (inr i)))
+
+-- a job that is pending or planned is one more than those that have ended
+
+module _ (set : Set) (story : List Entry) (ok : IsCompiled set) (legal : IsLegal set story) where
+  not_pending : (x : Row) → IsPending (state_of set story).rows x → plan_count story x.job.tx.0 ≤ ended_of set story x.job.tx.0 → ⊥
+  not_pending x here all =
+      let serial = legal_serial set story ok legal in
+      let few = ended_few x.job.tx.0 0 x.job.serial (state_of set story).ended serial.rising (λ d i same. (omega arith, serial.done_row d x i here same)) in
+      let below = ((legal_sound set story ok legal).calendar.released x here).1 in
+      omega (arith, few, below, all, (time_bounded set story ok legal).plans x.job.tx.0)
+
+  not_planned : (r : Release) → In r (state_of set story).planned → plan_count story r.job.tx.0 ≤ ended_of set story r.job.tx.0 → ⊥
+  not_planned r here all =
+      let serial = legal_serial set story ok legal in
+      let few = ended_few r.job.tx.0 0 r.job.serial (state_of set story).ended serial.rising (λ d i same. (omega arith, serial.done_plan d r i here same)) in
+      let below = ((legal_sound set story ok legal).calendar.planned r here).1 in
+      omega (arith, few, below, all, (time_bounded set story ok legal).plans r.job.tx.0)
+
+  pending_none : (rows : List Row) → pending (state_of set story).rows ≡ rows → ((n : ℕ) → n < length set.txns → plan_count story n ≤ ended_of set story n) → rows ≡ []
+  pending_none [] is all = refl
+  pending_none (x ∷ xs) is all =
+      let frame = (legal_sound set story ok legal).frame in
+      let i : In x (pending (state_of set story).rows) = subst (In x) (sym is) (inl refl) in
+      let at = pending_in (state_of set story).rows x i in
+      let here : IsPending (state_of set story).rows x = subst (λ (n : ℕ). row_of (state_of set story).rows n ≡ Some x) (sym (frame.named at.0 x at.1)) at.1 in
+      absurd (not_pending x here (all x.job.tx.0 (omega (arith, in_range (state_of set story).rows x.job.tx.0 x here, frame.count))))
+
+  planned_none : (planned : List Release) → (state_of set story).planned ≡ planned → ((n : ℕ) → n < length set.txns → plan_count story n ≤ ended_of set story n) → planned ≡ []
+  planned_none [] is all = refl
+  planned_none (r ∷ rs) is all =
+      let i : In r (state_of set story).planned = subst (In r) (sym is) (inl refl) in
+      absurd (not_planned r i (all r.job.tx.0 ((legal_sound set story ok legal).calendar.in_set r i)))
+
+-- a transaction has at most its own later plans
+
+module _ (w : Workload) (own : ℕ → ℕ) (story : List Entry) (r : IsRunSoFar w own story) where
+  one_more : (more : List Entry) (e : Entry) (n : ℕ) → plan_count more n ≤ own n → IsLater w own more e → plan_count more n + plans_in n e ≤ own n
+  one_more more (Planned tx tick) n le h = elim (cases_eq n tx.0) [
+    | inl here ↦ (let bit = ap {B = ℕ} (λ (b : Bool). cond b 1 0) (eq-eqb n tx.0 here) in
+        omega (arith, bit, h.left, ap (plan_count more) here, ap own here))
+    | inr ne ↦ omega (arith, ap {B = ℕ} (λ (b : Bool). cond b 1 0) (ne_eqb n tx.0 ne), le)
+  ]
+  one_more more (Step job op outcome over tick) n le h = omega (arith, le)
+  one_more more (Blocked job op by ceiling tick) n le h = omega (arith, le)
+  one_more more (Idle from to) n le h = omega (arith, le)
+
+  few_later : (more rest : List Entry) (n : ℕ) → r.rest ≡ more ++ rest → plan_count more n ≤ own n → plan_count r.rest n ≤ own n
+  few_later more [] n is le = omega (arith, ap (λ (l : List Entry). plan_count l n) (is ∙ append-nil more), le)
+  few_later more (e ∷ rest) n is le =
+      few_later (more ++ e ∷ []) rest n (is ∙ sym (append_assoc more (e ∷ []) rest)) (omega (arith, count_more more e n, one_more more e n le (r.later more rest e is)))
+
+  pub few_jobs : (n : ℕ) → plan_count story n ≤ length (ticks_of w.releases n) + own n
+  few_jobs n =
+      omega (arith, ap (λ (l : List Entry). plan_count l n) r.begins, count_append (plans w) r.rest n, count_plans w n, few_later [] r.rest n refl (omega arith))
+
+module _ (w : Workload) (own : ℕ → ℕ) (seats : List SeatFacts) (story : List Entry) (f : Lies w own seats story) (done : (k : ℕ) (s : SeatFacts) → get_elem? seats k ≡ some s → IsDoneSeat w own s) where
+  all_ended : (n : ℕ) → n < length w.set.txns → length (ticks_of w.releases n) + own n ≤ ended_of w.set story n
+  all_ended n lt =
+      let s = f.apart.each n lt in
+      let grown : ended_of w.set s.1.seen n ≤ ended_of w.set story n = ended_grow w.set s.1.seen story n (f.each s.0 s.1 s.2).1 in
+      let enough : length (ticks_of w.releases n) + own n ≤ ended_of w.set s.1.seen n = done s.0 s.1 s.2 (tx_of n) s.3 in
+      omega (arith, grown, enough)
+
+  pub story_whole : IsRunOf w own story
+  story_whole =
+      let r = story_so_far w own seats story f in
+      let few = few_jobs w own story r in
+      let all : (n : ℕ) → n < length w.set.txns → plan_count story n ≤ ended_of w.set story n = λ n lt. omega (arith, few n, all_ended n lt) in
+      record {
+        so_far = r;
+        jobs = λ n lt. (let ended : ended_of w.set story n ≤ plan_count story n = (entries_few w.set story f.compiled f.legal).ended n in omega (arith, few n, all_ended n lt, ended));
+        none_pending = pending_none w.set story f.compiled f.legal (pending (state_of w.set story).rows) refl all;
+        none_planned = planned_none w.set story f.compiled f.legal (state_of w.set story).planned refl all;
+      }
+
+pub closed_whole : {B : Type 0} (stands : B → List Entry → Type 0) (set : B → Set) (room first : B → ℕ) (kept : B → List Entry) → ClosedWhole stands set room first kept
+closed_whole stands set room first kept = λ w own p b seats c h done.
+    story_whole w own seats c.story (lies stands set room first kept w own p b seats c h) done

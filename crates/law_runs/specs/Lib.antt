@@ -1,0 +1,6 @@
+pub mod Runs
+pub mod Histories
+pub mod Seats
+pub mod Laws
+pub mod Plannable
+pub mod EagerLaws

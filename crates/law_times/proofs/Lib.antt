@@ -1,0 +1,15 @@
+pub mod Load
+pub mod Demand
+pub mod Window
+pub mod Effect
+pub mod Arrival
+pub mod InTime
+pub mod DeadlinesAll
+pub mod Periodic
+pub mod Levels
+pub mod WithinAge
+pub mod Standing
+pub mod Moving
+pub mod Exchanging
+pub mod PriorityLevels
+pub mod Deciding

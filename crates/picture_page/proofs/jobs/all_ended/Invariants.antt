@@ -1,9 +1,0 @@
-use Rattle.std.proofs.Common.{◌≡◌, ◌+◌, ◌≤◌, drop}
-use Rattle.picture_page.specs.Tables.{total, ended_in}
-use Rattle.picture_page.proofs.jobs.all_ended.Given as goal
-
-abbrev pub invariant-loop-row : goal.invariant-loop-row
-invariant-loop-row l = record {
-  sum : l.count + total (ended_in l.tx.0) (drop l.row-index l.rows) ≡ total (ended_in l.tx.0) l.rows;
-  few : l.count ≤ l.row-index;
-}

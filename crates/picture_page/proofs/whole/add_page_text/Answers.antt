@@ -1,9 +1,0 @@
-use Rattle.std.proofs.Common.{◌≡◌, ◌++◌, OnOk, subst}
-use Rattle.picture_places.specs.declared.view.View.{View}
-use Rattle.picture_page.specs.Page.{page_of}
-use Rattle.picture_page.proofs.whole.add_page_text.Goals as goal
-
-pub returns : goal.returns
-returns c =
-    subst (λ (v : View). OnOk c.add_page.result (c.add_page.new.into.items ≡ c.args.into.now.items ++ page_of c.args.names.now c.args.set.now v c.args.limits.now c.args.rows.now c.args.items.now c.args.shown.now))
-    c.view_for.ensures c.add_page.ensures

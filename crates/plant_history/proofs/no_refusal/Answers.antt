@@ -1,5 +1,0 @@
-use Rattle.plant_history.proofs.Refusals.{no_refusal}
-use Rattle.plant_history.proofs.no_refusal.Goals as goal
-
-pub returns : goal.returns
-returns g c = no_refusal g.B.Board.stands g.B.Board.set g.B.Board.room g.B.Board.first g.B.Board.kept

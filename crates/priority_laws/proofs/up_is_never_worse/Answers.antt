@@ -1,5 +1,0 @@
-use Rattle.priority_laws.proofs.Moving.{no-worse}
-use Rattle.priority_laws.proofs.up_is_never_worse.Goals as goal
-
-pub returns : goal.returns
-returns c = λ set p q tx other ok inside some-p some-q up. no-worse set p q tx other ok inside some-p some-q up

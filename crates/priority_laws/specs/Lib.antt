@@ -1,3 +1,0 @@
-pub mod Assigned
-pub mod Pass
-pub mod Laws

@@ -1,9 +1,0 @@
-use Rattle.std.proofs.Common.{◌≡◌, ◌++◌, drop}
-use Rattle.report_lines.specs.Rows.{numbered}
-use Rattle.report_lines.specs.Texts.{together_line}
-use Rattle.report_lines.proofs.declared.add_sets.Given as goal
-
-abbrev pub invariant-loop-i : goal.invariant-loop-i
-invariant-loop-i l =
-    l.into.items ++ numbered (together_line l.names) l.i (drop l.i l.set.together)
-    ≡ l.fn.into.items ++ numbered (together_line l.names) 0 l.set.together

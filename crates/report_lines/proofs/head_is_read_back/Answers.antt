@@ -1,5 +1,0 @@
-use Rattle.report_lines.proofs.HeadAgain.{head_is_read_back}
-use Rattle.report_lines.proofs.head_is_read_back.Goals as goal
-
-pub returns : goal.returns
-returns c = head_is_read_back

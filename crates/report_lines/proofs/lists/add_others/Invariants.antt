@@ -1,9 +1,0 @@
-use Rattle.std.proofs.Common.{◌≡◌, ◌++◌, drop}
-use Rattle.report_lines.specs.Rows.{numbered}
-use Rattle.report_lines.specs.Texts.{more_name}
-use Rattle.report_lines.proofs.lists.add_others.Given as goal
-
-abbrev pub invariant-loop-i : goal.invariant-loop-i
-invariant-loop-i l =
-    l.into.items ++ numbered (more_name l.names) l.i (drop l.i l.ids)
-    ≡ l.fn.into.items ++ numbered (more_name l.names) 1 (drop 1 l.ids)

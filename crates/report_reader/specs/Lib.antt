@@ -1,4 +1,0 @@
-pub mod Forms
-pub mod Document
-pub mod Placed
-pub mod First

@@ -1,0 +1,15 @@
+pub mod PieceLaws
+pub mod ListLaws
+pub mod HeadLaws
+pub mod GoodLists
+pub mod GoodHead
+pub mod RowLaws
+pub mod Named
+pub mod ListAgain
+pub mod LineAgain
+pub mod HeadAgain
+pub mod Walking
+pub mod Counted
+pub mod Reading
+pub mod Places
+pub mod FirstLaws

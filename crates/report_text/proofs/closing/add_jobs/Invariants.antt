@@ -1,0 +1,9 @@
+use Rattle.std.proofs.Common.{◌≡◌, ◌++◌, drop}
+use Rattle.report_text.specs.Rows.{numbered}
+use Rattle.report_text.specs.Texts.{job_line}
+use Rattle.report_text.proofs.closing.add_jobs.Given as goal
+
+abbrev pub invariant-loop-i : goal.invariant-loop-i
+invariant-loop-i l =
+    l.into.items ++ numbered (job_line l.names) l.i (drop l.i l.rows)
+    ≡ l.fn.into.items ++ numbered (job_line l.names) 0 l.rows

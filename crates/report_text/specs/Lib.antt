@@ -1,0 +1,10 @@
+pub mod Pieces
+pub mod Head
+pub mod IsHead
+pub mod Rows
+pub mod Texts
+pub mod Laws
+pub mod Forms
+pub mod Document
+pub mod Placed
+pub mod First

@@ -1,7 +1,0 @@
-use Rattle.std.proofs.Common.{arith}
-use Rattle.report_verdict.proofs.Documents.{is_read}
-use Rattle.report_verdict.proofs.verdict.judge.Goals as goal
-
-pub judge_mode-requires-clause-first : goal.judge_mode-requires-clause-first
-judge_mode-requires-clause-first c =
-    omega (arith, (is_read c.args.bytes.now c.args.placed.document c.requires.read).first, c.requires.bytes)

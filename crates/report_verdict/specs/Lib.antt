@@ -1,4 +1,0 @@
-pub mod Compared
-pub mod Verdict
-pub mod Laws
-pub mod Judged

@@ -1,0 +1,3 @@
+pub mod Kept
+pub mod Outs
+pub mod Workers

@@ -1,5 +1,0 @@
-pub mod Marking
-pub mod Standing
-pub mod Turning
-pub mod Positions
-pub mod Counting

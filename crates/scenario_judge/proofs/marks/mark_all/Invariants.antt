@@ -1,6 +1,0 @@
-use Rattle.std.proofs.Common.{◌≡◌, drop}
-use Rattle.scenario_judge.specs.Walks.{marked}
-use Rattle.scenario_judge.proofs.marks.mark_all.Given as goal
-
-abbrev pub invariant-loop-item : goal.invariant-loop-item
-invariant-loop-item l = marked l.marks (drop l.item-index l.items) ≡ marked l.initial.marks l.items

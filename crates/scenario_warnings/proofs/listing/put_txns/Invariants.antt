@@ -1,7 +1,0 @@
-use Rattle.std.proofs.Common.{◌≡◌, ◌++◌}
-use Rattle.scenario.specs.Shown.{shown}
-use Rattle.scenario_warnings.specs.Warnings.{below, of_txn}
-use Rattle.scenario_warnings.proofs.listing.put_txns.Given as goal
-
-abbrev pub invariant-loop-tx : goal.invariant-loop-tx
-invariant-loop-tx l = l.out.items ≡ l.initial.out.items ++ below (of_txn (shown l.scenario)) l.tx

@@ -1,4 +1,0 @@
-pub mod Scripts
-pub mod Operations
-pub mod Obeys
-pub mod Accepted
