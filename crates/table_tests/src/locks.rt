@@ -71,8 +71,9 @@ type Row = (u32, LockKind, u32, bool);
 use LockKind::{Free, Read, Write};
 
 // The locks of three runs, in their order; each is asked for, and added where it is granted. The first is of a sampler, a
-// controller and a logger, which write the temperature (item 0); read it and write the valve (item 1); and read both. In
-// the others the first and the second read an item (item 2) that the third may write, and then that the third has written.
+// controller and a logger, which write the temperature (item 0); read it and write the valve (item 1); and read both, whose
+// second lock raises the only row. In the others the first and the second read an item (item 2) that the third may write,
+// and then that the third has written.
 // Own locks do not count; an equal ceiling and a write lock refuse, and readers share.
 const RUNS: [Row; 26] = [
     (0, Write, 0, true),
@@ -80,8 +81,8 @@ const RUNS: [Row; 26] = [
     (1, Read, 0, true),
     (1, Write, 1, true),
     (1, Free, 0, true),
-    (2, Read, 0, true),
     (2, Read, 1, true),
+    (2, Read, 0, true),
     (0, Write, 0, false),
     (2, Free, 0, true),
     (0, Write, 0, true),

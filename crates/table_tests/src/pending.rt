@@ -75,6 +75,7 @@ fn bystander(rt: HostRuntime) -> Result<(), OutOfMemory> {
     assert!(rt; pending.next_deadline() == Some(21));
     assert!(rt; pending.due(21) == Some(first_of(HIGH)));
     pending.wait(HIGH, first_of(LOW));
+    assert!(rt; pending.running() == Some(first_of(LOW)));
     pending.release(first_of(MIDDLE), 2);
     assert!(rt; pending.running() == Some(first_of(LOW)));
     pending.end(LOW);

@@ -1,5 +1,5 @@
 -- A set that is admitted with whatever priorities keeps the limits; so if none do, it is admitted with none.
-use Rattle.std.proofs.Common.{◌≡◌, ◌⊎◌, inl, inr, ℕ, ◌+◌, ◌<◌, ◌≤◌, Bool, true, false, List, length, get_or, Option, None, Some, is_some, refl, sym, ◌∙◌, ap, subst, arith}
+use Rattle.std.proofs.Common.{◌≡◌, inl, inr, ℕ, ◌<◌, true, false, List, length, get_or, Option, None, Some, is_some, refl, sym, ◌∙◌, ap, subst, arith}
 use Rattle.std.proofs.lemmas.Bool.{cases_order}
 use Rattle.std.specs.Prelude.{slice_get}
 use Rattle.std.specs.Option.{option_and_then}
@@ -10,7 +10,7 @@ use Rattle.item_model.specs.declared.decl.ItemKind.TheVariants.{Sensor, Derived,
 use Rattle.item_model.specs.Kinds.{validity_of_kind, is_derived_kind, is_derived_decl, validity_of, is_dated, is_derived}
 use Rattle.txn_set.specs.declared.decl.TxnDecl.{TxnDecl}
 use Rattle.txn_set.specs.Set.{Set, no_txn, txn_of, names_item, may_read, may_write, IsTheWriter, IsCompiled}
-use Rattle.law_times.specs.Ages.{age_bound, IsAdmitted}
+use Rattle.law_times.specs.Ages.{IsAdmitted}
 use Rattle.law_times.proofs.Levels.{age_bounds}
 use Rattle.law_times.specs.Assigned.{txns_with, with_prios, IsAssignment, RespondsWithin}
 use Rattle.law_times.proofs.Moving.{with-length, with-at, deadline-with}

@@ -176,6 +176,24 @@ window-passes set prios tx inside free loads steps most blocked stand steps-is b
     fits set prios tx inside free loads (steps + blocked) most stand (omega (arith, steps-is, blocked-is)) (omega (arith, is, limit-le set tx))
     ∙ (ap (is_within (response (trial_set set prios tx) tx)) is ∙ sym (passes-free set (limit set) prios tx free))
 
+-- one window that holds its demand will do
+
+held-at : (set : Set) (tx r most : ℕ) → HoldsDemand set tx r → r ≤ most → (o : Option ℕ) → response set tx ≡ o → is_within o most ≡ true
+held-at set tx r most holds le None e = absurd (response_none set tx e r holds)
+held-at set tx r most holds le (Some w) e =
+    let least = (response_found set tx w e).least r holds in
+    le-leb w most (omega (arith, least, le))
+
+pub held-passes : (set : Set) (prios : List ℕ) (tx w most : ℕ) → tx < length set.txns → is_placed prios tx ≡ false → most ≡ limit set tx → 1 ≤ w → w ≤ most
+    → demand (trial_set set prios tx) tx w ≤ w → passes set (limit set) prios tx ≡ true
+held-passes set prios tx w most inside free is some le enough =
+    let holds : HoldsDemand (trial_set set prios tx) tx w = record {
+      positive = some;
+      in_deadline = omega (arith, le, is, limit-le set tx, deadline-with set (trial (is_placed prios) tx) tx inside);
+      enough = enough;
+    } in
+    passes-free set (limit set) prios tx free ∙ held-at (trial_set set prios tx) tx w (limit set tx) holds (omega (arith, le, is)) (response (trial_set set prios tx) tx) refl
+
 -- the first that passes
 
 abbrev pub first_from : Set → List ℕ → ℕ → Option ℕ

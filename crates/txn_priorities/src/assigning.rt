@@ -40,8 +40,9 @@ pub fn assign<L: Ledger>(
     let count = set.txns().len();
     let limits = limits_of(alloc, set)?;
     let mut prios = vec![in alloc; 0; count]?;
+    let mut window = 0;
     for below in 0..count {
-        let found = first_passing(alloc, set, &limits, &prios, steps)?;
+        let found = first_passing(alloc, set, &limits, &prios, &mut window, steps)?;
         let Some(tx) = found else {
             return Ok(Err(NoAssignment {
                 level: below as u32 + 1,

@@ -1,5 +1,5 @@
 //! The response test of the transactions that have no priority yet, at the level above the placed ones.
-ghost use Rattle.std.specs.Prelude.{◌≡◌, ◌+◌, ◌<◌, ◌≤◌, ◌^◌, ◌==◌, ◌&&◌, not, length, map, false, if◌then◌else◌, IfOk};
+ghost use Rattle.std.specs.Prelude.{◌≡◌, ◌+◌, ◌<◌, ◌≤◌, ◌^◌, ◌==◌, ◌&&◌, not, length, map, true, false, if◌then◌else◌, IfOk};
 ghost use Rattle.txn_set.specs.Set.{IsCompiled};
 ghost use Rattle.txn_set.specs.Ceilings.{blocking as blocking_at};
 ghost use Rattle.law_times.specs.Response.{demand};
@@ -46,86 +46,6 @@ fn loads_above(
     Ok(loads)
 }
 
-// Whether `tx`, which has no priority yet, has a response of at most so many ticks. One look.
-fn is_in_time<L: Ledger>(
-    alloc: Global,
-    set: &CompiledSet,
-    prios: &[Prio],
-    tx: usize,
-    blocking: u64,
-    most: Tick,
-    steps: &mut Steps<L>,
-) -> Result<bool, OutOfMemory>
-    requires compiled { IsCompiled set.now }
-    requires one_each { length prios.now ≡ length set.now.txns }
-    requires tx { tx < length set.now.txns }
-    requires free { is_placed prios.now tx ≡ false }
-    requires blocking { blocking ≡ blocking_at (around_set set.now prios.now) 2 }
-    requires few { blocking ≤ 9999 }
-    requires most { most ≡ limit set.now tx }
-    ensures passes { IfOk result (λ passed. passed ≡ passes_at set.now (limit set.now) prios.now tx) }
-    ensures look { steps.new ≡ steps.old + 1 }
-{
-    steps.look();
-    let own = set.txn(TxId(tx as u32)).steps + blocking;
-    let mut loads = loads_above(alloc, set, prios, tx)?;
-    Ok(loads.least_window(own, most).is_some())
-}
-
-// Whether `tx` has no priority yet and passes. A look if it has none.
-fn passes<L: Ledger>(
-    alloc: Global,
-    set: &CompiledSet,
-    prios: &[Prio],
-    tx: usize,
-    blocking: u64,
-    most: Tick,
-    steps: &mut Steps<L>,
-) -> Result<bool, OutOfMemory>
-    requires compiled { IsCompiled set.now }
-    requires one_each { length prios.now ≡ length set.now.txns }
-    requires tx { tx < length set.now.txns }
-    requires blocking { blocking ≡ blocking_at (around_set set.now prios.now) 2 }
-    requires few { blocking ≤ 9999 }
-    requires most { most ≡ limit set.now tx }
-    ensures passes { IfOk result (λ passed. passed ≡ passes_at set.now (limit set.now) prios.now tx) }
-    ensures look { steps.new ≤ steps.old + (if prio_at prios.now tx == 0 then 1 else 0) }
-{
-    if is_free(prios, tx) {
-        is_in_time(alloc, set, prios, tx, blocking, most, steps)
-    } else {
-        Ok(false)
-    }
-}
-
-/// The first transaction in list order, of those that have no priority yet, which passes with all others of them above it; given
-/// the limits in list order. A look for each that is tried.
-///
-/// It takes memory for the loads of each. Its time is that of `Loads::least_window` for each that is tried, and once of
-/// the blocking.
-pub fn first_passing<L: Ledger>(
-    alloc: Global,
-    set: &CompiledSet,
-    limits: &[Tick],
-    prios: &[Prio],
-    steps: &mut Steps<L>,
-) -> Result<Option<usize>, OutOfMemory>
-    requires one_each { length prios.now ≡ length set.now.txns }
-    requires limits { limits.now ≡ map (limit_in set.now) set.now.txns }
-    ensures first { IfOk result (λ found. found ≡ first_passing_at set.now (limit set.now) prios.now) }
-    ensures looks { steps.new ≤ steps.old + left prios.now }
-{
-    set.is_compiled();
-    let blocking = blocking_above(set, prios);
-    for tx in 0..prios.len() {
-        let passed = passes(alloc, set, prios, tx, blocking, limits[tx], steps)?;
-        if passed {
-            return Ok(Some(tx));
-        }
-    }
-    Ok(None)
-}
-
 // What `tx`, its blocking and those above it may take of so many ticks.
 fn demand_of(set: &CompiledSet, prios: &[Prio], tx: usize, blocking: u64, ticks: Tick) -> u64
     requires compiled { IsCompiled set.now }
@@ -145,6 +65,120 @@ fn demand_of(set: &CompiledSet, prios: &[Prio], tx: usize, blocking: u64, ticks:
         }
     }
     total
+}
+
+// Whether a window that was found for another transaction holds what `tx` may ask of it, and is within the limit.
+fn is_held(
+    set: &CompiledSet,
+    prios: &[Prio],
+    tx: usize,
+    blocking: u64,
+    most: Tick,
+    window: Tick,
+) -> bool
+    requires compiled { IsCompiled set.now }
+    requires one_each { length prios.now ≡ length set.now.txns }
+    requires tx { tx < length set.now.txns }
+    requires free { is_placed prios.now tx ≡ false }
+    requires blocking { blocking ≡ blocking_at (around_set set.now prios.now) 2 }
+    requires few { blocking ≤ 9999 }
+    requires most { most ≡ limit set.now tx }
+    requires small { most ≤ 2 ^ 30 }
+    ensures { result ≡ true → passes_at set.now (limit set.now) prios.now tx ≡ true }
+{
+    if window == 0 || window > most {
+        return false;
+    }
+    demand_of(set, prios, tx, blocking, window) <= window
+}
+
+// Whether `tx`, which has no priority yet, has a response of at most so many ticks. One look. The window that was found last is tried
+// first.
+fn is_in_time<L: Ledger>(
+    alloc: Global,
+    set: &CompiledSet,
+    prios: &[Prio],
+    tx: usize,
+    blocking: u64,
+    most: Tick,
+    window: &mut Tick,
+    steps: &mut Steps<L>,
+) -> Result<bool, OutOfMemory>
+    requires compiled { IsCompiled set.now }
+    requires one_each { length prios.now ≡ length set.now.txns }
+    requires tx { tx < length set.now.txns }
+    requires free { is_placed prios.now tx ≡ false }
+    requires blocking { blocking ≡ blocking_at (around_set set.now prios.now) 2 }
+    requires few { blocking ≤ 9999 }
+    requires most { most ≡ limit set.now tx }
+    ensures passes { IfOk result (λ passed. passed ≡ passes_at set.now (limit set.now) prios.now tx) }
+    ensures look { steps.new ≡ steps.old + 1 }
+{
+    steps.look();
+    if is_held(set, prios, tx, blocking, most, *window) {
+        return Ok(true);
+    }
+    let own = set.txn(TxId(tx as u32)).steps + blocking;
+    let mut loads = loads_above(alloc, set, prios, tx)?;
+    let found = loads.least_window(own, most);
+    *window = found.unwrap_or(*window);
+    Ok(found.is_some())
+}
+
+// Whether `tx` has no priority yet and passes. A look if it has none.
+fn passes<L: Ledger>(
+    alloc: Global,
+    set: &CompiledSet,
+    prios: &[Prio],
+    tx: usize,
+    blocking: u64,
+    most: Tick,
+    window: &mut Tick,
+    steps: &mut Steps<L>,
+) -> Result<bool, OutOfMemory>
+    requires compiled { IsCompiled set.now }
+    requires one_each { length prios.now ≡ length set.now.txns }
+    requires tx { tx < length set.now.txns }
+    requires blocking { blocking ≡ blocking_at (around_set set.now prios.now) 2 }
+    requires few { blocking ≤ 9999 }
+    requires most { most ≡ limit set.now tx }
+    ensures passes { IfOk result (λ passed. passed ≡ passes_at set.now (limit set.now) prios.now tx) }
+    ensures look { steps.new ≤ steps.old + (if prio_at prios.now tx == 0 then 1 else 0) }
+{
+    if is_free(prios, tx) {
+        is_in_time(alloc, set, prios, tx, blocking, most, window, steps)
+    } else {
+        Ok(false)
+    }
+}
+
+/// The first transaction in list order, of those that have no priority yet, which passes with all others of them above it; given
+/// the limits in list order. A look for each that is tried.
+///
+/// It takes memory for the loads of each. Its time is that of `Loads::least_window` for each that is tried, and once of
+/// the blocking. A window that was found for another transaction is tried first, since it often holds all at the next level.
+pub fn first_passing<L: Ledger>(
+    alloc: Global,
+    set: &CompiledSet,
+    limits: &[Tick],
+    prios: &[Prio],
+    window: &mut Tick,
+    steps: &mut Steps<L>,
+) -> Result<Option<usize>, OutOfMemory>
+    requires one_each { length prios.now ≡ length set.now.txns }
+    requires limits { limits.now ≡ map (limit_in set.now) set.now.txns }
+    ensures first { IfOk result (λ found. found ≡ first_passing_at set.now (limit set.now) prios.now) }
+    ensures looks { steps.new ≤ steps.old + left prios.now }
+{
+    set.is_compiled();
+    let blocking = blocking_above(set, prios);
+    for tx in 0..prios.len() {
+        let passed = passes(alloc, set, prios, tx, blocking, limits[tx], window, steps)?;
+        if passed {
+            return Ok(Some(tx));
+        }
+    }
+    Ok(None)
 }
 
 /// The transactions that have no priority yet, in list order, each with its limit and its demand within it.
