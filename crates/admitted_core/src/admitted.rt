@@ -10,7 +10,7 @@ ghost use Rattle.lock_core.specs.Promises.{IsLawful, IsLawfulStep};
 use board::{Board, IdleReply, StepReply};
 use item_model::Items;
 use lock_core::Core;
-use rt_base::{ItemId, JobId, Op, OutOfMemory, PlanRefused, Tick, TxId, Value};
+use rt_base::{ItemId, JobId, Op, OutOfMemory, Outcome, PlanRefused, Tick, TxId, Value};
 use set_admission::AdmittedSet;
 use std::alloc::Global;
 use std::marker::Model;
@@ -192,6 +192,11 @@ impl<B: Board> Board for AdmittedBoard<B> {
 
     fn step(&mut self, job: JobId, op: Op) -> StepReply {
         self.step(job, op)
+    }
+
+    #[inline(always)]
+    fn ask(&mut self, job: JobId, op: Op) -> Option<Outcome> {
+        self.board.ask(job, op)
     }
 
     fn idle(&mut self) -> IdleReply {

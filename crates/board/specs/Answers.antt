@@ -1,11 +1,12 @@
 -- What each call of a board answers, as a total function of the set, the state, the number of kept entries, and the room.
-use Rattle.std.specs.Prelude.{ℕ, ◌-◌, ◌==◌, max, nat_lt, nat_le, Bool, not, ◌&&◌, if◌then◌else◌, List, length, Option, None, Some, is_some, Result, Ok, Err}
+use Rattle.std.specs.Prelude.{◌≡◌, ℕ, ◌-◌, ◌==◌, max, nat_lt, nat_le, Bool, true, not, ◌&&◌, if◌then◌else◌, List, length, Option, None, Some, is_some, Result, Ok, Err}
 use Rattle.std.specs.List.{find, filter, fold}
 use Rattle.rt_base.specs.declared.ids.ItemId.{ItemId}
 use Rattle.txn_set.specs.declared.decl.TxnDecl.{TxnDecl}
 use Rattle.rt_base.specs.declared.ids.JobId.{JobId}
 use Rattle.rt_base.specs.declared.operation.Op.{Op}
 use Rattle.rt_base.specs.declared.operation.Op.TheVariants.{Read, Write, Compute, Commit, Quit}
+use Rattle.rt_base.specs.declared.operation.Outcome.{Outcome}
 use Rattle.rt_base.specs.declared.operation.End.{End}
 use Rattle.rt_base.specs.declared.release.PlanRefused.{PlanRefused}
 use Rattle.rt_base.specs.declared.release.PlanRefused.TheVariants as refused
@@ -21,7 +22,7 @@ use Rattle.step_journal.specs.State.{State, Row, same_job}
 use Rattle.step_journal.specs.declared.entry.EndedJob.{EndedJob}
 use Rattle.step_journal.specs.LockRule.{Above}
 use Rattle.step_journal.specs.Running.{running, job_row}
-use Rattle.step_journal.specs.Step.{plans_of, earliest, next_job, lock_refusal, with_step, end_of, next_tick}
+use Rattle.step_journal.specs.Step.{plans_of, earliest, next_job, may_ask, lock_refusal, with_step, end_of, next_tick}
 
 -- Plan
 
@@ -116,6 +117,24 @@ step_reply set s kept room job op =
     if is_some (job_row s.rows job)
     then running_reply set s kept room job op (running set s.rows)
     else reply.NoJob (ended_number s.ended job.tx.0) (last_end s.ended job.tx.0)
+
+-- what the job is told by an answer
+abbrev pub told_by : StepReply → Option Outcome
+told_by (reply.Done outcome over) = Some outcome
+told_by (reply.NoJob ended last) = None
+told_by (reply.NotYet running) = None
+told_by (reply.Undeclared item) = None
+told_by (reply.TooEarly left) = None
+told_by (reply.Unwritten item) = None
+told_by (reply.Full room) = None
+told_by (reply.Blocked by ceiling) = None
+
+-- the running job asks for an operation that it may ask for: declared, after the quiet steps, and with nothing left unwritten
+pub record IsAsking (set : Set) (s : State) (job : JobId) (op : Op) : Type 0 where
+  pub row : Row
+  pub runs : running set s.rows ≡ Some row
+  pub is : row.job ≡ job
+  pub may : may_ask set row op ≡ true
 
 -- Idle
 

@@ -23,6 +23,28 @@ pub enum StepReply {
     Done { outcome: Outcome, over: Option<End> },
 }
 
+impl StepReply {
+    ghost use Rattle.std.specs.Prelude.{◌≡◌};
+    ghost use Rattle.board.specs.Answers.{told_by};
+
+    /// What the job is told: the outcome where its operation was done, and else None.
+    #[inline(always)]
+    pub fn told(self) -> Option<Outcome>
+        ensures { result ≡ told_by self }
+    {
+        match self {
+            StepReply::Done { outcome, .. } => Some(outcome),
+            StepReply::NoJob { .. } => None,
+            StepReply::NotYet { .. } => None,
+            StepReply::Undeclared { .. } => None,
+            StepReply::TooEarly { .. } => None,
+            StepReply::Unwritten { .. } => None,
+            StepReply::Full { .. } => None,
+            StepReply::Blocked { .. } => None,
+        }
+    }
+}
+
 /// What is answered to idling, judged in this order; only `Advanced` is kept in the history.
 #[derive(Clone, Copy, PartialEq, Eq, Debug)]
 pub enum IdleReply {

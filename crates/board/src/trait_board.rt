@@ -3,11 +3,12 @@ ghost use Rattle.std.specs.Prelude.{◌≡◌, ℕ, ◌+◌, ◌-◌, ◌<◌, �
 ghost use Rattle.txn_set.specs.Set.{Set};
 ghost use Rattle.step_journal.specs.History.{state_of};
 ghost use Rattle.step_journal.specs.declared.entry.Entry.{Entry as Noted};
+ghost use Rattle.board.specs.Answers.{IsAsking, told_by};
 ghost use Rattle.board.specs.Stories.{IsStory, IsRefusal, noted, plan_entry, plan_next_entry, step_entry, idle_entry, plan_answer, plan_next_answer, step_answer, idle_answer, now_of, running_of, pending_of, ended_of, planned_of};
 
 use crate::replies::{IdleReply, StepReply};
 use item_model::Items;
-use rt_base::{ItemId, JobId, Op, PlanRefused, Tick, TxId, Value};
+use rt_base::{ItemId, JobId, Op, Outcome, PlanRefused, Tick, TxId, Value};
 use step_journal::Entry;
 use txn_set::CompiledSet;
 
@@ -49,6 +50,16 @@ pub trait Board {
         ensures answer { (story : List Noted) → stands self.old story → result ≡ step_answer (set self.old) story (length (kept self.old)) (room self.old) job op }
         ensures after { (story : List Noted) → stands self.old story → stands self.new (noted story (step_entry (now_of (set self.old) story) job op result)) }
         ensures refused { IsRefusal result → self.new ≡ self.old };
+
+    /// The same as `step`, for a caller that knows that this job runs, that it may ask for the operation, and that there is
+    /// room for the entry: what the job is told, or None where it is blocked. It is spared the tests of all this.
+    fn ask(&mut self, job: JobId, op: Op) -> Option<Outcome>
+        requires in_set { job.tx.0 < length (set self.old).txns }
+        requires asks { (story : List Noted) × stands self.old story × IsAsking (set self.old) (state_of (set self.old) story) job op }
+        requires room { length (kept self.old) < room self.old }
+        ensures fixed { (set self.new ≡ set self.old) × (room self.new ≡ room self.old) × (first self.new ≡ first self.old) }
+        ensures answer { (story : List Noted) → stands self.old story → result ≡ told_by (step_answer (set self.old) story (length (kept self.old)) (room self.old) job op) }
+        ensures after { (story : List Noted) → stands self.old story → stands self.new (noted story (step_entry (now_of (set self.old) story) job op (step_answer (set self.old) story (length (kept self.old)) (room self.old) job op))) };
 
     /// With nothing pending, the time goes on to the least planned tick.
     fn idle(&mut self) -> IdleReply

@@ -12,3 +12,4 @@ pub mod Refusals
 pub mod Places
 pub mod Arrived
 pub mod Effected
+pub mod Quiet

@@ -17,17 +17,18 @@ use Rattle.step_journal.specs.State.{State, Row, row_of, same_job}
 use Rattle.step_journal.specs.LockRule.{Above}
 use Rattle.step_journal.specs.Running.{running, job_row}
 use Rattle.step_journal.specs.Step.{may_ask, lock_refusal, with_step, end_of}
-use Rattle.law_histories.proofs.Invariant.{same_job_is}
+use Rattle.law_histories.proofs.Invariant.{in_range, same_job_is}
 use Rattle.board.specs.declared.replies.StepReply.{StepReply}
 use Rattle.board.specs.declared.replies.StepReply.TheVariants as reply
-use Rattle.board.specs.Answers.{step_reply, running_reply, asked_reply, checked, unwritten_or, unwritten, lock_reply, ended_number, last_end}
+use Rattle.board.specs.Answers.{IsAsking, step_reply, running_reply, asked_reply, checked, unwritten_or, unwritten, lock_reply, ended_number, last_end}
 use Rattle.board.proofs.Asks.{complete_is, job_row_here}
 use Rattle.board.proofs.Tests.{le_not_lt, lt_not_le, lt_false}
-use Rattle.pending_jobs.specs.Rows.{Facts, AreFactsOf, Accesses, accesses_at, accesses_of, head_of}
+use Rattle.pending_jobs.specs.Rows.{Facts, AreFactsOf, Accesses, accesses_at, accesses_of, head_of, above_of}
+use Rattle.pending_jobs.specs.declared.head.Blocker.{Blocker}
 use Rattle.pending_jobs.specs.declared.head.Head.{Head}
 use Rattle.core_tables.specs.Seen.{TablesSeen}
 use Rattle.core_tables.specs.Tables.{AreTables}
-use Rattle.core_tables.specs.Legal.{IsLegalState, IsGranted, Refuses}
+use Rattle.core_tables.specs.Legal.{IsLegalState, IsGranted, IsBlocked, Refuses}
 use Rattle.core_tables.specs.Changes.{denied, access_by}
 use Rattle.core_tables.specs.Asks.{asked_by, turned_by, runs_now, waiting_for, waits_by, refused_by, first_of, blocked_by}
 use Rattle.core_tables.proofs.Facts.{known}
@@ -227,6 +228,44 @@ granted_reply set s kept room job op g legal lt =
     ∙ (ap (λ (b : Bool). cond b (reply.Full room) (lock_reply set s g.row op (lock_refusal set s g.row op))) (lt_false kept room lt)
     ∙ (ap (lock_reply set s g.row op) g.free
     ∙ ap (λ (j : JobId). reply.Done (outcome_of s.items g.row.work op) (end_of (with_step set s g.row op) j)) g.is)))))
+
+-- what it answers to a blocked one
+pub blocked_reply : (set : Set) (s : State) (kept room : ℕ) (job : JobId) (op : Op) (by : JobId) (ceiling : ℕ) → IsBlocked set s job op by ceiling → IsLegalState set s → kept < room
+    → step_reply set s kept room job op ≡ reply.Blocked by ceiling
+blocked_reply set s kept room job op by ceiling b legal lt =
+    let k = known set s legal in
+    let here : job_row s.rows b.row.job ≡ Some b.row = job_row_here s.rows b.row (k.here b.row b.runs) in
+    let there : job_row s.rows job ≡ Some b.row = subst (λ (j : JobId). job_row s.rows j ≡ Some b.row) b.is here in
+    let same : same_job b.row.job job ≡ true = and_from _ _ (eq-eqb _ _ (ap (λ (j : JobId). j.tx.0) b.is)) (eq-eqb _ _ (ap (λ (j : JobId). j.serial) b.is)) in
+    ap (λ (o : Option Row). cond (is_some o) (running_reply set s kept room job op (running set s.rows)) (reply.NoJob (ended_number s.ended job.tx.0) (last_end s.ended job.tx.0))) there
+    ∙ (ap (running_reply set s kept room job op) b.runs
+    ∙ (ap (λ (x : Bool). cond x (asked_reply set s kept room op b.row) (reply.NotYet b.row.job)) same
+    ∙ (checked_may set b.row op (cond (nat_le room kept) (reply.Full room) (lock_reply set s b.row op (lock_refusal set s b.row op))) b.may
+    ∙ (ap (λ (x : Bool). cond x (reply.Full room) (lock_reply set s b.row op (lock_refusal set s b.row op))) (lt_false kept room lt)
+    ∙ ap (lock_reply set s b.row op) b.refused))))
+
+-- the running job that asks: its row, also in the tables, and the item that it asks for
+pub asking_pends : (set : Set) (s : State) (job : JobId) (op : Op) → IsLegalState set s → (a : IsAsking set s job op) → row_of s.rows job.tx.0 ≡ Some a.row
+asking_pends set s job op legal a = subst (λ (j : JobId). row_of s.rows j.tx.0 ≡ Some a.row) a.is ((known set s legal).here a.row a.runs)
+
+pub asking_row : (set : Set) (t : TablesSeen) (s : State) (job : JobId) (op : Op) → AreTables set t s → IsLegalState set s → (a : IsAsking set s job op) → row_of t.pending.rows job.tx.0 ≡ Some a.row
+asking_row set t s job op are legal a =
+    ap (λ (l : List (Option Row)). row_of l job.tx.0) are.rows.rows ∙ asking_pends set s job op legal a
+
+pub asking_in_range : (set : Set) (t : TablesSeen) (s : State) (job : JobId) (op : Op) → AreTables set t s → IsLegalState set s → IsAsking set s job op → job.tx.0 < length t.pending.rows
+asking_in_range set t s job op are legal a = in_range t.pending.rows job.tx.0 a.row (asking_row set t s job op are legal a)
+
+pub asking_item : (set : Set) (t : TablesSeen) (s : State) (job : JobId) (op : Op) → AreTables set t s → IsLegalState set s → IsAsking set s job op → HasItem (length t.pending.facts.ceilings) op
+asking_item set t s job op are legal a =
+    let k = known set s legal in
+    let lt : a.row.job.tx.0 < length set.txns = omega (arith, in_range s.rows a.row.job.tx.0 a.row (k.here a.row a.runs), k.sound.frame.count) in
+    subst (λ (n : ℕ). HasItem n op) (sym are.rows.facts.items) (item_of set a.row op legal.compiled lt a.may)
+
+-- what the lock rule says to it
+pub rule_tells : (set : Set) (s : State) (job : JobId) (op : Op) (o : Option Blocker) → (a : IsAsking set s job op) → option_map above_of o ≡ lock_refusal set s a.row op
+    → MatchOption o (IsGranted set s job op) (λ b. IsBlocked set s job op b.holder b.ceiling)
+rule_tells set s job op None a e = record { row = a.row; runs = a.runs; is = a.is; may = a.may; free = sym e }
+rule_tells set s job op (Some b) a e = record { row = a.row; runs = a.runs; is = a.is; may = a.may; refused = sym e }
 
 -- the heads
 

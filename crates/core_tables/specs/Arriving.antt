@@ -1,11 +1,13 @@
 -- What the events of a tick rest on.
-use Rattle.std.specs.Prelude.{◌≡◌, ℕ, ◌+◌, ◌^◌, ◌<◌, ◌==◌, true, List, length, Option, None, Some}
+use Rattle.std.specs.Prelude.{◌≡◌, ℕ, ◌+◌, ◌^◌, ◌<◌, ◌==◌, true, List, [], length, Option, None, Some}
 use Rattle.std.specs.List.{filter}
 use Rattle.rt_base.specs.declared.release.Release.{Release}
-use Rattle.release_calendar.specs.Agenda.{Agenda, Holds}
-use Rattle.txn_set.specs.Set.{Set}
+use Rattle.rt_base.specs.declared.operation.Op.TheVariants.{Compute}
+use Rattle.release_calendar.specs.Agenda.{Agenda, Holds, NothingDue}
+use Rattle.txn_set.specs.Set.{Set, txn_of}
 use Rattle.step_journal.specs.State.{State, Row, row_of, pending}
 use Rattle.step_journal.specs.Instant.{is_due}
+use Rattle.step_journal.specs.Step.{with_step, end_of}
 use Rattle.board.specs.Answers.{ended_number}
 use Rattle.law_histories.proofs.Members.{In}
 use Rattle.law_histories.proofs.Calendar.{Frame, AreApart}
@@ -13,6 +15,7 @@ use Rattle.pending_jobs.specs.Rows.{PendingSeen, AreFactsOf}
 use Rattle.core_tables.specs.declared.tally.Tally.{Tally}
 use Rattle.core_tables.specs.Seen.{TablesSeen, tally_of}
 use Rattle.core_tables.specs.Tables.{AreTables}
+use Rattle.core_tables.specs.Changes.{late_jobs}
 
 -- the releases of a tick are of different transactions, none of which has a pending job
 pub record CanRelease (tick : ℕ) (rows : List (Option Row)) (planned : List Release) : Type 0 where
@@ -51,3 +54,14 @@ pub record ArrivesSome (set : Set) (tick : ℕ) (t : TablesSeen) : Type 0 where
   pub state : State
   pub are : AreTables set t state
   pub can : CanArrive set tick state
+
+-- The pending job of a transaction has a step left after its next one, no deadline comes at a tick, and nothing is released then.
+pub record IsQuiet (set : Set) (t : TablesSeen) (tx tick : ℕ) : Type 0 where
+  pub more : (row : Row) → row_of t.pending.rows tx ≡ Some row → row.used + 1 < (txn_of set tx).steps
+  pub none_late : AreFactsOf set t.pending.facts → late_jobs set tick t.pending.rows ≡ []
+  pub none_due : (planned : List Release) → Holds t.calendar planned → NothingDue tick planned
+
+-- the tables are those after a step in which the job of this row computes, and it goes on
+pub record Computes (set : Set) (t : TablesSeen) (s : State) (row : Row) : Type 0 where
+  pub are : AreTables set t (with_step set s row Compute)
+  pub goes_on : end_of (with_step set s row Compute) row.job ≡ None

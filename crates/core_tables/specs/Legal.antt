@@ -10,6 +10,7 @@ use Rattle.step_journal.specs.Step.{may_ask, lock_refusal, next_tick}
 use Rattle.step_journal.specs.History.{IsLegal, state_of}
 use Rattle.board.specs.declared.replies.StepReply.{StepReply}
 use Rattle.board.specs.declared.replies.StepReply.TheVariants as reply
+use Rattle.board.specs.Answers.{IsAsking}
 use Rattle.core_tables.specs.Seen.{TablesSeen}
 use Rattle.core_tables.specs.Tables.{AreTables}
 
@@ -25,6 +26,13 @@ pub record Stand (set : Set) (t : TablesSeen) : Type 0 where
   pub state : State
   pub are : AreTables set t state
   pub legal : IsLegalState set state
+
+-- .. in which the running job asks for an operation that it may ask for
+pub record StandAsking (set : Set) (t : TablesSeen) (job : JobId) (op : Op) : Type 0 where
+  pub state : State
+  pub are : AreTables set t state
+  pub legal : IsLegalState set state
+  pub asking : IsAsking set state job op
 
 -- the running job asks for an operation that it may take, and gets the lock that it needs
 pub record IsGranted (set : Set) (s : State) (job : JobId) (op : Op) : Type 0 where

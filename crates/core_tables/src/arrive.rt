@@ -47,7 +47,8 @@ pub fn cancel(pending: &mut Pending, tallies: &mut [Tally], tick: Tick)
 }
 
 /// Whether each pending job has time beyond this tick.
-fn has_time(pending: &Pending, tick: Tick) -> bool
+#[inline(always)]
+pub fn has_time(pending: &Pending, tick: Tick) -> bool
     ensures { IsTrue result → (set : Set) → AreFactsOf set pending.now.facts → late_jobs set tick pending.now.rows ≡ [] }
 {
     match pending.next_deadline() {

@@ -4,10 +4,10 @@ ghost use Rattle.std.specs.List.{AllPairs};
 ghost use Rattle.std.specs.Option.{option_map};
 ghost use Rattle.txn_set.specs.Set.{Set, names_item};
 ghost use Rattle.step_journal.specs.State.{Row as RowSeen, State, row_of, same_job as same};
-ghost use Rattle.board.specs.Answers.{step_reply, idle_reply};
+ghost use Rattle.board.specs.Answers.{IsAsking, step_reply, idle_reply};
 ghost use Rattle.pending_jobs.specs.Rows.{AreFactsOf, head_of, above_of};
 ghost use Rattle.core_tables.specs.Tables.{AreTables};
-ghost use Rattle.core_tables.specs.Legal.{IsLegalState, Stand, IsGranted, Refuses};
+ghost use Rattle.core_tables.specs.Legal.{IsLegalState, Stand, StandAsking, IsGranted, IsBlocked, Refuses};
 ghost use Rattle.core_tables.specs.Changes.{denied as denied_by, access_by};
 ghost use Rattle.core_tables.specs.Asks.{blocked_by, asked_by, runs_now, waiting_for, waits_by, refused_by, idle_by};
 
@@ -154,6 +154,16 @@ impl CoreTables {
         ensures { (s : State) → AreTables set.now self.now s → IsLegalState set.now s → MatchOption result (IsGranted set.now s job op × (kept < room)) (λ reply. (step_reply set.now s kept room job op ≡ reply) × Refuses set.now s job op reply) }
     {
         self.refused(set, job, op, kept, room)
+    }
+
+    /// Why the running job does not get the lock that an operation needs, for which it may ask; None exactly where it gets the
+    /// lock or needs none. It changes nothing. At most four looks, and one look-up.
+    #[inline(always)]
+    pub fn blocker(&self, job: JobId, op: Op) -> Option<Blocker>
+        requires asks { (set : Set) × StandAsking set self.now job op }
+        ensures { (set : Set) (s : State) → AreTables set self.now s → IsLegalState set s → IsAsking set s job op → MatchOption result (IsGranted set s job op) (λ b. IsBlocked set s job op b.holder b.ceiling) }
+    {
+        self.pending.lock_refusal(job.tx, op)
     }
 
     /// The answer to idle: NotIdle, Nothing, Full, or the least planned tick. It changes nothing. A bounded number of looks.

@@ -1,5 +1,5 @@
 //! What takes place: a wait, a granted step with its effect, and the arrival at a tick.
-ghost use Rattle.std.specs.Prelude.{◌≡◌, ℕ, ◌+◌, ◌<◌, ◌^◌, ◌==◌, length, Some};
+ghost use Rattle.std.specs.Prelude.{◌≡◌, ℕ, ◌+◌, ◌<◌, ◌^◌, ◌==◌, length, Some, false, IsTrue};
 ghost use Rattle.ceiling_table.specs.Held.{HasItem};
 ghost use Rattle.txn_set.specs.Set.{Set, txn_of};
 ghost use Rattle.item_model.specs.Work.{outcome_of};
@@ -13,9 +13,9 @@ ghost use Rattle.core_tables.specs.Seen.{tally_of};
 ghost use Rattle.core_tables.specs.Tables.{AreTables};
 ghost use Rattle.core_tables.specs.Legal.{IsLegalState, IsGranted, IsBlocked, IsIdle, StandGranted, StandBlocked, StandIdle};
 ghost use Rattle.core_tables.specs.Changes.{items_settled, pending_settled, tallies_settled};
-ghost use Rattle.core_tables.specs.Arriving.{CanArrive, ArrivesSome};
+ghost use Rattle.core_tables.specs.Arriving.{CanArrive, ArrivesSome, IsQuiet, Computes};
 
-use crate::arrive::{cancel, count_end, release};
+use crate::arrive::{cancel, count_end, has_time, release};
 use crate::tables::CoreTables;
 use crate::tally::Tally;
 use item_model::Items;
@@ -123,6 +123,20 @@ fn close(pending: &mut Pending, tallies: &mut [Tally], tx: TxId, end: Option<End
     }
 }
 
+/// Whether the transaction's pending job has a step left after its next one.
+#[inline(always)]
+fn has_steps(pending: &Pending, set: &CompiledSet, tx: TxId) -> bool
+    requires in_set { tx.0 < length set.now.txns }
+    requires row { tx.0 < length pending.now.rows }
+    requires used { (row : RowSeen) → row_of pending.now.rows tx.0 ≡ Some row → row.used < 2 ^ 63 }
+    ensures { IsTrue result → (row : RowSeen) → row_of pending.now.rows tx.0 ≡ Some row → row.used + 1 < (txn_of set.now tx.0).steps }
+{
+    match pending.head(tx) {
+        Some(head) => head.used + 1 < set.txn(tx).steps,
+        None => false,
+    }
+}
+
 /// Whether the transaction's pending job has its deadline at this tick.
 #[inline(always)]
 fn is_late(pending: &Pending, tx: TxId, deadline: Tick, tick: Tick) -> bool
@@ -161,6 +175,52 @@ impl CoreTables {
     /// A job that ends costs what `Pending::end` does, and each release what `Calendar::due` does, however many are planned.
     #[inline(always)]
     pub fn go(&mut self, set: &CompiledSet, job: JobId, op: Op) -> (Outcome, Option<End>)
+        requires granted { StandGranted set.now self.old job op }
+        ensures outcome { (s : State) → AreTables set.now self.old s → IsLegalState set.now s → (g : IsGranted set.now s job op) → result.0 ≡ outcome_of s.items g.row.work op }
+        ensures over { (s : State) → AreTables set.now self.old s → IsLegalState set.now s → (g : IsGranted set.now s job op) → result.1 ≡ end_of (with_step set.now s g.row op) job }
+        ensures after { (s : State) → AreTables set.now self.old s → IsLegalState set.now s → (g : IsGranted set.now s job op) → AreTables set.now self.new (with_step set.now s g.row op) }
+    {
+        if let Op::Compute = op {
+            if self.compute(set, job) {
+                return (Outcome::Computed, None);
+            }
+        }
+        self.act(set, job, op)
+    }
+
+    // Where the running job computes and nothing else happens by that, it is only counted: whether it was.
+    #[inline(always)]
+    fn compute(&mut self, set: &CompiledSet, job: JobId) -> bool
+        requires granted { StandGranted set.now self.old job Op.Compute }
+        ensures done { IsTrue result → (s : State) → AreTables set.now self.old s → IsLegalState set.now s → (g : IsGranted set.now s job Op.Compute) → Computes set.now self.new s g.row }
+        ensures unchanged { result ≡ false → self.new ≡ self.old }
+    {
+        let at = self.clock + 1;
+        if !self.is_quiet(set, job.tx, at) {
+            return false;
+        }
+        self.pending.step(job.tx, Op::Compute, &self.items);
+        self.clock = at;
+        true
+    }
+
+    // Whether the pending job of a transaction has a step left after its next one, and no deadline comes and nothing is
+    // released at a tick.
+    #[inline(always)]
+    fn is_quiet(&self, set: &CompiledSet, tx: TxId, at: Tick) -> bool
+        requires in_set { tx.0 < length set.now.txns }
+        requires row { tx.0 < length self.now.pending.rows }
+        requires used { (row : RowSeen) → row_of self.now.pending.rows tx.0 ≡ Some row → row.used < 2 ^ 63 }
+        ensures { IsTrue result → IsQuiet set.now self.now tx.0 at }
+    {
+        has_time(&self.pending, at)
+            && !self.calendar.may_be_due(at)
+            && has_steps(&self.pending, set, tx)
+    }
+
+    // A granted step, whatever happens by it.
+    #[inline(always)]
+    fn act(&mut self, set: &CompiledSet, job: JobId, op: Op) -> (Outcome, Option<End>)
         requires granted { StandGranted set.now self.old job op }
         ensures outcome { (s : State) → AreTables set.now self.old s → IsLegalState set.now s → (g : IsGranted set.now s job op) → result.0 ≡ outcome_of s.items g.row.work op }
         ensures over { (s : State) → AreTables set.now self.old s → IsLegalState set.now s → (g : IsGranted set.now s job op) → result.1 ≡ end_of (with_step set.now s g.row op) job }

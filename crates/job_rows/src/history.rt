@@ -36,7 +36,7 @@ pub fn rows_of(
 {
     let mut rows = JobRows::with_room(alloc, set, planned(entries))?;
     for i in 0..entries.len() {
-        rows.push(entries[i]);
+        rows.push(&entries[i]);
     }
     Ok(rows.into_rows())
 }

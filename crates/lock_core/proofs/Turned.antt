@@ -18,7 +18,7 @@ use Rattle.step_journal.specs.Instant.{arrived}
 use Rattle.step_journal.specs.Step.{Event, plan, ask, idle, step, plans_of, earliest, next_job, with_plan, with_step, with_wait, end_of, next_tick}
 use Rattle.step_journal.specs.History.{state_of, event_of}
 use Rattle.law_histories.proofs.Never.{never_stuck}
-use Rattle.board.specs.Answers.{plan_reply, step_reply, idle_reply, idle_reply_at, waiting_reply}
+use Rattle.board.specs.Answers.{IsAsking, plan_reply, step_reply, idle_reply, idle_reply_at, waiting_reply}
 use Rattle.board.specs.Stories.{noted, step_entry}
 use Rattle.board.specs.declared.replies.StepReply.{StepReply}
 use Rattle.board.specs.declared.replies.StepReply.TheVariants as reply
@@ -27,9 +27,9 @@ use Rattle.board.proofs.More.{story_more, plan_steps, passes, not_le}
 use Rattle.board.proofs.Rooms.{steps_full}
 use Rattle.core_tables.specs.Seen.{TablesSeen}
 use Rattle.core_tables.specs.Tables.{AreTables}
-use Rattle.core_tables.specs.Legal.{IsLegalState, IsGranted, IsBlocked, IsIdle, Refuses}
+use Rattle.core_tables.specs.Legal.{IsLegalState, StandAsking, IsGranted, IsBlocked, IsIdle, Refuses}
 use Rattle.core_tables.proofs.Steps.{granted_steps, blocked_steps, idle_steps}
-use Rattle.core_tables.proofs.Refusals.{granted_reply}
+use Rattle.core_tables.proofs.Refusals.{granted_reply, blocked_reply}
 use Rattle.lock_core.specs.Seen.{CoreSeen, core_of}
 use Rattle.lock_core.specs.Stands.{Stands, IsCore}
 use Rattle.lock_core.specs.Turns.{IsTurn}
@@ -81,6 +81,21 @@ go_says set journal tables story job op outcome over lt h g eo ev =
     ap (λ (o : Outcome). reply.Done o over) eo
     ∙ (ap (λ (v : Option End). reply.Done (outcome_of s.items g.row.work op) v) ev
     ∙ sym (granted_reply set s (length journal.kept) journal.room job op g (legal_state (core_of set journal tables) story h) lt))
+
+pub block_says : (set : Set) (journal : JournalSeen) (tables : TablesSeen) (story : List Entry) (job : JobId) (op : Op) (by : JobId) (ceiling : ℕ) → length journal.kept < journal.room
+    → Stands (core_of set journal tables) story → IsBlocked set (state_of set story) job op by ceiling
+    → step_reply set (state_of set story) (length journal.kept) journal.room job op ≡ reply.Blocked by ceiling
+block_says set journal tables story job op by ceiling lt h b =
+    blocked_reply set (state_of set story) (length journal.kept) journal.room job op by ceiling b (legal_state (core_of set journal tables) story h) lt
+
+-- a job that asks after one of the histories that the core stands for asks after each: the tables have their rows
+pub asks_each : (core : CoreSeen) (one each : List Entry) (job : JobId) (op : Op) → Stands core one → Stands core each → IsAsking core.set (state_of core.set one) job op → IsAsking core.set (state_of core.set each) job op
+asks_each core one each job op h k a =
+    let same : (state_of core.set each).rows ≡ (state_of core.set one).rows = sym k.are.rows.rows ∙ h.are.rows.rows in
+    record { row = a.row; runs = ap (running core.set) same ∙ a.runs; is = a.is; may = a.may }
+
+pub asks_some : (core : CoreSeen) (job : JobId) (op : Op) → (story : List Entry) × Stands core story × IsAsking core.set (state_of core.set story) job op → StandAsking core.set core.tables job op
+asks_some core job op asks = record { state = state_of core.set asks.0; are = asks.1.are; legal = legal_state core asks.0 asks.1; asking = asks.2 }
 
 pub block_turn : (set : Set) (journal more : JournalSeen) (tables next_tables : TablesSeen) (story : List Entry) (job : JobId) (op : Op) (by : JobId) (ceiling tick : ℕ)
     → more ≡ with_entry journal (Blocked job op by ceiling tick) → tick ≡ tables.clock → length journal.kept < journal.room → (h : Stands (core_of set journal tables) story)

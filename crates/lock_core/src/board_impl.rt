@@ -5,7 +5,7 @@ ghost use Rattle.lock_core.specs.Stands.{Stands};
 use crate::core_board::Core;
 use board::{Board, IdleReply, StepReply};
 use item_model::Items;
-use rt_base::{ItemId, JobId, Op, PlanRefused, Tick, TxId, Value};
+use rt_base::{ItemId, JobId, Op, Outcome, PlanRefused, Tick, TxId, Value};
 use step_journal::Entry;
 use txn_set::CompiledSet;
 
@@ -32,6 +32,11 @@ impl Board for Core {
 
     fn step(&mut self, job: JobId, op: Op) -> StepReply {
         self.step(job, op)
+    }
+
+    #[inline(always)]
+    fn ask(&mut self, job: JobId, op: Op) -> Option<Outcome> {
+        self.ask(job, op)
     }
 
     fn idle(&mut self) -> IdleReply {

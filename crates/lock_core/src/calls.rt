@@ -1,10 +1,10 @@
 //! The calls that change a core.
 ghost use Rattle.std.specs.Prelude.{◌≡◌, ◌+◌, ◌-◌, ◌<◌, ◌++◌, ℕ, List, [], length, min, take, drop, vec_len, vec_capacity, OnErr};
 ghost use Rattle.step_journal.specs.declared.entry.Entry.{Entry as Noted};
-ghost use Rattle.step_journal.specs.Step.{plan as planned, idle as idled};
+ghost use Rattle.step_journal.specs.Step.{plan as planned, ask as asking, idle as idled};
 ghost use Rattle.step_journal.specs.History.{state_of};
-ghost use Rattle.board.specs.Answers.{next_tick_for};
-ghost use Rattle.board.specs.Stories.{plan_entry, plan_next_entry, idle_entry, plan_answer, plan_next_answer, step_answer, idle_answer, now_of};
+ghost use Rattle.board.specs.Answers.{IsAsking, next_tick_for, told_by};
+ghost use Rattle.board.specs.Stories.{plan_entry, plan_next_entry, step_entry, idle_entry, plan_answer, plan_next_answer, step_answer, idle_answer, now_of};
 ghost use Rattle.lock_core.specs.Seen.{set_of, kept_by};
 ghost use Rattle.lock_core.specs.Stands.{Stands};
 ghost use Rattle.lock_core.specs.Turns.{IsTurn, IsIdleRefusal};
@@ -13,7 +13,7 @@ ghost use Rattle.lock_core.specs.Promises.{IsLawfulStep};
 use crate::core_board::Core;
 use crate::turns;
 use board::{IdleReply, StepReply};
-use rt_base::{JobId, Op, PlanRefused, Tick, TxId};
+use rt_base::{JobId, Op, Outcome, PlanRefused, Tick, TxId};
 use step_journal::Entry;
 
 impl Core {
@@ -52,7 +52,6 @@ impl Core {
     /// run alone. It costs a bounded number of look-ups, and no scan of the transactions: a new lock goes over the holders
     /// of locks, a read or write over what the job has read and written, an end over the items, and the arrival over the
     /// jobs that are late and the releases of that instant.
-    #[inline(always)]
     pub fn step(&mut self, job: JobId, op: Op) -> StepReply
         requires { job.tx.0 < length self.old.set.txns }
         ensures fixed { (self.new.set ≡ self.old.set) × (self.new.journal.room ≡ self.old.journal.room) × (self.new.journal.first ≡ self.old.journal.first) }
@@ -60,6 +59,20 @@ impl Core {
         ensures lawful { IsLawfulStep Stands set_of kept_by self.old self.new job op result }
     {
         turns::step(&self.set, &mut self.journal, &mut self.tables, job, op)
+    }
+
+    /// The same as `step`, for a caller that knows that this job runs, that it may ask for the operation, and that there is
+    /// room for the entry: what the job is told, or None where it is blocked. It costs what a step does but for the tests of
+    /// all this.
+    #[inline(always)]
+    pub fn ask(&mut self, job: JobId, op: Op) -> Option<Outcome>
+        requires asks { (story : List Noted) × Stands self.old story × IsAsking self.old.set (state_of self.old.set story) job op }
+        requires room { length self.old.journal.kept < self.old.journal.room }
+        ensures fixed { (self.new.set ≡ self.old.set) × (self.new.journal.room ≡ self.old.journal.room) × (self.new.journal.first ≡ self.old.journal.first) }
+        ensures answer { (story : List Noted) → Stands self.old story → result ≡ told_by (step_answer self.old.set story (length self.old.journal.kept) self.old.journal.room job op) }
+        ensures turn { (story : List Noted) → Stands self.old story → IsTurn self.old self.new story (asking job op) (step_entry (now_of self.old.set story) job op (step_answer self.old.set story (length self.old.journal.kept) self.old.journal.room job op)) }
+    {
+        turns::ask(&self.set, &mut self.journal, &mut self.tables, job, op)
     }
 
     /// With nothing pending, the time goes on to the least planned tick, and its releases take place. NotIdle, Nothing and

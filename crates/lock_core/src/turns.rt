@@ -2,8 +2,9 @@
 ghost use Rattle.std.specs.Prelude.{◌≡◌, ◌<◌, ℕ, List, length, Some, OnErr};
 ghost use Rattle.rt_base.specs.declared.ids.JobId.{JobId as Job};
 ghost use Rattle.step_journal.specs.declared.entry.Entry.{Entry as Noted};
-ghost use Rattle.step_journal.specs.Step.{plan as planned, ask, idle as idled};
+ghost use Rattle.step_journal.specs.Step.{plan as planned, ask as asking, idle as idled};
 ghost use Rattle.step_journal.specs.History.{state_of};
+ghost use Rattle.board.specs.Answers.{IsAsking, told_by};
 ghost use Rattle.board.specs.Stories.{IsRefusal, plan_entry, step_entry, idle_entry, plan_answer, step_answer, idle_answer, now_of};
 ghost use Rattle.core_tables.specs.Legal.{IsGranted, IsBlocked, IsIdle};
 ghost use Rattle.lock_core.specs.Seen.{core_of};
@@ -12,7 +13,7 @@ ghost use Rattle.lock_core.specs.Turns.{IsTurn, IsIdleRefusal};
 
 use board::{IdleReply, StepReply};
 use core_tables::CoreTables;
-use rt_base::{JobId, Op, PlanRefused, Prio, Tick, TxId};
+use rt_base::{JobId, Op, Outcome, PlanRefused, Prio, Tick, TxId};
 use step_journal::{Entry, Journal};
 use txn_set::CompiledSet;
 
@@ -54,7 +55,7 @@ fn go(
     requires roomy { length journal.old.kept < journal.old.room }
     ensures fixed { (journal.new.room ≡ journal.old.room) × (journal.new.first ≡ journal.old.first) }
     ensures answer { (story : List Noted) → Stands (core_of set.now journal.old tables.old) story → result ≡ step_answer set.now story (length journal.old.kept) journal.old.room job op }
-    ensures turn { (story : List Noted) → Stands (core_of set.now journal.old tables.old) story → IsTurn (core_of set.now journal.old tables.old) (core_of set.now journal.new tables.new) story (ask job op) (step_entry (now_of set.now story) job op result) }
+    ensures turn { (story : List Noted) → Stands (core_of set.now journal.old tables.old) story → IsTurn (core_of set.now journal.old tables.old) (core_of set.now journal.new tables.new) story (asking job op) (step_entry (now_of set.now story) job op result) }
     ensures refused { IsRefusal result → (journal.new ≡ journal.old) × (tables.new ≡ tables.old) }
 {
     let tick = tables.now();
@@ -86,7 +87,7 @@ fn block(
     requires roomy { length journal.old.kept < journal.old.room }
     ensures fixed { (journal.new.room ≡ journal.old.room) × (journal.new.first ≡ journal.old.first) }
     ensures answer { (story : List Noted) → Stands (core_of set.now journal.old tables.old) story → result ≡ step_answer set.now story (length journal.old.kept) journal.old.room job op }
-    ensures turn { (story : List Noted) → Stands (core_of set.now journal.old tables.old) story → IsTurn (core_of set.now journal.old tables.old) (core_of set.now journal.new tables.new) story (ask job op) (step_entry (now_of set.now story) job op result) }
+    ensures turn { (story : List Noted) → Stands (core_of set.now journal.old tables.old) story → IsTurn (core_of set.now journal.old tables.old) (core_of set.now journal.new tables.new) story (asking job op) (step_entry (now_of set.now story) job op result) }
     ensures refused { IsRefusal result → (journal.new ≡ journal.old) × (tables.new ≡ tables.old) }
 {
     let tick = tables.now();
@@ -114,7 +115,7 @@ fn asked(
     requires core { IsCore (core_of set.now journal.old tables.old) }
     ensures fixed { (journal.new.room ≡ journal.old.room) × (journal.new.first ≡ journal.old.first) }
     ensures answer { (story : List Noted) → Stands (core_of set.now journal.old tables.old) story → result ≡ step_answer set.now story (length journal.old.kept) journal.old.room job op }
-    ensures turn { (story : List Noted) → Stands (core_of set.now journal.old tables.old) story → IsTurn (core_of set.now journal.old tables.old) (core_of set.now journal.new tables.new) story (ask job op) (step_entry (now_of set.now story) job op result) }
+    ensures turn { (story : List Noted) → Stands (core_of set.now journal.old tables.old) story → IsTurn (core_of set.now journal.old tables.old) (core_of set.now journal.new tables.new) story (asking job op) (step_entry (now_of set.now story) job op result) }
     ensures refused { IsRefusal result → (journal.new ≡ journal.old) × (tables.new ≡ tables.old) }
 {
     match tables.refusal(set, job, op, journal.len(), journal.room()) {
@@ -145,7 +146,7 @@ pub fn step(
     requires core { IsCore (core_of set.now journal.old tables.old) }
     ensures fixed { (journal.new.room ≡ journal.old.room) × (journal.new.first ≡ journal.old.first) }
     ensures answer { (story : List Noted) → Stands (core_of set.now journal.old tables.old) story → result ≡ step_answer set.now story (length journal.old.kept) journal.old.room job op }
-    ensures turn { (story : List Noted) → Stands (core_of set.now journal.old tables.old) story → IsTurn (core_of set.now journal.old tables.old) (core_of set.now journal.new tables.new) story (ask job op) (step_entry (now_of set.now story) job op result) }
+    ensures turn { (story : List Noted) → Stands (core_of set.now journal.old tables.old) story → IsTurn (core_of set.now journal.old tables.old) (core_of set.now journal.new tables.new) story (asking job op) (step_entry (now_of set.now story) job op result) }
     ensures refused { IsRefusal result → (journal.new ≡ journal.old) × (tables.new ≡ tables.old) }
 {
     match op {
@@ -154,6 +155,53 @@ pub fn step(
         Op::Compute => asked(set, journal, tables, job, Op::Compute),
         Op::Commit => asked(set, journal, tables, job, Op::Commit),
         Op::Quit => asked(set, journal, tables, job, Op::Quit),
+    }
+}
+
+// What the running job is told that may ask for the operation.
+#[inline(always)]
+fn taken(
+    set: &CompiledSet,
+    journal: &mut Journal,
+    tables: &mut CoreTables,
+    job: JobId,
+    op: Op,
+) -> Option<Outcome>
+    requires core { IsCore (core_of set.now journal.old tables.old) }
+    requires asks { (story : List Noted) × Stands (core_of set.now journal.old tables.old) story × IsAsking set.now (state_of set.now story) job op }
+    requires roomy { length journal.old.kept < journal.old.room }
+    ensures fixed { (journal.new.room ≡ journal.old.room) × (journal.new.first ≡ journal.old.first) }
+    ensures answer { (story : List Noted) → Stands (core_of set.now journal.old tables.old) story → result ≡ told_by (step_answer set.now story (length journal.old.kept) journal.old.room job op) }
+    ensures turn { (story : List Noted) → Stands (core_of set.now journal.old tables.old) story → IsTurn (core_of set.now journal.old tables.old) (core_of set.now journal.new tables.new) story (asking job op) (step_entry (now_of set.now story) job op (step_answer set.now story (length journal.old.kept) journal.old.room job op)) }
+{
+    match tables.blocker(job, op) {
+        None => go(set, journal, tables, job, op).told(),
+        Some(b) => block(set, journal, tables, job, op, b.holder, b.ceiling).told(),
+    }
+}
+
+/// The running job asks for an operation that it may ask for, where there is room. Each has code of its own.
+#[inline(always)]
+pub fn ask(
+    set: &CompiledSet,
+    journal: &mut Journal,
+    tables: &mut CoreTables,
+    job: JobId,
+    op: Op,
+) -> Option<Outcome>
+    requires core { IsCore (core_of set.now journal.old tables.old) }
+    requires asks { (story : List Noted) × Stands (core_of set.now journal.old tables.old) story × IsAsking set.now (state_of set.now story) job op }
+    requires roomy { length journal.old.kept < journal.old.room }
+    ensures fixed { (journal.new.room ≡ journal.old.room) × (journal.new.first ≡ journal.old.first) }
+    ensures answer { (story : List Noted) → Stands (core_of set.now journal.old tables.old) story → result ≡ told_by (step_answer set.now story (length journal.old.kept) journal.old.room job op) }
+    ensures turn { (story : List Noted) → Stands (core_of set.now journal.old tables.old) story → IsTurn (core_of set.now journal.old tables.old) (core_of set.now journal.new tables.new) story (asking job op) (step_entry (now_of set.now story) job op (step_answer set.now story (length journal.old.kept) journal.old.room job op)) }
+{
+    match op {
+        Op::Read(item) => taken(set, journal, tables, job, Op::Read(item)),
+        Op::Write(item, value) => taken(set, journal, tables, job, Op::Write(item, value)),
+        Op::Compute => taken(set, journal, tables, job, Op::Compute),
+        Op::Commit => taken(set, journal, tables, job, Op::Commit),
+        Op::Quit => taken(set, journal, tables, job, Op::Quit),
     }
 }
 

@@ -7,7 +7,7 @@ use crate::running::running;
 use board::{Board, IdleReply, StepReply};
 use item_model::Items;
 use plain_tables::{job_at, tally_at};
-use rt_base::{ItemId, JobId, Op, PlanRefused, Tick, TxId, Value};
+use rt_base::{ItemId, JobId, Op, Outcome, PlanRefused, Tick, TxId, Value};
 use step_journal::Entry;
 use txn_set::CompiledSet;
 
@@ -55,6 +55,10 @@ impl Board for PlainCore {
                 StepReply::Done { outcome, over }
             }
         }
+    }
+
+    fn ask(&mut self, job: JobId, op: Op) -> Option<Outcome> {
+        Board::step(self, job, op).told()
     }
 
     fn idle(&mut self) -> IdleReply {

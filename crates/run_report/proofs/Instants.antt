@@ -1,5 +1,5 @@
 -- The instant after each entry of a legal history.
-use Rattle.std.proofs.Common.{◌≡◌, ℕ, ◌+◌, ◌<◌, ◌^◌, List, take, get_or, length, refl, ap, sym, subst, ◌∙◌, arith}
+use Rattle.std.proofs.Common.{◌≡◌, ℕ, ◌+◌, ◌-◌, ◌<◌, ◌≤◌, ◌^◌, List, take, get_or, length, refl, ap, sym, subst, ◌∙◌, arith}
 use Rattle.std.proofs.lemmas.List.{take_more}
 use Rattle.txn_set.specs.Set.{Set, IsCompiled}
 use Rattle.step_journal.specs.declared.entry.Entry.{Entry}
@@ -50,3 +50,17 @@ now_low set entries i d now timed ok lt legal is =
     let same : instant_after now (get_or entries i d) ≡ (state_of set (take (i + 1) entries)).now =
     ap (λ (n : ℕ). instant_after n (get_or entries i d)) is ∙ sym (now_next set entries i d lt legal) in
     omega (arith, low, same)
+
+-- from the end back
+
+pub back : (set : Set) (entries : List Entry) (left : ℕ) (d : Entry) → 0 < left → left ≤ length entries → IsLegal set entries → (state_of set (take left entries)).now ≡ (state_of set entries).now
+    → instant_after (state_of set (take (left - 1) entries)).now (get_or entries (left - 1) d) ≡ (state_of set entries).now
+back set entries left d some within legal is =
+    let next : left - 1 + 1 ≡ left = omega (arith, some) in
+    sym (now_next set entries (left - 1) d (omega (arith, some, within)) legal) ∙ (ap (λ (n : ℕ). (state_of set (take n entries)).now) next ∙ is)
+
+pub instant_low : (n : ℕ) (e : Entry) → instant_after n e < 2 ^ 64 → instant_after 0 e < 2 ^ 64
+instant_low n (Planned tx tick) h = omega arith
+instant_low n (Step job op outcome over tick) h = h
+instant_low n (Blocked job op by ceiling tick) h = omega arith
+instant_low n (Idle from to) h = h

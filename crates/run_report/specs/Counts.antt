@@ -1,5 +1,5 @@
 -- What a summary counts, one by one.
-use Rattle.std.specs.Prelude.{◌≡◌, ℕ, ◌+◌, ◌<◌, ◌^◌, Bool, true, false, Option, None, Some}
+use Rattle.std.specs.Prelude.{◌≡◌, ℕ, ◌+◌, ◌<◌, ◌^◌, Bool, true, false, Option, None, Some, unwrap_or}
 use Rattle.rt_base.specs.declared.operation.End.{End}
 use Rattle.rt_base.specs.declared.operation.End.TheVariants as end
 use Rattle.step_journal.specs.declared.entry.Entry.{Entry}
@@ -68,9 +68,13 @@ pub record FewKinds (c : Kinds) : Type 0 where
   pub blocks : c.blocks < 2 ^ 63
   pub idles : c.idles < 2 ^ 63
 
+-- the instant after an entry by which the time goes on
+abbrev pub instant_of : Entry → Option ℕ
+instant_of (Planned tx tick) = None
+instant_of (Step job op outcome over tick) = Some (tick + 1)
+instant_of (Blocked job op by ceiling tick) = None
+instant_of (Idle from to) = Some to
+
 -- the instant after an entry
 abbrev pub instant_after : ℕ → Entry → ℕ
-instant_after now (Planned tx tick) = now
-instant_after now (Step job op outcome over tick) = tick + 1
-instant_after now (Blocked job op by ceiling tick) = now
-instant_after now (Idle from to) = to
+instant_after now entry = unwrap_or (instant_of entry) now

@@ -3,7 +3,7 @@ ghost use Rattle.std.specs.Prelude.{◌≡◌, ◌<◌, ◌^◌, map};
 ghost use Rattle.std.specs.List.{count_by};
 ghost use Rattle.txn_set.specs.Ceilings.{greatest};
 ghost use Rattle.step_journal.specs.History.{IsLegal, state_of};
-ghost use Rattle.run_report.specs.Counts.{with_close, with_entry, row_is, AreEnds, AreKinds, FewEnds, FewKinds, instant_after};
+ghost use Rattle.run_report.specs.Counts.{with_close, with_entry, row_is, AreEnds, AreKinds, FewEnds, FewKinds, instant_of, instant_after};
 
 use job_rows::JobRow;
 use law_histories::counting;
@@ -105,28 +105,33 @@ pub(crate) fn longest_delay(rows: &[JobRow]) -> Tick
     longest
 }
 
-fn next_instant(now: Tick, entry: Entry) -> Tick
-    requires { instant_after now entry < 2 ^ 64 }
-    ensures { result ≡ instant_after now entry }
+// The instant after an entry by which the time goes on.
+fn instant(entry: &Entry) -> Option<Tick>
+    requires { instant_after 0 entry.now < 2 ^ 64 }
+    ensures { result ≡ instant_of entry.now }
 {
     match entry {
-        Entry::Planned { .. } => now,
-        Entry::Step { tick, .. } => tick + 1,
-        Entry::Blocked { .. } => now,
-        Entry::Idle { to, .. } => to,
+        Entry::Planned { .. } => None,
+        Entry::Step { tick, .. } => Some(*tick + 1),
+        Entry::Blocked { .. } => None,
+        Entry::Idle { to, .. } => Some(*to),
     }
 }
 
-/// The last instant of a legal history of the set.
+/// The last instant of a legal history of the set. It goes from the end back to an entry by which the time goes on.
 pub(crate) fn last_instant(set: &CompiledSet, entries: &[Entry]) -> Tick
     requires { IsLegal set.now entries.now }
     ensures { result ≡ (state_of set.now entries.now).now }
 {
     set.is_compiled();
     counting();
-    let mut now = 0;
-    for i in 0..entries.len() {
-        now = next_instant(now, entries[i]);
+    let mut left = entries.len();
+    while 0 < left {
+        left -= 1;
+        match instant(&entries[left]) {
+            Some(now) => return now,
+            None => {}
+        }
     }
-    now
+    0
 }

@@ -122,7 +122,7 @@ impl ReportWriter {
         ensures places { self.new.room ≡ self.old.room }
         ensures follows { (set : Set) (story : Many Noted) → Follows set self.old story → IsLegal set (story ++ entry.now ∷ []) → Follows set self.new (story ++ entry.now ∷ []) }
     {
-        self.rows.push(*entry);
+        self.rows.push(entry);
         write_entry(names, entry, &mut self.numerals, into);
     }
 

@@ -7,7 +7,7 @@ ghost use Rattle.shared_plant.specs.Answers.{missed_once};
 use crate::house::{House, Opens, house_over};
 use board::{Board, IdleReply, StepReply};
 use item_model::Items;
-use rt_base::{ItemId, JobId, Op, PlanRefused, Tick, TxId, Value};
+use rt_base::{ItemId, JobId, Op, Outcome, PlanRefused, Tick, TxId, Value};
 use shared_plant::{Plant, Seat, Tried};
 use std::alloc::Global;
 use std::sync::Arc;
@@ -66,6 +66,10 @@ impl<B: Board> Board for Held<B> {
 
     fn step(&mut self, job: JobId, op: Op) -> StepReply {
         self.board.step(job, op)
+    }
+
+    fn ask(&mut self, job: JobId, op: Op) -> Option<Outcome> {
+        self.board.ask(job, op)
     }
 
     fn idle(&mut self) -> IdleReply {

@@ -18,6 +18,7 @@ use Rattle.step_journal.specs.History.{event_of, entry_given, IsLegalEntry, IsLe
 use Rattle.step_journal.specs.Serial.{outcome_in, outcomes_of}
 use Rattle.board.specs.declared.replies.StepReply.{StepReply}
 use Rattle.board.specs.declared.replies.StepReply.TheVariants as reply
+use Rattle.board.specs.Answers.{IsAsking, told_by}
 use Rattle.board.specs.Stories.{IsStory, noted, step_entry, step_answer, now_of, running_of}
 use Rattle.board.proofs.Asks.{steps_are_steps}
 use Rattle.law_histories.proofs.Invariant.{running_is, in_range, same_job_is}
@@ -103,19 +104,28 @@ pub answer_entry : (set : Set) (room first : ℕ) (kept story : List Entry) (job
 answer_entry set room first kept story job op r is fits e a =
     ap (step_entry (now_of set story) job op) e ∙ (steps_are_steps set story (length kept) room job op is.compiled is.legal fits ∙ a.gives)
 
--- so it is Done or Blocked
-pub answer_stands : (now : ℕ) (job : JobId) (op : Op) (r : StepReply) (entry : Entry)
-    → step_entry now job op r ≡ Some entry
-    → ((by : JobId) (ceiling : ℕ) → r ≡ reply.Blocked by ceiling → ⊥)
-    → ((outcome : Outcome) (over : Option End) → r ≡ reply.Done outcome over → ⊥) → ⊥
-answer_stands now job op (reply.NoJob ended last) entry h b d = cc
-answer_stands now job op (reply.NotYet running) entry h b d = cc
-answer_stands now job op (reply.Undeclared item) entry h b d = cc
-answer_stands now job op (reply.TooEarly left) entry h b d = cc
-answer_stands now job op (reply.Unwritten item) entry h b d = cc
-answer_stands now job op (reply.Full room) entry h b d = cc
-answer_stands now job op (reply.Blocked by ceiling) entry h b d = b by ceiling refl
-answer_stands now job op (reply.Done outcome over) entry h b d = d outcome over refl
+-- a job that is told an outcome was answered Done, and one that is told nothing Blocked
+
+pub told_done : (r : StepReply) (outcome : Outcome) → Some outcome ≡ told_by r → (over : Option End) × (r ≡ reply.Done outcome over)
+told_done (reply.NoJob ended last) outcome h = absurd cc
+told_done (reply.NotYet running) outcome h = absurd cc
+told_done (reply.Undeclared item) outcome h = absurd cc
+told_done (reply.TooEarly left) outcome h = absurd cc
+told_done (reply.Unwritten item) outcome h = absurd cc
+told_done (reply.Full room) outcome h = absurd cc
+told_done (reply.Blocked by ceiling) outcome h = absurd cc
+told_done (reply.Done said over) outcome h = (over, cc)
+
+pub told_blocked : (now : ℕ) (job : JobId) (op : Op) (r : StepReply) (entry : Entry) → step_entry now job op r ≡ Some entry → told_by r ≡ None
+    → (by : JobId) × (ceiling : ℕ) × (r ≡ reply.Blocked by ceiling)
+told_blocked now job op (reply.NoJob ended last) entry h none = absurd cc
+told_blocked now job op (reply.NotYet running) entry h none = absurd cc
+told_blocked now job op (reply.Undeclared item) entry h none = absurd cc
+told_blocked now job op (reply.TooEarly left) entry h none = absurd cc
+told_blocked now job op (reply.Unwritten item) entry h none = absurd cc
+told_blocked now job op (reply.Full room) entry h none = absurd cc
+told_blocked now job op (reply.Blocked by ceiling) entry h none = (by, ceiling, refl)
+told_blocked now job op (reply.Done said over) entry h none = absurd cc
 
 -- the body after it began
 
@@ -272,6 +282,29 @@ pub record After (stands : ℕ → List Outcome → Type 0) (gives : Body) (set 
   pub turn : Turn set story job op r
   pub asked : event_of turn.entry ≡ ask job (gives job.serial (outcomes_of story job))
 
+-- the body gives what it is asked for, and the job may ask for it
+pub op_given : (board : List Entry → Type 0) (stands stands' : ℕ → List Outcome → Type 0) (gives gives' : Body)
+    (set : Set) (room first : ℕ) (kept story : List Entry) (job : JobId) (op : Op) (serial : ℕ)
+    → CanAsk board stands gives set job serial story → IsStory set room first kept story
+    → (serial ≡ job.serial → stands job.serial (outcomes_of story job) → stands' job.serial (outcomes_of story job))
+    → (serial ≢ job.serial → stands' job.serial [])
+    → gives' ≡ gives → ((k : ℕ) (os : List Outcome) → stands' k os → op ≡ gives' k os)
+    → op ≡ gives job.serial (outcomes_of story job)
+op_given board stands stands' gives gives' set room first kept story job op serial can is kept_told begun same next =
+    let f = follows_new stands stands' set story job serial is.compiled is.legal can.running can.follows kept_told begun in
+    next job.serial (outcomes_of story job) f.told ∙ ap (λ (h : Body). h job.serial (outcomes_of story job)) same
+
+pub asking_now : (set : Set) (story : List Entry) (job : JobId) (op : Op) (gives : Body) → running_of set story ≡ Some job → MayAsk set story gives
+    → op ≡ gives job.serial (outcomes_of story job) → IsAsking set (state_of set story) job op
+asking_now set story job op gives run may same =
+    let w = running_row set story job run in
+    record {
+      row = w.row;
+      runs = w.runs;
+      is = w.is;
+      may = ap (may_ask set w.row) (same ∙ ap (λ (k : JobId). gives k.serial (outcomes_of story k)) (sym w.is)) ∙ may w.row w.runs;
+    }
+
 pub after_answer : (board : List Entry → Type 0) (stands stands' : ℕ → List Outcome → Type 0) (gives gives' : Body)
     (set : Set) (room first : ℕ) (kept story : List Entry) (job : JobId) (op : Op) (r : StepReply) (serial : ℕ)
     → CanAsk board stands gives set job serial story → IsStory set room first kept story → length kept < room
@@ -282,7 +315,7 @@ pub after_answer : (board : List Entry → Type 0) (stands stands' : ℕ → Lis
     → After stands' gives set story job op r
 after_answer board stands stands' gives gives' set room first kept story job op r serial can is fits kept_told begun same next e =
     let f' = follows_new stands stands' set story job serial is.compiled is.legal can.running can.follows kept_told begun in
-    let op_is : op ≡ gives job.serial (outcomes_of story job) = next job.serial (outcomes_of story job) f'.told ∙ ap (λ (h : Body). h job.serial (outcomes_of story job)) same in
+    let op_is = op_given board stands stands' gives gives' set room first kept story job op serial can is kept_told begun same next in
     let t = turn_of set room first kept story job op gives r is can.running can.may op_is fits e in
     record { compiled = is.compiled; legal = is.legal; follows = f'; turn = t; asked = t.event ∙ ap (ask job) op_is }
 

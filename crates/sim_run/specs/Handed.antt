@@ -1,5 +1,5 @@
 -- How the entries of a run go on to an out, piece by piece. What an out got, lost, and can take are relations on lists.
-use Rattle.std.specs.Prelude.{◌≡◌, ℕ, ◌<◌, List, [], ◌++◌, take}
+use Rattle.std.specs.Prelude.{◌≡◌, ℕ, ◌<◌, List, ◌++◌, take}
 use Rattle.step_journal.specs.declared.entry.Entry.{Entry}
 
 -- an out that got some list can take these entries after it

@@ -17,7 +17,7 @@ ghost use Rattle.sim_run.specs.Boards.{IsFixed};
 ghost use Rattle.sim_run.specs.Handed.{CanAppend, CanTake, IsHanded, IsCut, IsReady};
 ghost use Rattle.sim_run.specs.Runs.{IsWhole, IsStopped, RunsExist, StoriesGoOn};
 
-use board::{Board, IdleReply, StepReply};
+use board::{Board, IdleReply};
 use rt_base::{JobId, List, Tick, TxId};
 use run_out::{EntryOut, Stopped};
 use step_script::Body;
@@ -99,10 +99,9 @@ fn ask<B: Board, Y: Body>(board: &mut B, body: &mut Y, serial: &mut u32, job: Jo
 {
     begin_new(body, serial, job.serial);
     let op = body.next();
-    match board.step(job, op) {
-        StepReply::Done { outcome, .. } => body.told(outcome),
-        StepReply::Blocked { .. } => {}
-        _ => unreachable!(),
+    match board.ask(job, op) {
+        Some(outcome) => body.told(outcome),
+        None => {}
     }
 }
 

@@ -1,7 +1,6 @@
 use Rattle.std.proofs.Common.{ap, arith}
 use Rattle.core_tables.specs.declared.tally.Tally.{Tally}
 use Rattle.core_tables.proofs.Facts.{known}
-use Rattle.core_tables.proofs.Places.{places}
 use Rattle.core_tables.proofs.tables.CoreTables.out_of_turn.Goals as goal
 
 pub no_job-requires : goal.no_job-requires
