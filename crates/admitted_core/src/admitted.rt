@@ -199,6 +199,11 @@ impl<B: Board> Board for AdmittedBoard<B> {
         self.board.ask(job, op)
     }
 
+    #[inline(always)]
+    fn compute(&mut self, job: JobId) -> bool {
+        self.board.compute(job)
+    }
+
     fn idle(&mut self) -> IdleReply {
         self.idle()
     }

@@ -1,8 +1,9 @@
 //! What the calls of a board promise, for every history that it stands for.
-ghost use Rattle.std.specs.Prelude.{◌≡◌, ℕ, ◌+◌, ◌-◌, ◌<◌, ◌++◌, List, [], drop, take, min, length, slice_get, Some, vec_len, vec_capacity};
+ghost use Rattle.std.specs.Prelude.{◌≡◌, ℕ, ◌+◌, ◌-◌, ◌<◌, ◌++◌, ◌∷◌, IsTrue, false, None, List, [], drop, take, min, length, slice_get, Some, vec_len, vec_capacity};
 ghost use Rattle.txn_set.specs.Set.{Set};
 ghost use Rattle.step_journal.specs.History.{state_of};
 ghost use Rattle.step_journal.specs.declared.entry.Entry.{Entry as Noted};
+ghost use Rattle.step_journal.specs.declared.entry.Entry.TheVariants.{Step};
 ghost use Rattle.board.specs.Answers.{IsAsking, told_by};
 ghost use Rattle.board.specs.Stories.{IsStory, IsRefusal, noted, plan_entry, plan_next_entry, step_entry, idle_entry, plan_answer, plan_next_answer, step_answer, idle_answer, now_of, running_of, pending_of, ended_of, planned_of};
 
@@ -60,6 +61,15 @@ pub trait Board {
         ensures fixed { (set self.new ≡ set self.old) × (room self.new ≡ room self.old) × (first self.new ≡ first self.old) }
         ensures answer { (story : List Noted) → stands self.old story → result ≡ told_by (step_answer (set self.old) story (length (kept self.old)) (room self.old) job op) }
         ensures after { (story : List Noted) → stands self.old story → stands self.new (noted story (step_entry (now_of (set self.old) story) job op (step_answer (set self.old) story (length (kept self.old)) (room self.old) job op))) };
+
+    /// The job computes for a tick, if it runs, there is room for the entry, and it is known that no job ends and none is
+    /// released by that: whether it did. It is then what `step` does. Else nothing changes; a board may always say so.
+    fn compute(&mut self, job: JobId) -> bool
+        requires { job.tx.0 < length (set self.old).txns }
+        ensures fixed { (set self.new ≡ set self.old) × (room self.new ≡ room self.old) × (first self.new ≡ first self.old) }
+        ensures answer { IsTrue result → (story : List Noted) → stands self.old story → step_answer (set self.old) story (length (kept self.old)) (room self.old) job Op.Compute ≡ StepReply.Done Outcome.Computed None }
+        ensures after { IsTrue result → (story : List Noted) → stands self.old story → stands self.new (story ++ Step job Op.Compute Outcome.Computed None (now_of (set self.old) story) ∷ []) }
+        ensures unchanged { result ≡ false → self.new ≡ self.old };
 
     /// With nothing pending, the time goes on to the least planned tick.
     fn idle(&mut self) -> IdleReply

@@ -3,7 +3,6 @@ use Rattle.std.proofs.Common.{◌≡◌, ◌≢◌, ℕ, ◌+◌, ◌<◌, Bool,
 use Rattle.std.proofs.lemmas.Bool.{cases_eq, eq-eqb, ne_eqb, false_from_ne_true, eqb-true}
 use Rattle.std.specs.List.{filter, fold}
 use Rattle.rt_base.specs.declared.ids.JobId.{JobId}
-use Rattle.rt_base.specs.declared.operation.Op.{Op}
 use Rattle.rt_base.specs.declared.operation.Op.TheVariants.{Compute}
 use Rattle.rt_base.specs.declared.operation.End.{End}
 use Rattle.rt_base.specs.declared.operation.End.TheVariants.{Overrun}
@@ -12,7 +11,7 @@ use Rattle.txn_set.specs.Set.{Set, txn_of}
 use Rattle.step_journal.specs.State.{State, Row, row_of, pending}
 use Rattle.step_journal.specs.LockRule.{in_falling_priority}
 use Rattle.step_journal.specs.Instant.{is_due, with_row}
-use Rattle.step_journal.specs.Step.{given, row_after, end_by, after_effect, with_step, end_of}
+use Rattle.step_journal.specs.Step.{given, row_after, end_by, after_effect}
 use Rattle.law_histories.proofs.Members.{In, in_filter, in_pending}
 use Rattle.law_histories.proofs.Calendar.{in_sorted}
 use Rattle.law_histories.proofs.Invariant.{in_range}
@@ -89,13 +88,3 @@ computes set t s job a legal g q one e1 =
           (record { periods = refl; plans = refl; room = refl }));
       goes_on = sym ((known set s legal).over row Compute g.runs) ∙ (ap (λ (o : Option End). over_of o (is_due set (s.now + 1) row)) (sym (no_overrun set s row (s.now + 1) lt)) ∙ ap (over_of None) in_time);
     }
-
--- the operation is Compute
-
-pub after_compute : (set : Set) (t : TablesSeen) (s : State) (job : JobId) (op : Op) → op ≡ Compute → ((g : IsGranted set s job Compute) → Computes set t s g.row) → (g : IsGranted set s job op) → AreTables set t (with_step set s g.row op)
-after_compute set t s job op e h = subst (λ (o : Op). (g : IsGranted set s job o) → AreTables set t (with_step set s g.row o)) (sym e) (λ g. (h g).are)
-
-pub over_compute : (set : Set) (t : TablesSeen) (s : State) (job : JobId) (op : Op) → op ≡ Compute → ((g : IsGranted set s job Compute) → Computes set t s g.row) → (g : IsGranted set s job op) → None ≡ end_of (with_step set s g.row op) job
-over_compute set t s job op e h =
-    subst (λ (o : Op). (g : IsGranted set s job o) → None ≡ end_of (with_step set s g.row o) job) (sym e)
-    (λ g. sym (subst (λ (j : JobId). end_of (with_step set s g.row Compute) j ≡ None) g.is (h g).goes_on))

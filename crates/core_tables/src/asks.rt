@@ -4,6 +4,7 @@ ghost use Rattle.std.specs.List.{AllPairs};
 ghost use Rattle.std.specs.Option.{option_map};
 ghost use Rattle.txn_set.specs.Set.{Set, names_item};
 ghost use Rattle.step_journal.specs.State.{Row as RowSeen, State, row_of, same_job as same};
+ghost use Rattle.step_journal.specs.Running.{running as running_row};
 ghost use Rattle.board.specs.Answers.{IsAsking, step_reply, idle_reply};
 ghost use Rattle.pending_jobs.specs.Rows.{AreFactsOf, head_of, above_of};
 ghost use Rattle.core_tables.specs.Tables.{AreTables};
@@ -154,6 +155,14 @@ impl CoreTables {
         ensures { (s : State) → AreTables set.now self.now s → IsLegalState set.now s → MatchOption result (IsGranted set.now s job op × (kept < room)) (λ reply. (step_reply set.now s kept room job op ≡ reply) × Refuses set.now s job op reply) }
     {
         self.refused(set, job, op, kept, room)
+    }
+
+    /// Whether this job is the running one. It is kept, so that no table is touched.
+    #[inline(always)]
+    pub fn runs(&self, job: JobId) -> bool
+        ensures { (set : Set) (s : State) → AreTables set self.now s → result ≡ runs_now (option_map (λ r. r.job) (running_row set s.rows)) job }
+    {
+        runs(self.running(), job)
     }
 
     /// Why the running job does not get the lock that an operation needs, for which it may ask; None exactly where it gets the

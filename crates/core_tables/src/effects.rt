@@ -180,17 +180,18 @@ impl CoreTables {
         ensures over { (s : State) → AreTables set.now self.old s → IsLegalState set.now s → (g : IsGranted set.now s job op) → result.1 ≡ end_of (with_step set.now s g.row op) job }
         ensures after { (s : State) → AreTables set.now self.old s → IsLegalState set.now s → (g : IsGranted set.now s job op) → AreTables set.now self.new (with_step set.now s g.row op) }
     {
-        if let Op::Compute = op {
-            if self.compute(set, job) {
-                return (Outcome::Computed, None);
-            }
-        }
-        self.act(set, job, op)
+        let at = self.clock + 1;
+        let outcome = outcome(&self.pending, &self.items, job.tx, op);
+        let late = is_late(&self.pending, job.tx, set.txn(job.tx).deadline, at);
+        let own = self.effect(set, job, op);
+        self.arrive(at);
+        (outcome, over(own, late))
     }
 
-    // Where the running job computes and nothing else happens by that, it is only counted: whether it was.
+    /// The running job computes for a tick, if no job ends and none is released by that: whether it did. Else nothing changes.
+    /// Two comparisons, and the row of the job.
     #[inline(always)]
-    fn compute(&mut self, set: &CompiledSet, job: JobId) -> bool
+    pub fn compute(&mut self, set: &CompiledSet, job: JobId) -> bool
         requires granted { StandGranted set.now self.old job Op.Compute }
         ensures done { IsTrue result → (s : State) → AreTables set.now self.old s → IsLegalState set.now s → (g : IsGranted set.now s job Op.Compute) → Computes set.now self.new s g.row }
         ensures unchanged { result ≡ false → self.new ≡ self.old }
@@ -216,22 +217,6 @@ impl CoreTables {
         has_time(&self.pending, at)
             && !self.calendar.may_be_due(at)
             && has_steps(&self.pending, set, tx)
-    }
-
-    // A granted step, whatever happens by it.
-    #[inline(always)]
-    fn act(&mut self, set: &CompiledSet, job: JobId, op: Op) -> (Outcome, Option<End>)
-        requires granted { StandGranted set.now self.old job op }
-        ensures outcome { (s : State) → AreTables set.now self.old s → IsLegalState set.now s → (g : IsGranted set.now s job op) → result.0 ≡ outcome_of s.items g.row.work op }
-        ensures over { (s : State) → AreTables set.now self.old s → IsLegalState set.now s → (g : IsGranted set.now s job op) → result.1 ≡ end_of (with_step set.now s g.row op) job }
-        ensures after { (s : State) → AreTables set.now self.old s → IsLegalState set.now s → (g : IsGranted set.now s job op) → AreTables set.now self.new (with_step set.now s g.row op) }
-    {
-        let at = self.clock + 1;
-        let outcome = outcome(&self.pending, &self.items, job.tx, op);
-        let late = is_late(&self.pending, job.tx, set.txn(job.tx).deadline, at);
-        let own = self.effect(set, job, op);
-        self.arrive(at);
-        (outcome, over(own, late))
     }
 
     /// With nothing pending, the time goes on to the least planned tick, and the releases planned for it take place. Each

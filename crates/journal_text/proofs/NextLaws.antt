@@ -1,11 +1,11 @@
 -- The line that is likely to be next is read as the step that it is kept for.
-use Rattle.std.proofs.Common.{◌≡◌, ℕ, zero, suc, ◌+◌, ◌-◌, ◌<◌, ◌≤◌, ◌^◌, Bool, true, false, nat_eq, List, [], ◌∷◌, ◌++◌, length, take, drop, get_or, set, replicate, Option, Some, None, decimal, codes, refl, sym, ap, subst, ◌∙◌, inl, inr, arith, append_assoc, length-append, length-take, drop-cons, w64}
+use Rattle.std.proofs.Common.{◌≡◌, ℕ, zero, suc, ◌+◌, ◌-◌, ◌/◌, ◌%◌, ◌<◌, ◌≤◌, ◌^◌, Bool, true, false, nat_eq, List, [], ◌∷◌, ◌++◌, length, take, drop, get_or, set, replicate, Option, Some, None, decimal, codes, refl, sym, ap, subst, ◌∙◌, inl, inr, arith, append_assoc, length-append, length-take, drop-cons, w64}
 use Rattle.std.specs.Prelude.{not}
 use Rattle.std.specs.List.{position_or_len}
 use Rattle.std.specs.Int.{IsInRange, from_le_bytes, to_le_bytes}
 use Rattle.std.proofs.lemmas.Nat.{le_bytes_8}
 use Rattle.std.proofs.lemmas.Bool.{cases_lt, eq-eqb}
-use Rattle.std.proofs.lemmas.Fmt.{decimal_nonempty}
+use Rattle.std.proofs.lemmas.Fmt.{decimal_nonempty, decimal_digit, decimal_step}
 use Rattle.std.proofs.lemmas.List.{take_at, take_more, take-append-drop, ext_get_or, get_or-take, length-take-le, set_at}
 use Rattle.std.proofs.lemmas.List.Sums.{prefix_len_passes}
 use Rattle.std.proofs.Math.Seq.{take-length, get_or-append_seam}
@@ -245,6 +245,152 @@ goes_on names n next some low lt =
     ∙ sym (append_assoc (front_of h.word (n.tick + 1)) (codes " compute\n") (drop n.len n.line)))))) in
     let long : n.len ≡ length (front_of h.word (n.tick + 1)) + 9 =
     omega (arith, h.size, ap length front, ap length front_more, length-append (lead h.word init) (last ∷ []), length-append (lead h.word init) ((last + 1) ∷ [])) in
+    record {
+      within = next.within;
+      awaits = λ enough. record {
+        word = h.word;
+        line =
+            ap (take n.len) changed
+            ∙ take_at (front_of h.word (n.tick + 1) ++ codes " compute\n") (drop n.len n.line) n.len
+            (length-append (front_of h.word (n.tick + 1)) (codes " compute\n") ∙ sym long);
+        size = long;
+        job = h.job;
+        no_blank = h.no_blank;
+        no_end = h.no_end;
+        tick = lt;
+      };
+    }
+
+-- the same where the last digit is 9 and the one before it is not
+
+snoc_is : (xs ys : List ℕ) (x y : ℕ) → xs ++ x ∷ [] ≡ ys ++ y ∷ [] → (xs ≡ ys) × (x ≡ y)
+snoc_is xs ys x y e =
+    let size : length xs ≡ length ys = omega (arith, ap length e, length-append xs (x ∷ []), length-append ys (y ∷ [])) in (
+      sym (take_at xs (x ∷ []) (length xs) refl) ∙ (ap (take (length xs)) e ∙ take_at ys (y ∷ []) (length xs) (sym size)),
+      sym (get_or-append_seam xs x [] 0)
+          ∙ (ap (λ (l : List ℕ). get_or l (length xs) 0) e
+          ∙ (ap (λ (k : ℕ). get_or (ys ++ y ∷ []) k 0) size ∙ get_or-append_seam ys y [] 0)),
+    )
+
+carried_decimal : (n : ℕ) (init : List ℕ) (a b : ℕ) → n + 1 < 2 ^ 64 → decimal n ≡ init ++ a ∷ b ∷ [] → a < 57 → 57 ≤ b
+    → decimal (n + 1) ≡ init ++ (a + 1) ∷ 48 ∷ []
+carried_decimal n init a b lt is low high =
+    let below : n < 2 ^ 64 = omega (arith, lt) in
+    let many : 10 ≤ n = elim (cases_lt n 10) [
+      | inl few ↦ absurd (omega (arith, ap length (decimal_digit n few), ap length is, length-append init (a ∷ b ∷ [])))
+      | inr more ↦ more
+    ] in
+    let apart = snoc_is (decimal (n / 10)) (init ++ a ∷ []) (48 + n % 10) b
+    (sym (decimal_step n many below) ∙ (is ∙ sym (append_assoc init (a ∷ []) (b ∷ [])))) in
+    let tens : (n + 1) / 10 ≡ n / 10 + 1 = omega (arith, apart.1, high) in
+    let ones : (n + 1) % 10 ≡ 0 = omega (arith, apart.1, high) in
+    let fits : n / 10 + 1 < 2 ^ 64 = omega (arith, lt) in
+    decimal_step (n + 1) (omega (arith, many)) lt
+    ∙ (ap (λ (k : ℕ). decimal k ++ (48 + (n + 1) % 10) ∷ []) tens
+    ∙ (ap (λ (k : ℕ). decimal (n / 10 + 1) ++ (48 + k) ∷ []) ones
+    ∙ (ap (λ (l : List ℕ). l ++ 48 ∷ []) (next_decimal (n / 10) init a fits apart.0 low)
+    ∙ append_assoc init ((a + 1) ∷ []) (48 ∷ []))))
+
+abbrev pub carried_on : NextStep → NextStep
+carried_on n = record {
+  line = set (set n.line (n.len - 9 - 1 - 1) (get_or n.line (n.len - 9 - 1 - 1) 0 + 1)) (n.len - 9 - 1) 48;
+  len = n.len;
+  job = n.job;
+  tick = n.tick + 1;
+}
+
+lead_two : (word init : List ℕ) (a b : ℕ) → codes "step" ++ (field word ++ field (init ++ a ∷ b ∷ [])) ≡ lead word init ++ a ∷ b ∷ []
+lead_two word init a b =
+    sym (append_assoc (codes "step") (field word ++ field init) (a ∷ b ∷ [])
+    ∙ ap (λ (r : List ℕ). codes "step" ++ r) (append_assoc (field word) (field init) (a ∷ b ∷ [])))
+
+-- the last two of digits, of which there are two where the one before the last is no blank
+record LastTwo (ds : List ℕ) : Type 0 where
+  init : List ℕ
+  a : ℕ
+  b : ℕ
+  all : ds ≡ init ++ a ∷ b ∷ []
+
+last_two : (ds : List ℕ) → 1 < length ds → LastTwo ds
+last_two ds some =
+    let front : List ℕ = take (length ds - 1) ds in
+    let size : length front ≡ length ds - 1 = length-take-le (length ds - 1) ds (omega arith) in
+    let one : ds ≡ front ++ get_or ds (length ds - 1) 0 ∷ [] = last_apart ds (omega (arith, some)) in
+    let two : front ≡ take (length front - 1) front ++ get_or front (length front - 1) 0 ∷ [] = last_apart front (omega (arith, some, size)) in
+    record {
+      init = take (length front - 1) front;
+      a = get_or front (length front - 1) 0;
+      b = get_or ds (length ds - 1) 0;
+      all =
+          one
+          ∙ (ap (λ (l : List ℕ). l ++ get_or ds (length ds - 1) 0 ∷ []) two
+          ∙ append_assoc (take (length front - 1) front) (get_or front (length front - 1) 0 ∷ []) (get_or ds (length ds - 1) 0 ∷ []));
+    }
+
+-- the byte before a single digit is a blank
+two_digits : (names : Names) (n : NextStep) (h : Awaits names n) → 48 ≤ get_or n.line (n.len - 9 - 1 - 1) 0 → 1 < length (decimal n.tick)
+two_digits names n h high =
+    let digits : List ℕ = decimal n.tick in
+    elim (cases_lt 1 (length digits)) [
+      | inl many ↦ many
+      | inr few ↦
+          let nonempty : 0 < length digits = decimal_nonempty n.tick h.tick in
+          let lead : List ℕ = codes "step" ++ field h.word in
+          let all : n.line ≡ lead ++ 32 ∷ (digits ++ (codes " compute\n" ++ drop n.len n.line)) =
+          whole names n h
+          ∙ (grouped h.word n.tick (codes " compute\n" ++ drop n.len n.line)
+          ∙ sym (append_assoc (codes "step") (field h.word) (32 ∷ (digits ++ (codes " compute\n" ++ drop n.len n.line))))) in
+          let size : length (codes "step" ++ (field h.word ++ field digits)) ≡ length lead + length (field digits) =
+          ap length (sym (append_assoc (codes "step") (field h.word) (field digits))) ∙ length-append lead (field digits) in
+          let at : n.len - 9 - 1 - 1 ≡ length lead = omega (arith, h.size, size, few, nonempty) in
+          let blank : get_or n.line (n.len - 9 - 1 - 1) 0 ≡ 32 =
+          ap (λ (l : List ℕ). get_or l (n.len - 9 - 1 - 1) 0) all
+          ∙ (ap (λ (i : ℕ). get_or (lead ++ 32 ∷ (digits ++ (codes " compute\n" ++ drop n.len n.line))) i 0) at
+          ∙ get_or-append_seam lead 32 (digits ++ (codes " compute\n" ++ drop n.len n.line)) 0) in
+          absurd (omega (arith, blank, high))
+    ]
+
+pub carries : (names : Names) (n : NextStep) → IsNext names n → 18 ≤ n.len → 57 ≤ get_or n.line (n.len - 9 - 1) 0
+    → 48 ≤ get_or n.line (n.len - 9 - 1 - 1) 0 → get_or n.line (n.len - 9 - 1 - 1) 0 < 57 → n.tick + 1 < 2 ^ 64 → IsNext names (carried_on n)
+carries names n next some nine digit low lt =
+    let h = next.awaits some in
+    let p = last_two (decimal n.tick) (two_digits names n h digit) in
+    let tail : List ℕ = codes " compute\n" ++ drop n.len n.line in
+    let front : front_of h.word n.tick ≡ lead h.word p.init ++ p.a ∷ p.b ∷ [] =
+    ap (λ (d : List ℕ). codes "step" ++ (field h.word ++ field d)) p.all ∙ lead_two h.word p.init p.a p.b in
+    let all : n.line ≡ lead h.word p.init ++ p.a ∷ p.b ∷ tail =
+    whole names n h ∙ (ap (λ (f : List ℕ). f ++ tail) front ∙ append_assoc (lead h.word p.init) (p.a ∷ p.b ∷ []) tail) in
+    let size : n.len - 9 - 1 - 1 ≡ length (lead h.word p.init) =
+    omega (arith, h.size, ap length front, length-append (lead h.word p.init) (p.a ∷ p.b ∷ [])) in
+    let over : n.len - 9 - 1 ≡ length (lead h.word p.init) + 1 = omega (arith, h.size, ap length front, length-append (lead h.word p.init) (p.a ∷ p.b ∷ [])) in
+    let longer : length (lead h.word p.init ++ p.a ∷ []) ≡ length (lead h.word p.init) + 1 = length-append (lead h.word p.init) (p.a ∷ []) in
+    let here : get_or n.line (n.len - 9 - 1 - 1) 0 ≡ p.a =
+    ap (λ (l : List ℕ). get_or l (n.len - 9 - 1 - 1) 0) all
+    ∙ (ap (λ (i : ℕ). get_or (lead h.word p.init ++ p.a ∷ p.b ∷ tail) i 0) size ∙ get_or-append_seam (lead h.word p.init) p.a (p.b ∷ tail) 0) in
+    let apart : n.line ≡ (lead h.word p.init ++ p.a ∷ []) ++ p.b ∷ tail = all ∙ sym (append_assoc (lead h.word p.init) (p.a ∷ []) (p.b ∷ tail)) in
+    let last : get_or n.line (n.len - 9 - 1) 0 ≡ p.b =
+    ap (λ (l : List ℕ). get_or l (n.len - 9 - 1) 0) apart
+    ∙ (ap (λ (i : ℕ). get_or ((lead h.word p.init ++ p.a ∷ []) ++ p.b ∷ tail) i 0) (over ∙ sym longer)
+    ∙ get_or-append_seam (lead h.word p.init ++ p.a ∷ []) p.b tail 0) in
+    let more : decimal (n.tick + 1) ≡ p.init ++ (p.a + 1) ∷ 48 ∷ [] =
+    carried_decimal n.tick p.init p.a p.b lt p.all (omega (arith, here, low)) (omega (arith, last, nine)) in
+    let front_more : front_of h.word (n.tick + 1) ≡ lead h.word p.init ++ (p.a + 1) ∷ 48 ∷ [] =
+    ap (λ (d : List ℕ). codes "step" ++ (field h.word ++ field d)) more ∙ lead_two h.word p.init (p.a + 1) 48 in
+    let once : set n.line (n.len - 9 - 1 - 1) (get_or n.line (n.len - 9 - 1 - 1) 0 + 1) ≡ (lead h.word p.init ++ (p.a + 1) ∷ []) ++ p.b ∷ tail =
+    ap (λ (l : List ℕ). set l (n.len - 9 - 1 - 1) (get_or n.line (n.len - 9 - 1 - 1) 0 + 1)) all
+    ∙ (set_at (lead h.word p.init) p.a (p.b ∷ tail) (get_or n.line (n.len - 9 - 1 - 1) 0 + 1) (n.len - 9 - 1 - 1) (sym size)
+    ∙ (ap (λ (d : ℕ). lead h.word p.init ++ (d + 1) ∷ p.b ∷ tail) here
+    ∙ sym (append_assoc (lead h.word p.init) ((p.a + 1) ∷ []) (p.b ∷ tail)))) in
+    let width : length (lead h.word p.init ++ (p.a + 1) ∷ []) ≡ n.len - 9 - 1 = length-append (lead h.word p.init) ((p.a + 1) ∷ []) ∙ sym over in
+    let changed : (carried_on n).line ≡ (front_of h.word (n.tick + 1) ++ codes " compute\n") ++ drop n.len n.line =
+    ap (λ (l : List ℕ). set l (n.len - 9 - 1) 48) once
+    ∙ (set_at (lead h.word p.init ++ (p.a + 1) ∷ []) p.b tail 48 (n.len - 9 - 1) width
+    ∙ (append_assoc (lead h.word p.init) ((p.a + 1) ∷ []) (48 ∷ tail)
+    ∙ (sym (append_assoc (lead h.word p.init) ((p.a + 1) ∷ 48 ∷ []) tail)
+    ∙ (ap (λ (f : List ℕ). f ++ tail) (sym front_more)
+    ∙ sym (append_assoc (front_of h.word (n.tick + 1)) (codes " compute\n") (drop n.len n.line)))))) in
+    let long : n.len ≡ length (front_of h.word (n.tick + 1)) + 9 =
+    omega (arith, h.size, ap length front, ap length front_more, length-append (lead h.word p.init) (p.a ∷ p.b ∷ []), length-append (lead h.word p.init) ((p.a + 1) ∷ 48 ∷ [])) in
     record {
       within = next.within;
       awaits = λ enough. record {

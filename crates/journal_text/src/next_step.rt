@@ -1,6 +1,8 @@
 //! The line of a step that is likely to be next.
-ghost use Rattle.std.specs.Prelude.{◌≡◌, ◌+◌, ◌-◌, ◌≤◌, ◌<◌, ◌^◌, ◌++◌, ℕ, List, Some, IfSome, IsTrue, length, take, drop, decimal, slice_index_or, option_map};
+ghost use Rattle.std.specs.Prelude.{◌≡◌, ◌+◌, ◌-◌, ◌≤◌, ◌<◌, ◌^◌, ◌++◌, ℕ, List, None, Some, IfSome, IsTrue, length, take, drop, decimal, slice_index_or, option_map};
 ghost use Rattle.rt_base.specs.declared.name.Names.{Names as AllNames};
+ghost use Rattle.rt_base.specs.declared.ids.JobId.{JobId as Job};
+ghost use Rattle.step_journal.specs.declared.entry.Entry.TheVariants.{Step};
 ghost use Rattle.journal_text.specs.Cuts.{field, Lacks, Ends};
 ghost use Rattle.journal_text.specs.Ids.{job_of};
 ghost use Rattle.journal_text.specs.Reading.{entry_of};
@@ -139,7 +141,7 @@ impl NextStep {
         Some(&text[len..])
     }
 
-    // Goes on to the next tick, or to nothing where the last digit is 9.
+    // Goes on to the next tick, or to nothing where its last two digits are 99, or it is 9.
     #[inline(always)]
     fn go_on(&mut self)
         requires some { 18 ≤ self.old.len }
@@ -147,8 +149,14 @@ impl NextStep {
         ensures { (names : AllNames) → IsNext names self.old → IsNext names self.new }
     {
         let last = self.len - COMPUTE - 1;
-        if self.line[last] < b'9' && self.tick < u64::MAX {
+        if u64::MAX <= self.tick {
+            self.len = 0;
+        } else if self.line[last] < b'9' {
             self.line[last] += 1;
+            self.tick += 1;
+        } else if b'0' <= self.line[last - 1] && self.line[last - 1] < b'9' {
+            self.line[last - 1] += 1;
+            self.line[last] = b'0';
             self.tick += 1;
         } else {
             self.len = 0;
@@ -227,9 +235,29 @@ impl NextStep {
         }
     }
 
+    /// The Compute whose line is likely, and what follows the line, where a text begins with it: it is then the entry of the
+    /// first line. Else nothing changes. It costs one comparison.
+    #[inline(always)]
+    pub fn likely<'a>(&mut self, text: &'a [u8]) -> Option<(Entry, &'a [u8])>
+        requires { (names : AllNames) × IsNext names self.old }
+        ensures some { IfSome result (λ p. (names : AllNames) → IsNext names self.old → Some (p.0, p.1.now) ≡ first_entry_of names text.now) }
+        ensures compute { IfSome result (λ p. (job : Job) × (tick : ℕ) × (p.0 ≡ Step job Op.Compute Outcome.Computed None tick)) }
+        ensures next { (names : AllNames) → IsNext names self.old → IsNext names self.new }
+    {
+        let rest = self.computed(text)?;
+        let entry = Entry::Step {
+            job: self.job,
+            op: Op::Compute,
+            outcome: Outcome::Computed,
+            over: None,
+            tick: self.tick,
+        };
+        self.go_on();
+        Some((entry, rest))
+    }
+
     /// The entry of the first line of a text, as `read_entry` says, and what follows the line; None where there is no line or it
-    /// is no entry's. The line that is likely costs one comparison, and so do the job and the tick of another step of its job
-    /// at its tick.
+    /// is no entry's. Of a step of the likely job at the likely tick these cost one comparison.
     #[inline(always)]
     pub fn first_entry<'a>(
         &mut self,
@@ -240,17 +268,6 @@ impl NextStep {
         ensures entry { option_map (λ p. (p.0, p.1.now)) result ≡ first_entry_of names.now text.now }
         ensures next { IsNext names.now self.new }
     {
-        if let Some(rest) = self.computed(text) {
-            let entry = Entry::Step {
-                job: self.job,
-                op: Op::Compute,
-                outcome: Outcome::Computed,
-                over: None,
-                tick: self.tick,
-            };
-            self.go_on();
-            return Some((entry, rest));
-        }
         let (line, more) = cut(b'\n', text)?;
         let entry = self.entry(names, line)?;
         Some((entry, more))

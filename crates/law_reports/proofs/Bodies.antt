@@ -9,8 +9,8 @@ use Rattle.journal_text.specs.Lines.{IsOutcome}
 use Rattle.step_script.specs.Values.{Tree, leaf_const, leaf_sample, leaf_serial, leaf_last, node, clamped, exact, value_in, Known}
 use Rattle.step_script.specs.Scripts.{Operation, read, write, compute, commit, quit, Program, width, op_at, noted, noted_at, lasts_after, lasts_of, sample_of, asked_by, next_of}
 use Rattle.scenario_writer.specs.Integers.{HasConstants, OpHasConstants, ProgramHasIntegers}
-use Rattle.law_reports.specs.Types.{HasValue}
-use Rattle.law_reports.proofs.Every.{Every, every_all}
+use Rattle.run_report.specs.Types.{HasValue}
+use Rattle.run_report.proofs.Every.{Every, every_all}
 
 -- ---- expressions
 

@@ -18,10 +18,10 @@ use Rattle.law_histories.proofs.Lists.{all_from}
 use Rattle.journal_text.proofs.IdLaws.{short_length, signed_length}
 use Rattle.journal_text.specs.Lines.{op_text, outcome_text, end_text, over_text, IsOutcome}
 use Rattle.report_text.specs.Texts.{is_second, whole_entry_line}
-use Rattle.law_reports.specs.Types.{HasValue}
-use Rattle.law_reports.proofs.Every.{every_in}
-use Rattle.law_reports.proofs.Fits.{EndFits}
-use Rattle.law_reports.proofs.Steps.{OverFits, EntryFits, HistoryFits}
+use Rattle.run_report.specs.Types.{HasValue}
+use Rattle.run_report.proofs.Every.{every_in}
+use Rattle.run_report.proofs.Fits.{EndFits}
+use Rattle.run_report.proofs.Steps.{OverFits, EntryFits, HistoryFits}
 use Rattle.law_reports.specs.Lines.{IsShort}
 use Rattle.law_reports.proofs.Lengths.{name_length, unsigned_length}
 use Rattle.law_reports.proofs.Ends.{IsPlain, EndsWell, each_ends_well}

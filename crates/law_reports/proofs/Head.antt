@@ -23,10 +23,10 @@ use Rattle.report_text.specs.Texts.{item_name, more_name, list_text, kind_text, 
 use Rattle.report_text.specs.Laws.{IsKind, IsItemDecl}
 use Rattle.run_report.specs.Bounds.{bounds_line, ages_line}
 use Rattle.run_report.specs.Report.{limits_text, opening_text}
-use Rattle.law_reports.proofs.Every.{Every, every_all}
-use Rattle.law_reports.proofs.Forms.{FitsStored}
-use Rattle.law_reports.proofs.Steps.{write_most, absolute_most}
-use Rattle.law_reports.proofs.Ages.{response_fits, age_fits}
+use Rattle.run_report.proofs.Every.{Every, every_all}
+use Rattle.run_report.proofs.Forms.{FitsStored}
+use Rattle.run_report.proofs.Steps.{write_most, absolute_most}
+use Rattle.run_report.proofs.Ages.{response_fits, age_fits}
 use Rattle.law_reports.proofs.Lengths.{name_length, unsigned_length, steps_length, numbered_length}
 use Rattle.law_reports.proofs.JobLines.{blocking_most, every_weaker}
 

@@ -31,9 +31,9 @@ use Rattle.job_rows.specs.declared.row.JobRow.{JobRow}
 use Rattle.job_rows.specs.Rows.{delay_of, with_delay, ended_row, pending_row, job_rows}
 use Rattle.job_rows.proofs.Moved.{moves}
 use Rattle.report_text.specs.Texts.{is_second, by_text, close_text, job_line}
-use Rattle.law_reports.proofs.Every.{Every, every_in, every_all, every_append, every_map, every_mapped, every_filter, every_greatest, every_or}
-use Rattle.law_reports.proofs.Fits.{EndFits, EndedFits}
-use Rattle.law_reports.proofs.Steps.{HistoryFits}
+use Rattle.run_report.proofs.Every.{Every, every_in, every_all, every_append, every_map, every_mapped, every_filter, every_greatest, every_or}
+use Rattle.run_report.proofs.Fits.{EndFits, EndedFits}
+use Rattle.run_report.proofs.Steps.{HistoryFits}
 use Rattle.law_reports.proofs.Lengths.{name_length, tick_length, time_length, steps_length, job_length}
 use Rattle.law_reports.proofs.Ends.{split, legal_at}
 use Rattle.law_reports.proofs.EntryLines.{end_length}

@@ -21,8 +21,8 @@ use Rattle.law_runs.proofs.Fits.{run_fits, scenario_room}
 use Rattle.journal_text.proofs.IdLaws.{short_length}
 use Rattle.report_text.specs.Texts.{is_second, whole_entry_line, entries_text, job_line, jobs_text, finals_text}
 use Rattle.run_report.specs.Report.{opening_text, report_of}
-use Rattle.law_reports.proofs.Every.{Every, every_all, all_every}
-use Rattle.law_reports.proofs.Steps.{HistoryFits, history_fits, all_values}
+use Rattle.run_report.proofs.Every.{Every, every_all, all_every}
+use Rattle.run_report.proofs.Steps.{HistoryFits, history_fits, all_values}
 use Rattle.law_reports.proofs.Runs.{items_fit, within_fits, run_values}
 use Rattle.law_reports.specs.Lines.{IsShort, IsNamedHistory, EntryLinesAreShort, JobLinesAreShort, FewJobsHaveShortLines}
 use Rattle.law_reports.specs.Runs.{IsRunOfScenario, HasFewShortLines, RunLinesAreShort, RunIsReadWhole}

@@ -9,7 +9,7 @@ use Rattle.rt_base.specs.Names.{is_letter, is_name_byte, is_name, AreNames}
 use Rattle.rt_base.specs.declared.ids.JobId.{JobId}
 use Rattle.journal_text.specs.Ids.{name_at, job_text}
 use Rattle.report_text.specs.Rows.{numbered}
-use Rattle.law_reports.proofs.Every.{Every}
+use Rattle.run_report.proofs.Every.{Every}
 
 -- ---- names
 

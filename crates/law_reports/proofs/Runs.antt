@@ -20,9 +20,9 @@ use Rattle.journal_text.proofs.IdLaws.{in_i64}
 use Rattle.journal_text.specs.Lines.{IsOutcome}
 use Rattle.report_text.specs.Texts.{is_second}
 use Rattle.report_text.specs.Laws.{IsKind, IsItemDecl}
-use Rattle.law_reports.specs.Types.{HasValue}
-use Rattle.law_reports.proofs.Every.{Every, every_all}
-use Rattle.law_reports.proofs.Steps.{EntryFits, Values}
+use Rattle.run_report.specs.Types.{HasValue}
+use Rattle.run_report.proofs.Every.{Every, every_all}
+use Rattle.run_report.proofs.Steps.{EntryFits, Values}
 use Rattle.law_reports.proofs.Bodies.{next_fits}
 
 -- ---- the declared numbers

@@ -1,4 +1,4 @@
--- Each report is legal, where its numbers are those of their types.
+-- Each run of a scenario has a legal report.
 use Rattle.std.specs.Prelude.{◌≡◌, ℕ, Bool, true, List, Ok}
 use Rattle.txn_set.specs.Set.{IsCompiled}
 use Rattle.step_journal.specs.declared.entry.Entry.{Entry}
@@ -10,21 +10,9 @@ use Rattle.scenario.specs.Scenarios.{IsScenario}
 use Rattle.scenario_writer.specs.Integers.{HasIntegers}
 use Rattle.scenario_reader.specs.Reading.{data_of, scenario_in}
 use Rattle.law_runs.specs.Runs.{workload_of}
-use Rattle.report_text.specs.IsHead.{set_of as declared_set}
-use Rattle.report_text.specs.declared.document.Document.{Document}
-use Rattle.report_text.specs.Document.{document_of}
 use Rattle.run_report.specs.Report.{report_of}
 use Rattle.run_report.specs.declared.verdict.Verdict.TheVariants.{Legal}
 use Rattle.run_report.specs.Verdict.{IsVerdict}
-use Rattle.run_report.specs.Laws.{IsReport}
-use Rattle.law_reports.specs.Types.{HasTypes}
-
-abbrev pub ReportIsLegal : Type 0
-ReportIsLegal = (text : List ℕ) (r : IsReport text) → HasTypes r.set r.entries → IsVerdict text Legal
-
--- no text is read as a document with other numbers, so each legal text meets the premise
-abbrev pub DocumentHasTypes : Type 0
-DocumentHasTypes = (text : List ℕ) (d : Document) → document_of text ≡ Ok d → HasTypes (declared_set d.head) d.entries
 
 -- the report of each run of a scenario, as a trial or admitted, is said to be legal
 abbrev pub HasLegalReports : Shown → Type 0

@@ -16,7 +16,7 @@ use Rattle.step_journal.specs.History.{IsLegal}
 use Rattle.law_histories.specs.Counting.{plan_count}
 use Rattle.job_rows.specs.Rows.{job_rows}
 use Rattle.report_text.specs.Texts.{whole_entry_line, job_line}
-use Rattle.law_reports.specs.Types.{HasTypes}
+use Rattle.run_report.specs.Types.{HasTypes}
 
 -- a line and its line end
 abbrev pub IsShort : List ℕ → Type 0

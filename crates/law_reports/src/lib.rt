@@ -1,4 +1,4 @@
-//! Laws of reports: each is said to be legal, and how long its lines are.
+//! Laws of reports: that of each run is said to be legal, and how long its lines are.
 #![tactic(auto)]
 
 mod commands;
@@ -9,6 +9,4 @@ pub use commands::replay_of_a_run_is_legal;
 pub use sizes::{
     entry_lines_are_short, job_lines_are_short, run_is_read_whole, run_lines_are_short,
 };
-pub use verdicts::{
-    document_has_types, read_report_is_legal, report_is_legal, run_report_is_legal,
-};
+pub use verdicts::{read_report_is_legal, run_report_is_legal};

@@ -2,11 +2,14 @@
 use Rattle.std.proofs.Common.{◌≡◌, ℕ, ◌<◌, inl, inr, Bool, true, false, cond, List, [], ◌∷◌, ◌++◌, length, Option, None, Some, refl, ap, sym, ◌∙◌, subst, arith}
 use Rattle.std.proofs.lemmas.Bool.Decides.{leb_tells}
 use Rattle.std.specs.Prelude.{nat_le, Ok}
+use Rattle.std.specs.Option.{option_map}
 use Rattle.rt_base.specs.declared.ids.TxId.{TxId}
 use Rattle.rt_base.specs.declared.ids.JobId.{JobId}
 use Rattle.rt_base.specs.declared.operation.Op.{Op}
 use Rattle.rt_base.specs.declared.operation.End.{End}
+use Rattle.rt_base.specs.declared.operation.Op.TheVariants.{Compute}
 use Rattle.rt_base.specs.declared.operation.Outcome.{Outcome}
+use Rattle.rt_base.specs.declared.operation.Outcome.TheVariants.{Computed}
 use Rattle.step_journal.specs.declared.entry.Entry.{Entry}
 use Rattle.step_journal.specs.declared.entry.Entry.TheVariants.{Planned, Step, Blocked, Idle}
 use Rattle.txn_set.specs.Set.{Set}
@@ -18,6 +21,7 @@ use Rattle.step_journal.specs.Instant.{arrived}
 use Rattle.step_journal.specs.Step.{Event, plan, ask, idle, step, plans_of, earliest, next_job, with_plan, with_step, with_wait, end_of, next_tick}
 use Rattle.step_journal.specs.History.{state_of, event_of}
 use Rattle.law_histories.proofs.Never.{never_stuck}
+use Rattle.law_histories.proofs.Invariant.{same_job_is}
 use Rattle.board.specs.Answers.{IsAsking, plan_reply, step_reply, idle_reply, idle_reply_at, waiting_reply}
 use Rattle.board.specs.Stories.{noted, step_entry}
 use Rattle.board.specs.declared.replies.StepReply.{StepReply}
@@ -27,6 +31,8 @@ use Rattle.board.proofs.More.{story_more, plan_steps, passes, not_le}
 use Rattle.board.proofs.Rooms.{steps_full}
 use Rattle.core_tables.specs.Seen.{TablesSeen}
 use Rattle.core_tables.specs.Tables.{AreTables}
+use Rattle.core_tables.specs.Arriving.{Computes}
+use Rattle.core_tables.specs.Asks.{runs_now}
 use Rattle.core_tables.specs.Legal.{IsLegalState, StandAsking, IsGranted, IsBlocked, IsIdle, Refuses}
 use Rattle.core_tables.proofs.Steps.{granted_steps, blocked_steps, idle_steps}
 use Rattle.core_tables.proofs.Refusals.{granted_reply, blocked_reply}
@@ -96,6 +102,39 @@ asks_each core one each job op h k a =
 
 pub asks_some : (core : CoreSeen) (job : JobId) (op : Op) → (story : List Entry) × Stands core story × IsAsking core.set (state_of core.set story) job op → StandAsking core.set core.tables job op
 asks_some core job op asks = record { state = state_of core.set asks.0; are = asks.1.are; legal = legal_state core asks.0 asks.1; asking = asks.2 }
+
+-- a Compute needs no lock, so that the running job gets it
+
+pub computes_free : (set : Set) (s : State) (job : JobId) → IsAsking set s job Compute → IsGranted set s job Compute
+computes_free set s job a = record { row = a.row; runs = a.runs; is = a.is; may = a.may; free = refl }
+
+pub runs_compute : (set : Set) (s : State) (job : JobId) → runs_now (option_map (λ (r : Row). r.job) (running set s.rows)) job ≡ true → IsGranted set s job Compute
+runs_compute set s job e = by_row (running set s.rows) refl e where
+  by_row : (o : Option Row) → running set s.rows ≡ o → runs_now (option_map (λ (r : Row). r.job) o) job ≡ true → IsGranted set s job Compute
+  by_row (Some row) is t = record { row = row; runs = is; is = same_job_is row.job job t; may = refl; free = refl }
+  by_row None is t = cc
+
+pub compute_turn : (set : Set) (journal more : JournalSeen) (tables next_tables : TablesSeen) (story : List Entry) (job : JobId) (tick : ℕ) → more ≡ with_entry journal (Step job Compute Computed None tick) → tick ≡ tables.clock
+    → length journal.kept < journal.room → Stands (core_of set journal tables) story → (g : IsGranted set (state_of set story) job Compute) → Computes set next_tables (state_of set story) g.row
+    → IsTurn (core_of set journal tables) (core_of set more next_tables) story (ask job Compute) (Some (Step job Compute Computed None (state_of set story).now))
+compute_turn set journal more tables next_tables story job tick ej et lt h g is =
+    go_turn set journal more tables next_tables story job Compute Computed None tick ej et lt h g refl
+    (sym (subst (λ (j : JobId). end_of (with_step set (state_of set story) g.row Compute) j ≡ None) g.is is.goes_on)) is.are
+
+pub compute_says : (set : Set) (journal : JournalSeen) (tables next_tables : TablesSeen) (story : List Entry) (job : JobId) → length journal.kept < journal.room
+    → Stands (core_of set journal tables) story → (g : IsGranted set (state_of set story) job Compute) → Computes set next_tables (state_of set story) g.row
+    → reply.Done Computed None ≡ step_reply set (state_of set story) (length journal.kept) journal.room job Compute
+compute_says set journal tables next_tables story job lt h g is =
+    go_says set journal tables story job Compute Computed None lt h g refl
+    (sym (subst (λ (j : JobId). end_of (with_step set (state_of set story) g.row Compute) j ≡ None) g.is is.goes_on))
+
+-- the same by the operation that the job asks for
+
+pub stepped_turns : (old new : CoreSeen) (story : List Entry) (job : JobId) (op : Op) → op ≡ Compute
+    → IsTurn old new story (ask job Compute) (Some (Step job Compute Computed None (state_of old.set story).now))
+    → IsTurn old new story (ask job op) (step_entry (state_of old.set story).now job op (reply.Done Computed None))
+stepped_turns old new story job op e t =
+    subst (λ (o : Op). IsTurn old new story (ask job o) (step_entry (state_of old.set story).now job o (reply.Done Computed None))) (sym e) t
 
 pub block_turn : (set : Set) (journal more : JournalSeen) (tables next_tables : TablesSeen) (story : List Entry) (job : JobId) (op : Op) (by : JobId) (ceiling tick : ℕ)
     → more ≡ with_entry journal (Blocked job op by ceiling tick) → tick ≡ tables.clock → length journal.kept < journal.room → (h : Stands (core_of set journal tables) story)

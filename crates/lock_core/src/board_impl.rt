@@ -39,6 +39,11 @@ impl Board for Core {
         self.ask(job, op)
     }
 
+    #[inline(always)]
+    fn compute(&mut self, job: JobId) -> bool {
+        self.compute(job)
+    }
+
     fn idle(&mut self) -> IdleReply {
         self.idle()
     }

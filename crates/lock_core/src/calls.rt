@@ -1,6 +1,7 @@
 //! The calls that change a core.
-ghost use Rattle.std.specs.Prelude.{◌≡◌, ◌+◌, ◌-◌, ◌<◌, ◌++◌, ℕ, List, [], length, min, take, drop, vec_len, vec_capacity, OnErr};
+ghost use Rattle.std.specs.Prelude.{◌≡◌, ◌+◌, ◌-◌, ◌<◌, ◌++◌, ℕ, List, [], length, min, take, drop, vec_len, vec_capacity, false, Some, None, IsTrue, OnErr};
 ghost use Rattle.step_journal.specs.declared.entry.Entry.{Entry as Noted};
+ghost use Rattle.step_journal.specs.declared.entry.Entry.TheVariants.{Step};
 ghost use Rattle.step_journal.specs.Step.{plan as planned, ask as asking, idle as idled};
 ghost use Rattle.step_journal.specs.History.{state_of};
 ghost use Rattle.board.specs.Answers.{IsAsking, next_tick_for, told_by};
@@ -73,6 +74,19 @@ impl Core {
         ensures turn { (story : List Noted) → Stands self.old story → IsTurn self.old self.new story (asking job op) (step_entry (now_of self.old.set story) job op (step_answer self.old.set story (length self.old.journal.kept) self.old.journal.room job op)) }
     {
         turns::ask(&self.set, &mut self.journal, &mut self.tables, job, op)
+    }
+
+    /// The job computes for a tick, if it runs, there is room for the entry, no job ends and none is released by that: whether it
+    /// did, as `step` would. Else nothing changes. It costs a few comparisons, and touches the row of the job alone.
+    #[inline(always)]
+    pub fn compute(&mut self, job: JobId) -> bool
+        requires { job.tx.0 < length self.old.set.txns }
+        ensures fixed { (self.new.set ≡ self.old.set) × (self.new.journal.room ≡ self.old.journal.room) × (self.new.journal.first ≡ self.old.journal.first) }
+        ensures answer { IsTrue result → (story : List Noted) → Stands self.old story → step_answer self.old.set story (length self.old.journal.kept) self.old.journal.room job Op.Compute ≡ StepReply.Done Outcome.Computed None }
+        ensures turn { IsTrue result → (story : List Noted) → Stands self.old story → IsTurn self.old self.new story (asking job Op.Compute) (Some (Step job Op.Compute Outcome.Computed None (now_of self.old.set story))) }
+        ensures unchanged { result ≡ false → self.new ≡ self.old }
+    {
+        turns::compute(&self.set, &mut self.journal, &mut self.tables, job)
     }
 
     /// With nothing pending, the time goes on to the least planned tick, and its releases take place. NotIdle, Nothing and

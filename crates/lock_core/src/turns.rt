@@ -1,7 +1,8 @@
 //! What a call does to the parts of a core.
-ghost use Rattle.std.specs.Prelude.{◌≡◌, ◌<◌, ℕ, List, length, Some, OnErr};
+ghost use Rattle.std.specs.Prelude.{◌≡◌, ◌<◌, ℕ, List, length, false, Some, None, IsTrue, OnErr};
 ghost use Rattle.rt_base.specs.declared.ids.JobId.{JobId as Job};
 ghost use Rattle.step_journal.specs.declared.entry.Entry.{Entry as Noted};
+ghost use Rattle.step_journal.specs.declared.entry.Entry.TheVariants.{Step};
 ghost use Rattle.step_journal.specs.Step.{plan as planned, ask as asking, idle as idled};
 ghost use Rattle.step_journal.specs.History.{state_of};
 ghost use Rattle.board.specs.Answers.{IsAsking, told_by};
@@ -13,7 +14,7 @@ ghost use Rattle.lock_core.specs.Turns.{IsTurn, IsIdleRefusal};
 
 use board::{IdleReply, StepReply};
 use core_tables::CoreTables;
-use rt_base::{JobId, Op, Outcome, PlanRefused, Prio, Tick, TxId};
+use rt_base::{End, JobId, Op, Outcome, PlanRefused, Prio, Tick, TxId};
 use step_journal::{Entry, Journal};
 use txn_set::CompiledSet;
 
@@ -41,7 +42,8 @@ pub fn plan(
     }
 }
 
-// A granted operation: its effect, and the arrival at the next tick.
+// A granted operation: its effect, and the arrival at the next tick. It answers the outcome, and the job's end where it has
+// ended.
 #[inline(always)]
 fn go(
     set: &CompiledSet,
@@ -49,14 +51,13 @@ fn go(
     tables: &mut CoreTables,
     job: JobId,
     op: Op,
-) -> StepReply
+) -> (Outcome, Option<End>)
     requires core { IsCore (core_of set.now journal.old tables.old) }
     requires granted { (story : List Noted) → Stands (core_of set.now journal.old tables.old) story → IsGranted set.now (state_of set.now story) job op }
     requires roomy { length journal.old.kept < journal.old.room }
     ensures fixed { (journal.new.room ≡ journal.old.room) × (journal.new.first ≡ journal.old.first) }
-    ensures answer { (story : List Noted) → Stands (core_of set.now journal.old tables.old) story → result ≡ step_answer set.now story (length journal.old.kept) journal.old.room job op }
-    ensures turn { (story : List Noted) → Stands (core_of set.now journal.old tables.old) story → IsTurn (core_of set.now journal.old tables.old) (core_of set.now journal.new tables.new) story (asking job op) (step_entry (now_of set.now story) job op result) }
-    ensures refused { IsRefusal result → (journal.new ≡ journal.old) × (tables.new ≡ tables.old) }
+    ensures answer { (story : List Noted) → Stands (core_of set.now journal.old tables.old) story → StepReply.Done result.0 result.1 ≡ step_answer set.now story (length journal.old.kept) journal.old.room job op }
+    ensures turn { (story : List Noted) → Stands (core_of set.now journal.old tables.old) story → IsTurn (core_of set.now journal.old tables.old) (core_of set.now journal.new tables.new) story (asking job op) (step_entry (now_of set.now story) job op (StepReply.Done result.0 result.1)) }
 {
     let tick = tables.now();
     let (outcome, over) = tables.go(set, job, op);
@@ -67,7 +68,32 @@ fn go(
         over,
         tick,
     });
-    StepReply::Done { outcome, over }
+    (outcome, over)
+}
+
+// A granted Compute, if no job ends and none is released by it: whether it took place. Else nothing changes.
+#[inline(always)]
+fn counted(set: &CompiledSet, journal: &mut Journal, tables: &mut CoreTables, job: JobId) -> bool
+    requires core { IsCore (core_of set.now journal.old tables.old) }
+    requires granted { (story : List Noted) → Stands (core_of set.now journal.old tables.old) story → IsGranted set.now (state_of set.now story) job Op.Compute }
+    requires roomy { length journal.old.kept < journal.old.room }
+    ensures fixed { (journal.new.room ≡ journal.old.room) × (journal.new.first ≡ journal.old.first) }
+    ensures answer { IsTrue result → (story : List Noted) → Stands (core_of set.now journal.old tables.old) story → step_answer set.now story (length journal.old.kept) journal.old.room job Op.Compute ≡ StepReply.Done Outcome.Computed None }
+    ensures turn { IsTrue result → (story : List Noted) → Stands (core_of set.now journal.old tables.old) story → IsTurn (core_of set.now journal.old tables.old) (core_of set.now journal.new tables.new) story (asking job Op.Compute) (Some (Step job Op.Compute Outcome.Computed None (now_of set.now story))) }
+    ensures unchanged { result ≡ false → (journal.new ≡ journal.old) × (tables.new ≡ tables.old) }
+{
+    let tick = tables.now();
+    if !tables.compute(set, job) {
+        return false;
+    }
+    journal.push(Entry::Step {
+        job,
+        op: Op::Compute,
+        outcome: Outcome::Computed,
+        over: None,
+        tick,
+    });
+    true
 }
 
 // A refused operation: the job waits.
@@ -80,15 +106,12 @@ fn block(
     op: Op,
     by: JobId,
     ceiling: Prio,
-) -> StepReply
+)
     requires core { IsCore (core_of set.now journal.old tables.old) }
     requires blocked { (story : List Noted) → Stands (core_of set.now journal.old tables.old) story → IsBlocked set.now (state_of set.now story) job op by ceiling }
-    requires answer { (story : List Noted) → Stands (core_of set.now journal.old tables.old) story → step_answer set.now story (length journal.old.kept) journal.old.room job op ≡ StepReply.Blocked by ceiling }
     requires roomy { length journal.old.kept < journal.old.room }
     ensures fixed { (journal.new.room ≡ journal.old.room) × (journal.new.first ≡ journal.old.first) }
-    ensures answer { (story : List Noted) → Stands (core_of set.now journal.old tables.old) story → result ≡ step_answer set.now story (length journal.old.kept) journal.old.room job op }
-    ensures turn { (story : List Noted) → Stands (core_of set.now journal.old tables.old) story → IsTurn (core_of set.now journal.old tables.old) (core_of set.now journal.new tables.new) story (asking job op) (step_entry (now_of set.now story) job op result) }
-    ensures refused { IsRefusal result → (journal.new ≡ journal.old) × (tables.new ≡ tables.old) }
+    ensures turn { (story : List Noted) → Stands (core_of set.now journal.old tables.old) story → IsTurn (core_of set.now journal.old tables.old) (core_of set.now journal.new tables.new) story (asking job op) (step_entry (now_of set.now story) job op (StepReply.Blocked by ceiling)) }
 {
     let tick = tables.now();
     tables.wait(job, by);
@@ -99,7 +122,30 @@ fn block(
         ceiling,
         tick,
     });
-    StepReply::Blocked { by, ceiling }
+}
+
+/// The job computes for a tick, if it runs, there is room, and no job ends and none is released by that: whether it did. Else
+/// nothing changes.
+#[inline(always)]
+pub fn compute(
+    set: &CompiledSet,
+    journal: &mut Journal,
+    tables: &mut CoreTables,
+    job: JobId,
+) -> bool
+    requires core { IsCore (core_of set.now journal.old tables.old) }
+    ensures fixed { (journal.new.room ≡ journal.old.room) × (journal.new.first ≡ journal.old.first) }
+    ensures answer { IsTrue result → (story : List Noted) → Stands (core_of set.now journal.old tables.old) story → step_answer set.now story (length journal.old.kept) journal.old.room job Op.Compute ≡ StepReply.Done Outcome.Computed None }
+    ensures turn { IsTrue result → (story : List Noted) → Stands (core_of set.now journal.old tables.old) story → IsTurn (core_of set.now journal.old tables.old) (core_of set.now journal.new tables.new) story (asking job Op.Compute) (Some (Step job Op.Compute Outcome.Computed None (now_of set.now story))) }
+    ensures unchanged { result ≡ false → (journal.new ≡ journal.old) × (tables.new ≡ tables.old) }
+{
+    if !tables.runs(job) {
+        return false;
+    }
+    if journal.room() <= journal.len() {
+        return false;
+    }
+    counted(set, journal, tables, job)
 }
 
 // A job asks for an operation. Inlined where the operation is known, so that no more than what that one needs is left.
@@ -119,9 +165,13 @@ fn asked(
     ensures refused { IsRefusal result → (journal.new ≡ journal.old) × (tables.new ≡ tables.old) }
 {
     match tables.refusal(set, job, op, journal.len(), journal.room()) {
-        None => go(set, journal, tables, job, op),
+        None => {
+            let (outcome, over) = go(set, journal, tables, job, op);
+            StepReply::Done { outcome, over }
+        }
         Some(StepReply::Blocked { by, ceiling }) => {
-            block(set, journal, tables, job, op, by, ceiling)
+            block(set, journal, tables, job, op, by, ceiling);
+            StepReply::Blocked { by, ceiling }
         }
         Some(StepReply::NoJob { ended, last }) => StepReply::NoJob { ended, last },
         Some(StepReply::NotYet { running }) => StepReply::NotYet { running },
@@ -133,9 +183,8 @@ fn asked(
     }
 }
 
-/// A job asks for an operation. Each has code of its own.
-#[inline(always)]
-pub fn step(
+// The same of a job that asks for any operation. Each has code of its own.
+fn any_step(
     set: &CompiledSet,
     journal: &mut Journal,
     tables: &mut CoreTables,
@@ -158,29 +207,34 @@ pub fn step(
     }
 }
 
-// What the running job is told that may ask for the operation.
+/// A job asks for an operation. A Compute by which nothing else happens is only counted.
 #[inline(always)]
-fn taken(
+pub fn step(
     set: &CompiledSet,
     journal: &mut Journal,
     tables: &mut CoreTables,
     job: JobId,
     op: Op,
-) -> Option<Outcome>
+) -> StepReply
+    requires in_set { job.tx.0 < length set.now.txns }
     requires core { IsCore (core_of set.now journal.old tables.old) }
-    requires asks { (story : List Noted) × Stands (core_of set.now journal.old tables.old) story × IsAsking set.now (state_of set.now story) job op }
-    requires roomy { length journal.old.kept < journal.old.room }
     ensures fixed { (journal.new.room ≡ journal.old.room) × (journal.new.first ≡ journal.old.first) }
-    ensures answer { (story : List Noted) → Stands (core_of set.now journal.old tables.old) story → result ≡ told_by (step_answer set.now story (length journal.old.kept) journal.old.room job op) }
-    ensures turn { (story : List Noted) → Stands (core_of set.now journal.old tables.old) story → IsTurn (core_of set.now journal.old tables.old) (core_of set.now journal.new tables.new) story (asking job op) (step_entry (now_of set.now story) job op (step_answer set.now story (length journal.old.kept) journal.old.room job op)) }
+    ensures answer { (story : List Noted) → Stands (core_of set.now journal.old tables.old) story → result ≡ step_answer set.now story (length journal.old.kept) journal.old.room job op }
+    ensures turn { (story : List Noted) → Stands (core_of set.now journal.old tables.old) story → IsTurn (core_of set.now journal.old tables.old) (core_of set.now journal.new tables.new) story (asking job op) (step_entry (now_of set.now story) job op result) }
+    ensures refused { IsRefusal result → (journal.new ≡ journal.old) × (tables.new ≡ tables.old) }
 {
-    match tables.blocker(job, op) {
-        None => go(set, journal, tables, job, op).told(),
-        Some(b) => block(set, journal, tables, job, op, b.holder, b.ceiling).told(),
+    if let Op::Compute = op {
+        if compute(set, journal, tables, job) {
+            return StepReply::Done {
+                outcome: Outcome::Computed,
+                over: None,
+            };
+        }
     }
+    any_step(set, journal, tables, job, op)
 }
 
-/// The running job asks for an operation that it may ask for, where there is room. Each has code of its own.
+/// What the running job is told that may ask for the operation, where there is room.
 #[inline(always)]
 pub fn ask(
     set: &CompiledSet,
@@ -196,12 +250,15 @@ pub fn ask(
     ensures answer { (story : List Noted) → Stands (core_of set.now journal.old tables.old) story → result ≡ told_by (step_answer set.now story (length journal.old.kept) journal.old.room job op) }
     ensures turn { (story : List Noted) → Stands (core_of set.now journal.old tables.old) story → IsTurn (core_of set.now journal.old tables.old) (core_of set.now journal.new tables.new) story (asking job op) (step_entry (now_of set.now story) job op (step_answer set.now story (length journal.old.kept) journal.old.room job op)) }
 {
-    match op {
-        Op::Read(item) => taken(set, journal, tables, job, Op::Read(item)),
-        Op::Write(item, value) => taken(set, journal, tables, job, Op::Write(item, value)),
-        Op::Compute => taken(set, journal, tables, job, Op::Compute),
-        Op::Commit => taken(set, journal, tables, job, Op::Commit),
-        Op::Quit => taken(set, journal, tables, job, Op::Quit),
+    match tables.blocker(job, op) {
+        None => {
+            let (outcome, _) = go(set, journal, tables, job, op);
+            Some(outcome)
+        }
+        Some(b) => {
+            block(set, journal, tables, job, op, b.holder, b.ceiling);
+            None
+        }
     }
 }
 

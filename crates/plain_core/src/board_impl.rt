@@ -61,6 +61,11 @@ impl Board for PlainCore {
         Board::step(self, job, op).told()
     }
 
+    fn compute(&mut self, job: JobId) -> bool {
+        let _job = job;
+        false
+    }
+
     fn idle(&mut self) -> IdleReply {
         match self.idle_check() {
             IdleReply::Advanced { to } => {

@@ -1,14 +1,16 @@
 -- A text that begins with the line of an entry, and one that does not.
-use Rattle.std.proofs.Common.{◌≡◌, ℕ, Bool, true, false, List, ◌++◌, Option, Some, None, refl, sym, ap, ◌∙◌}
+use Rattle.std.proofs.Common.{◌≡◌, ℕ, zero, suc, ◌<◌, Bool, true, false, List, [], ◌∷◌, ◌++◌, length, Option, Some, None, refl, sym, ap, subst, ◌∙◌, arith}
+use Rattle.std.specs.List.{All}
 use Rattle.std.specs.Prelude.{IfNone}
 use Rattle.rt_base.specs.declared.name.Names.{Names}
 use Rattle.step_journal.specs.declared.entry.Entry.{Entry}
 use Rattle.journal_text.specs.Cuts.{◌>>=◌, cut_at}
 use Rattle.journal_text.proofs.CutLaws.{some_is, none_some, bind_some}
+use Rattle.journal_text.specs.Lines.{HasLine}
 use Rattle.journal_text.specs.Reading.{entry_of}
 use Rattle.journal_text.specs.Next.{first_entry}
 use Rattle.journal_text.proofs.EntryLaws.{entry_takes}
-use Rattle.report_text.specs.Forms.{may_be, entry_form}
+use Rattle.report_text.specs.Forms.{where_true, may_be, entry_form}
 use Rattle.report_text.specs.Document.{lines_of, front, after, Moves}
 use Rattle.report_text.specs.First.{IsFirst, HasNone}
 use Rattle.report_text.proofs.Walking.{Walked, stops, ends, read_stops, read_ends}
@@ -102,3 +104,30 @@ module _ (second : Bool) (names : Names) where
   pub all_got : (got all : List Entry) (rest : List ℕ) → HasNone second names rest
       → got ++ front form (lines_of rest).0 ≡ all → got ≡ all
   all_got got all rest none e = read got all rest (cut_at 10 rest) refl none e
+
+-- ---- what is read has a line
+
+form_has : (second : Bool) (names : Names) (line : List ℕ) (e : Entry) → entry_form second names line ≡ Some e → HasLine names e
+unfolding entry_form
+form_has second names line e is =
+    let x = bind_some (entry_of names line) _ e is in
+    let allowed = bind_some (where_true (may_be second x.0)) _ e x.2 in
+    subst (HasLine names) (some_is _ e allowed.2) (entry_takes names line x.0 x.1).0
+
+abbrev front_by : List Entry → Option Entry → List Entry
+front_by rest o = elim o [ None ↦ [] | Some a ↦ a ∷ rest ]
+
+all_more : (P : Entry → Type 0) (e : Entry) (es : List Entry) → P e → All P es → All P (e ∷ es)
+all_more P e es one more zero d lt = one
+all_more P e es one more (suc k) d lt = more k d (omega (arith, lt))
+
+front_has : (names : Names) (rest : List Entry) (o : Option Entry) → ((e : Entry) → o ≡ Some e → HasLine names e)
+    → All (HasLine names) rest → All (HasLine names) (front_by rest o)
+front_has names rest None h more = λ k d lt. absurd (omega (arith, lt))
+front_has names rest (Some e) h more = all_more (HasLine names) e rest (h e refl) more
+
+pub front_lines : (second : Bool) (names : Names) (lines : List (List ℕ)) → All (HasLine names) (front (entry_form second names) lines)
+front_lines second names [] = λ k d lt. absurd (omega (arith, lt))
+front_lines second names (line ∷ lines) =
+    front_has names (front (entry_form second names) lines) (entry_form second names line)
+    (λ e is. form_has second names line e is) (front_lines second names lines)

@@ -1,8 +1,11 @@
 //! A report, read as a document.
-ghost use Rattle.std.specs.Prelude.{◌≡◌, ◌≤◌, ◌<◌, ◌+◌, ◌^◌, drop, length, codes, Ok, IfOk};
+ghost use Rattle.std.specs.Prelude.{◌≡◌, ◌≤◌, ◌<◌, ◌+◌, ◌^◌, drop, length, codes, Ok, Err, IfOk, IfErr};
+ghost use Rattle.std.specs.List.{All};
 ghost use Rattle.std.specs.Str.{bytes_eq};
+ghost use Rattle.journal_text.specs.Lines.{HasLine};
 ghost use Rattle.report_text.specs.Head.{head_of};
 ghost use Rattle.report_text.specs.IsHead.{IsHead};
+ghost use Rattle.report_text.specs.declared.document.DocumentError.TheVariants.{OutOfMemory};
 ghost use Rattle.report_text.specs.Document.{lines_of, fault_of, is_second as is_second_line, kind_of, body_of, after_head as after_head_of, document_of, Reads};
 ghost use Rattle.report_text.specs.Placed.{document_in, EndsWith, Stand};
 
@@ -30,6 +33,18 @@ pub struct Document {
 #[derive(Drop)]
 pub struct Placed {
     pub document: Document,
+    /// How many bytes are left where the line of the first entry begins.
+    pub left: usize,
+    /// How many bytes are left where the line of the last entry has ended.
+    pub after: usize,
+}
+
+/// The declarations and the entries with which a text begins, and where the entries stand in its bytes. What follows them may be
+/// anything.
+#[derive(Drop)]
+pub struct Front {
+    pub head: Head,
+    pub entries: List<Entry>,
     /// How many bytes are left where the line of the first entry begins.
     pub left: usize,
     /// How many bytes are left where the line of the last entry has ended.
@@ -188,5 +203,67 @@ pub fn read_document(alloc: Global, bytes: &[u8]) -> Result<Document, DocumentEr
             } = placed;
             Ok(document)
         }
+    }
+}
+
+// The front with this head, from the line after the mode line on.
+fn front_from(
+    alloc: Global,
+    head: Head,
+    kind: Kind,
+    text: &[u8],
+    n: usize,
+) -> Result<Front, DocumentError>
+    requires { n + length text.now < 2 ^ 33 }
+    ensures head { IfOk result (λ f. f.head ≡ head) }
+    ensures lines { IfOk result (λ f. All (HasLine head.names) f.entries) }
+    ensures places { IfOk result (λ f. Stand head.names f.entries text.now f.left f.after) }
+    ensures memory { IfErr result (λ e. e ≡ OutOfMemory) }
+{
+    let (rest, first) = to_entries(kind, &head.names, text, n);
+    let left = rest.len();
+    let mut entries = Vec::new(alloc);
+    let Ok((rest, _)) = add_entries(&mut entries, kind.second, &head.names, rest, first) else {
+        drop(head);
+        return Err(DocumentError::OutOfMemory);
+    };
+    Ok(Front {
+        head,
+        entries: List::of(entries),
+        left,
+        after: rest.len(),
+    })
+}
+
+fn front_after(alloc: Global, head: Head, bytes: &[u8]) -> Result<Front, DocumentError>
+    requires few { length bytes.now < 2 ^ 32 }
+    requires read { Ok head ≡ head_of bytes.now }
+    ensures head { IfOk result (λ f. f.head ≡ head) }
+    ensures lines { IfOk result (λ f. All (HasLine head.names) f.entries) }
+    ensures places { IfOk result (λ f. Stand head.names f.entries bytes.now f.left f.after) }
+    ensures memory { IfErr result (λ e. e ≡ OutOfMemory) }
+{
+    let kind = Kind {
+        second: is_second(bytes),
+        admitted: head.admitted,
+    };
+    let rest = after_lines(bytes, head.lines);
+    let n = head.lines + 1;
+    front_from(alloc, head, kind, rest, n)
+}
+
+/// Reads the declarations and the entries with which a document begins, up to the first line after the declarations' own lines
+/// that is no entry's, and looks at nothing that follows. An error is that of `read_document`.
+pub fn read_front(alloc: Global, bytes: &[u8]) -> Result<Front, DocumentError>
+    requires { length bytes.now < 2 ^ 32 }
+    ensures head { IfOk result (λ f. Ok f.head ≡ head_of bytes.now) }
+    ensures good { IfOk result (λ f. IsHead f.head) }
+    ensures lines { IfOk result (λ f. All (HasLine f.head.names) f.entries) }
+    ensures places { IfOk result (λ f. Stand f.head.names f.entries bytes.now f.left f.after) }
+    ensures error { IfErr result (λ e. Reads (Err e) (document_of bytes.now)) }
+{
+    match read_head(alloc, bytes) {
+        Err(error) => Err(fault(error)),
+        Ok(head) => front_after(alloc, head, bytes),
     }
 }

@@ -132,6 +132,9 @@ pub(crate) fn first_in<'a>(
     ensures none { IfNone result (HasNone second names.now text.now) }
     ensures next { IsNext names.now next.new }
 {
+    if let Some((entry, more)) = next.likely(text) {
+        return Some((entry, more));
+    }
     let (entry, more) = next.first_entry(names, text)?;
     if may_be(second, &entry) {
         Some((entry, more))

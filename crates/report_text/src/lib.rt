@@ -16,7 +16,9 @@ mod words;
 
 pub use closing::{add_finals, add_jobs, put_job_line};
 pub use declared::add_declarations;
-pub use document::{Document, DocumentError, Placed, read_document, read_placed};
+pub use document::{
+    Document, DocumentError, Front, Placed, read_document, read_front, read_placed,
+};
 pub use forms::{Kind, Section, final_item};
 pub use found::{Found, Numbers, Part};
 pub use laws::head_is_read_back;

@@ -49,16 +49,24 @@ back_is names entries bytes left after s =
     ap (λ (n : ℕ). drop n bytes) at
     ∙ (ap (λ (bs : List ℕ). drop (length (s.front ++ lines)) bs) all ∙ drop_at (s.front ++ lines) s.back (length (s.front ++ lines)) refl)
 
+-- what stands between them is then the entries' own lines
+pub between_written : (bytes : List ℕ) (names : Names) (set : Set) (admitted : Bool) (entries : List Entry) (left after : ℕ)
+    → Stand names entries bytes left after → take (length bytes - left) bytes ≡ opening_text names set admitted
+    → drop (length bytes - after) bytes ≡ closing_text names (job_rows set entries) (state_of set entries).items
+    → bytes ≡ report_of names set admitted entries
+between_written bytes names set admitted entries left after s opening closing =
+    let end : List ℕ = closing_text names (job_rows set entries) (state_of set entries).items in
+    s.all ∙ (ap (λ (f : List ℕ). f ++ (entry_lines names entries ++ s.back)) (sym (front_is names entries bytes left after s) ∙ opening)
+    ∙ (ap (λ (b : List ℕ). opening_text names set admitted ++ (entry_lines names entries ++ b)) (sym (back_is names entries bytes left after s) ∙ closing)
+    ∙ ap (λ (l : List ℕ). opening_text names set admitted ++ (l ++ end)) (lines_text names 0 entries)))
+
 pub between_said : (bytes : List ℕ) (names : Names) (set : Set) (admitted : Bool) (entries : List Entry) (first left after : ℕ)
     → HasParts bytes names set admitted entries first → Stand names entries bytes left after → refusal_in admitted set ≡ None
     → IsLegal set entries → take (length bytes - left) bytes ≡ opening_text names set admitted
     → drop (length bytes - after) bytes ≡ closing_text names (job_rows set entries) (state_of set entries).items
     → IsVerdict bytes Legal
 between_said bytes names set admitted entries first left after h s none legal opening closing =
-    let end : List ℕ = closing_text names (job_rows set entries) (state_of set entries).items in
     let written : bytes ≡ report_of names set admitted entries =
-    s.all ∙ (ap (λ (f : List ℕ). f ++ (entry_lines names entries ++ s.back)) (sym (front_is names entries bytes left after s) ∙ opening)
-    ∙ (ap (λ (b : List ℕ). opening_text names set admitted ++ (entry_lines names entries ++ b)) (sym (back_is names entries bytes left after s) ∙ closing)
-    ∙ ap (λ (l : List ℕ). opening_text names set admitted ++ (l ++ end)) (lines_text names 0 entries))) in
+    between_written bytes names set admitted entries left after s opening closing in
     legal_said bytes names set admitted entries first bytes Legal h none legal written
     (same_text names bytes bytes ((bytes_eq-Decides bytes bytes).1 refl))

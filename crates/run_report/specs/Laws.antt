@@ -1,5 +1,5 @@
 -- Laws of verdicts.
-use Rattle.std.specs.Prelude.{◌≡◌, ℕ, Bool, true, List}
+use Rattle.std.specs.Prelude.{◌≡◌, ℕ, Bool, true, List, Ok}
 use Rattle.rt_base.specs.declared.name.Names.{Names}
 use Rattle.rt_base.specs.Names.{AreNames}
 use Rattle.txn_set.specs.Set.{Set, IsCompiled}
@@ -7,10 +7,14 @@ use Rattle.step_journal.specs.declared.entry.Entry.{Entry}
 use Rattle.step_journal.specs.History.{IsLegal}
 use Rattle.law_times.specs.Ages.{IsAdmitted}
 use Rattle.report_text.specs.Texts.{NamesSet}
+use Rattle.report_text.specs.IsHead.{set_of as declared_set}
+use Rattle.report_text.specs.declared.document.Document.{Document}
+use Rattle.report_text.specs.Document.{document_of}
 use Rattle.run_report.specs.Report.{report_of}
 use Rattle.run_report.specs.declared.verdict.Verdict.{Verdict}
 use Rattle.run_report.specs.declared.verdict.Verdict.TheVariants.{Legal}
 use Rattle.run_report.specs.Verdict.{IsVerdict}
+use Rattle.run_report.specs.Types.{HasTypes}
 
 -- no document has two verdicts
 abbrev pub OneVerdict : Type 0
@@ -34,3 +38,11 @@ pub record IsReport (text : List ℕ) : Type 0 where
 -- what is said to be legal is such a report
 abbrev pub LegalIsReport : Type 0
 LegalIsReport = (bytes : List ℕ) → IsVerdict bytes Legal → IsReport bytes
+
+-- each such report is said to be legal, where its numbers are those of their types
+abbrev pub ReportIsLegal : Type 0
+ReportIsLegal = (text : List ℕ) (r : IsReport text) → HasTypes r.set r.entries → IsVerdict text Legal
+
+-- no text is read as a document with other numbers, so each legal text meets the premise
+abbrev pub DocumentHasTypes : Type 0
+DocumentHasTypes = (text : List ℕ) (d : Document) → document_of text ≡ Ok d → HasTypes (declared_set d.head) d.entries

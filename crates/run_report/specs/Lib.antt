@@ -7,3 +7,5 @@ pub mod Compared
 pub mod Verdict
 pub mod Laws
 pub mod Judged
+pub mod Types
+pub mod Told

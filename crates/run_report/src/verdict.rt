@@ -17,6 +17,7 @@ ghost use Rattle.run_report.specs.Judged.{set_in, is_admitted, IsFound, IsJudged
 use crate::compared::{compared, is_between};
 use crate::declared::compile_head;
 use crate::judged::{Found, Judged, LegalReport, ReportedSet, found_of};
+use crate::told::is_report;
 use crate::whole::{report_ends, report_with_items};
 use item_model::Items;
 use name_table::NameTables;
@@ -292,12 +293,17 @@ pub fn judge_document(alloc: Global, bytes: &[u8]) -> Result<Judged, OutOfMemory
     }
 }
 
-/// The verdict on a document that is to be a report; it costs what `judge_document` does.
+/// The verdict on a document that is to be a report. A legal one is told by its declarations and entries, which are read, and by
+/// the bytes around the entries, which are compared with those that the report has there. Any other document is then judged as
+/// by `judge_document`, from its first line on.
 #[tactic(auto, using(crate::proofs::Parts::legal_verdict))]
 pub fn check_document(alloc: Global, bytes: &[u8]) -> Result<Verdict, OutOfMemory>
     requires { length bytes.now < 2 ^ 32 }
     ensures { IfOk result (IsVerdict bytes.now) }
 {
+    if is_report(alloc, bytes)? {
+        return Ok(Verdict::Legal);
+    }
     match judge_document(alloc, bytes)? {
         Judged::Legal(_report) => Ok(Verdict::Legal),
         Judged::Other(verdict) => Ok(verdict),

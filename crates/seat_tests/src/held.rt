@@ -72,6 +72,10 @@ impl<B: Board> Board for Held<B> {
         self.board.ask(job, op)
     }
 
+    fn compute(&mut self, job: JobId) -> bool {
+        self.board.compute(job)
+    }
+
     fn idle(&mut self) -> IdleReply {
         self.board.idle()
     }

@@ -6,11 +6,19 @@ use Rattle.std.proofs.Math.ListN.{drop_of_length-le}
 use Rattle.std.proofs.lemmas.Option.{slice_get-get_or}
 use Rattle.txn_set.specs.Set.{Set}
 use Rattle.step_journal.specs.declared.entry.Entry.{Entry}
-use Rattle.step_journal.specs.Step.{step}
+use Rattle.rt_base.specs.declared.ids.JobId.{JobId}
+use Rattle.rt_base.specs.declared.operation.Op.{Op}
+use Rattle.rt_base.specs.declared.operation.Op.TheVariants.{Compute}
+use Rattle.rt_base.specs.declared.operation.Outcome.TheVariants.{Computed}
+use Rattle.step_journal.specs.declared.entry.Entry.TheVariants.{Step}
+use Rattle.step_journal.specs.Step.{step, ask}
 use Rattle.step_journal.specs.History.{event_of, entry_given, IsLegal, state_of}
-use Rattle.board.specs.Stories.{IsStory, noted}
+use Rattle.board.specs.Answers.{step_reply}
+use Rattle.board.specs.Stories.{IsStory, noted, step_entry}
+use Rattle.board.specs.declared.replies.StepReply.TheVariants.{Done}
 use Rattle.job_rows.proofs.Going as going
 use Rattle.job_rows.proofs.Fronts.{next_legal}
+use Rattle.serial_replay.specs.Boards.{made_by}
 use Rattle.serial_replay.specs.Replays.{IsFirstIllegal}
 
 pub first_illegal : (set : Set) (entries : List Entry) (i : ℕ) (d : Entry) → i < length entries → IsLegal set (take i entries)
@@ -55,3 +63,14 @@ none_made (Some x) e r f h = absurd cc
 pub no_last : (o : Option Entry) (T : Type 0) → None ≡ o → true ≡ is_some o → T
 no_last None T is h = absurd cc
 no_last (Some e) T is h = absurd cc
+
+-- a Compute by which nothing else happens is the step that is made
+
+pub compute_made : (set : Set) (story : List Entry) (kept room : ℕ) (job : JobId) (op : Op) → op ≡ Compute
+    → step_entry (state_of set story).now job op (step_reply set (state_of set story) kept room job op) ≡ made_by set story (ask job op)
+    → step_reply set (state_of set story) kept room job Compute ≡ Done Computed None
+    → made_by set story (ask job op) ≡ Some (Step job Compute Computed None (state_of set story).now)
+compute_made set story kept room job op e law answer =
+    sym law
+    ∙ (ap (step_entry (state_of set story).now job op) (ap (step_reply set (state_of set story) kept room job) e ∙ answer)
+    ∙ ap (λ (o : Op). step_entry (state_of set story).now job o (Done Computed None)) e)

@@ -62,6 +62,11 @@ fn is_step_noted<B: Board>(board: &mut B, job: JobId, op: Op) -> bool
     if !is_in_set(board, job.tx) {
         return false;
     }
+    if let Op::Compute = op {
+        if board.compute(job) {
+            return true;
+        }
+    }
     has_entry(board.step(job, op))
 }
 

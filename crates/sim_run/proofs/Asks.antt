@@ -5,7 +5,9 @@ use Rattle.std.proofs.lemmas.List.{append-nil}
 use Rattle.std.specs.Option.{option_map, option_and_then}
 use Rattle.rt_base.specs.declared.ids.JobId.{JobId}
 use Rattle.rt_base.specs.declared.operation.Op.{Op}
+use Rattle.rt_base.specs.declared.operation.Op.TheVariants.{Compute}
 use Rattle.rt_base.specs.declared.operation.Outcome.{Outcome}
+use Rattle.rt_base.specs.declared.operation.Outcome.TheVariants.{Computed}
 use Rattle.rt_base.specs.declared.operation.End.{End}
 use Rattle.txn_set.specs.Set.{Set, IsCompiled}
 use Rattle.step_journal.specs.declared.entry.Entry.{Entry}
@@ -28,7 +30,7 @@ use Rattle.law_histories.proofs.Alone.{outcomes_more_in}
 use Rattle.law_histories.specs.Sim.{Body}
 use Rattle.sim_run.specs.Turns.{IsReached, IsFollowing, MayAsk, CanAsk, HasAsked, job_of}
 use Rattle.sim_run.proofs.Behind.{behind_after, behind_running, running_past}
-use Rattle.sim_run.proofs.Histories.{state_next}
+use Rattle.sim_run.proofs.Histories.{state_next, legal_parts}
 
 self_same : (j : JobId) → same_job j j ≡ true
 self_same j = and_from _ _ (eq-eqb j.tx.0 j.tx.0 refl) (eq-eqb j.serial j.serial refl)
@@ -351,3 +353,20 @@ has_blocked board stands gives set story job op r by ceiling serial a e same new
   follows = subst (IsFollowing stands set (story ++ a.turn.entry ∷ []) job.tx.0) (sym same)
       (turn_blocked_follows stands set story (story ++ a.turn.entry ∷ []) job op r by ceiling a.compiled a.legal a.turn e refl a.follows);
 }
+
+-- what a Compute leaves by which nothing else happens
+pub has_computed : (board : List Entry → Type 0) (stands stands' : ℕ → List Outcome → Type 0) (gives : Body) (set : Set)
+    (story : List Entry) (job : JobId) (op : Op) (tick serial : ℕ) → IsCompiled set → IsLegal set story
+    → IsFollowing stands set story job.tx.0 job.serial → op ≡ gives job.serial (outcomes_of story job) → op ≡ Compute → serial ≡ job.serial
+    → IsLegal set (story ++ Step job Compute Computed None tick ∷ []) → board (story ++ Step job Compute Computed None tick ∷ [])
+    → ((os : List Outcome) → stands job.serial os → stands' job.serial (os ++ Computed ∷ []))
+    → HasAsked board stands' set (ask job (gives job.serial (outcomes_of story job))) job.tx.0 serial story
+has_computed board stands stands' gives set story job op tick serial ok legal f given is same legal' new told =
+    let e : Entry = Step job Compute Computed None tick in
+    record {
+      after = story ++ e ∷ [];
+      noted = (e, ap (ask job) (sym is ∙ given), refl);
+      stands = new;
+      follows = subst (IsFollowing stands' set (story ++ e ∷ []) job.tx.0) (sym same)
+          (follows_done stands stands' set story job Compute Computed None tick ok legal (legal_parts set story e [] legal').1 f told);
+    }

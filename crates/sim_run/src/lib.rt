@@ -1,13 +1,15 @@
 //! The run of a workload on one board and one thread, whose entries go to an out as they come.
 #![tactic(auto)]
 
-ghost use Rattle.std.specs.Prelude.{◌≡◌, ◌≢◌, ℕ, ◌+◌, ◌<◌, ◌≤◌, [], ◌++◌, Some, map, length, slice_get, IfOk, OnErr};
+ghost use Rattle.std.specs.Prelude.{◌≡◌, ◌≢◌, ℕ, ◌+◌, ◌<◌, ◌≤◌, [], ◌∷◌, ◌++◌, false, IsTrue, None, Some, map, length, slice_get, IfOk, OnErr};
 ghost use Rattle.std.specs.Prelude.{List as Many};
 ghost use Rattle.io_edge.specs.Causes.{HasCause};
 ghost use Rattle.step_journal.specs.declared.entry.Entry.{Entry as Noted};
-ghost use Rattle.step_journal.specs.declared.entry.Entry.TheVariants.{Planned};
+ghost use Rattle.step_journal.specs.declared.entry.Entry.TheVariants.{Planned, Step};
 ghost use Rattle.step_journal.specs.Step.{ask as asking};
-ghost use Rattle.step_journal.specs.History.{IsLegal};
+ghost use Rattle.step_journal.specs.History.{IsLegal, state_of};
+ghost use Rattle.board.specs.Answers.{IsAsking};
+ghost use Rattle.board.specs.Stories.{now_of};
 ghost use Rattle.step_journal.specs.Serial.{outcomes_of};
 ghost use Rattle.law_histories.specs.Sim.{IsSim, plans_from};
 ghost use Rattle.sim_run.specs.Workloads.{workload, AreAccepted, IsObedient};
@@ -18,7 +20,7 @@ ghost use Rattle.sim_run.specs.Handed.{CanAppend, CanTake, IsHanded, IsCut, IsRe
 ghost use Rattle.sim_run.specs.Runs.{IsWhole, IsStopped, RunsExist, StoriesGoOn};
 
 use board::{Board, IdleReply};
-use rt_base::{JobId, List, Tick, TxId};
+use rt_base::{JobId, List, Op, Outcome, Tick, TxId};
 use run_out::{EntryOut, Stopped};
 use step_script::Body;
 
@@ -83,6 +85,25 @@ fn begin_new<Y: Body>(body: &mut Y, serial: &mut u32, next: u32)
     }
 }
 
+// Lets the job compute, where it asks for that and the board knows that nothing else happens by it: whether it did.
+#[inline(always)]
+fn computes<B: Board>(board: &mut B, job: JobId, op: Op) -> bool
+    requires { job.tx.0 < length (B.set board.old).txns }
+    ensures done { IsTrue result → (op ≡ Op.Compute) × ((story : Many Noted) → B.stands board.old story →
+        B.stands board.new (story ++ Step job Op.Compute Outcome.Computed None (now_of (B.set board.old) story) ∷ [])) }
+    ensures unchanged { result ≡ false → board.new ≡ board.old }
+    ensures fixed { (B.set board.new ≡ B.set board.old) × (B.room board.new ≡ B.room board.old) ×
+        (B.first board.new ≡ B.first board.old) }
+{
+    match op {
+        Op::Compute => board.compute(job),
+        Op::Read(_) => false,
+        Op::Write(_, _) => false,
+        Op::Commit => false,
+        Op::Quit => false,
+    }
+}
+
 // Lets the running job ask for its body's operation, and tells the body the outcome.
 #[inline(always)]
 fn ask<B: Board, Y: Body>(board: &mut B, body: &mut Y, serial: &mut u32, job: JobId)
@@ -99,6 +120,10 @@ fn ask<B: Board, Y: Body>(board: &mut B, body: &mut Y, serial: &mut u32, job: Jo
 {
     begin_new(body, serial, job.serial);
     let op = body.next();
+    if computes(board, job, op) {
+        body.told(Outcome::Computed);
+        return;
+    }
     match board.ask(job, op) {
         Some(outcome) => body.told(outcome),
         None => {}

@@ -1,4 +1,4 @@
-use Rattle.law_reports.proofs.Law.{run_report_legal}
+use Rattle.law_reports.proofs.RunLaw.{run_report_legal}
 use Rattle.law_reports.proofs.verdicts.run_report_is_legal.Goals as goal
 
 pub returns : goal.returns

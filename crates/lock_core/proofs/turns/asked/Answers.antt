@@ -3,8 +3,8 @@ use Rattle.lock_core.proofs.Stood.{legal_state}
 use Rattle.lock_core.proofs.Turned.{block_room, blocked_said, never_done}
 use Rattle.lock_core.proofs.turns.asked.Goals as goal
 
-pub go-requires-clause-roomy : goal.go-requires-clause-roomy
-go-requires-clause-roomy c =
+pub go-outcome-requires-clause-roomy : goal.go-outcome-requires-clause-roomy
+go-outcome-requires-clause-roomy c =
     let is = c.requires.core in
     omega (arith, (c.in-None.ensures _ is.stands.are (legal_state _ is.story is.stands)).1, c.len.ensures, c.room.ensures)
 
