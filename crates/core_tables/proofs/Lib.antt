@@ -13,3 +13,4 @@ pub mod Places
 pub mod Arrived
 pub mod Effected
 pub mod Quiet
+pub mod Jobs

@@ -1,5 +1,5 @@
 //! The answer to an operation, before it takes place.
-ghost use Rattle.std.specs.Prelude.{◌≡◌, ◌<◌, ◌^◌, length, Some, MatchOption};
+ghost use Rattle.std.specs.Prelude.{◌≡◌, ◌+◌, ◌*◌, ◌<◌, ◌^◌, length, Some, MatchOption};
 ghost use Rattle.std.specs.List.{AllPairs};
 ghost use Rattle.std.specs.Option.{option_map};
 ghost use Rattle.txn_set.specs.Set.{Set, names_item};
@@ -19,10 +19,21 @@ use pending_jobs::{Blocker, Head, Pending};
 use rt_base::{ItemId, JobId, Op, Tick};
 use txn_set::CompiledSet;
 
+// A job as one number.
+#[inline(always)]
+fn number(job: JobId) -> u64
+    ensures { result ≡ job.serial * 2 ^ 32 + job.tx.0 }
+{
+    u64::from(job.serial) * 0x1_0000_0000 + u64::from(job.tx.0)
+}
+
+// By one comparison.
+#[inline(always)]
+#[tactic(auto, using(crate::proofs::Jobs::one_number))]
 fn same_job(a: JobId, b: JobId) -> bool
     ensures { result ≡ same a b }
 {
-    a.tx.0 == b.tx.0 && a.serial == b.serial
+    number(a) == number(b)
 }
 
 /// Whether this job is the running one.

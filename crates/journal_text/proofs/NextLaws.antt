@@ -17,14 +17,15 @@ use Rattle.step_journal.specs.declared.entry.Entry.{Entry}
 use Rattle.step_journal.specs.declared.entry.Entry.TheVariants.{Step}
 use Rattle.journal_text.specs.Cuts.{◌>>=◌, cut_at, word_of, field_of, next, field, Lacks, Ends}
 use Rattle.journal_text.specs.Numbers.{unsigned_of}
-use Rattle.journal_text.specs.Ids.{job_of}
+use Rattle.journal_text.specs.Ids.{job_of, job_text}
 use Rattle.journal_text.specs.Numerals.{placed, AreDigits}
 use Rattle.journal_text.proofs.CutLaws.{rest_of, some_is, none_some, bind_some, chosen, cut_again, field_takes, next_again, lacks_test, lacks_append}
 use Rattle.journal_text.proofs.NumberLaws.{unsigned_takes, unsigned_again, unsigned_lacks, decimal_lacks}
 use Rattle.journal_text.proofs.IdLaws.{unsigned_length}
 use Rattle.journal_text.proofs.NumeralLaws.{next_digits}
+use Rattle.journal_text.specs.Lines.{entry_line}
 use Rattle.journal_text.specs.Reading.{outcome_of, over_of, step_of, entry_of}
-use Rattle.journal_text.specs.Next.{step_by, first_entry, front_of, Awaits, IsNext}
+use Rattle.journal_text.specs.Next.{step_by, first_entry, front_of, compute_line, Holds, Awaits, IsNext, IsOwn}
 use Rattle.journal_text.specs.declared.next_step.NextStep.{NextStep}
 use Rattle.journal_text.proofs.PartLaws.{op_compute}
 use Rattle.journal_text.proofs.EntryLaws.{step_in}
@@ -98,15 +99,15 @@ blank_ends a n lt is = subst Ends (sym (rest_of n a ∙ drop-cons a n 0 lt)) is
 
 -- ---- a line that is kept
 
-whole : (names : Names) (n : NextStep) (h : Awaits names n) → n.line ≡ front_of h.word n.tick ++ (codes " compute\n" ++ drop n.len n.line)
-whole names n h =
+whole : (word : List ℕ) (n : NextStep) (h : Holds word n) → n.line ≡ front_of word n.tick ++ (codes " compute\n" ++ drop n.len n.line)
+whole word n h =
     sym (take-append-drop n.len n.line)
-    ∙ (ap (λ (t : List ℕ). t ++ drop n.len n.line) h.line ∙ append_assoc (front_of h.word n.tick) (codes " compute\n") (drop n.len n.line))
+    ∙ (ap (λ (t : List ℕ). t ++ drop n.len n.line) h.line ∙ append_assoc (front_of word n.tick) (codes " compute\n") (drop n.len n.line))
 
-front_is : (names : Names) (n : NextStep) (h : Awaits names n) → take (n.len - 9) n.line ≡ front_of h.word n.tick
-front_is names n h =
-    ap (take (n.len - 9)) (whole names n h)
-    ∙ take_at (front_of h.word n.tick) (codes " compute\n" ++ drop n.len n.line) (n.len - 9) (omega (arith, h.size))
+front_is : (word : List ℕ) (n : NextStep) (h : Holds word n) → take (n.len - 9) n.line ≡ front_of word n.tick
+front_is word n h =
+    ap (take (n.len - 9)) (whole word n h)
+    ∙ take_at (front_of word n.tick) (codes " compute\n" ++ drop n.len n.line) (n.len - 9) (omega (arith, h.size))
 
 grouped : (word : List ℕ) (tick : ℕ) (rest : List ℕ)
     → front_of word tick ++ rest ≡ codes "step" ++ (field word ++ (field (decimal tick) ++ rest))
@@ -127,14 +128,14 @@ told : (names : Names) (n : NextStep) (h : Awaits names n) (line rest : List ℕ
     → Ends rest → entry_of names line ≡ step_by names n.job n.tick rest
 told names n h line rest is ends =
     step_in names line (field h.word ++ (field (decimal n.tick) ++ rest)) (is ∙ grouped h.word n.tick rest) refl
-    ∙ step_told names h.word n.job n.tick rest h.job h.no_blank h.tick ends
+    ∙ step_told names h.word n.job n.tick rest h.job h.no_blank h.holds.tick ends
 
 -- a line that begins as this one
 pub passed_told : (names : Names) (n : NextStep) (line rest : List ℕ) → IsNext names n → 18 ≤ n.len
     → line ≡ take (n.len - 9) n.line ++ rest → Ends rest → step_by names n.job n.tick rest ≡ entry_of names line
 passed_told names n line rest next some is ends =
     let h = next.awaits some in
-    sym (told names n h line rest (is ∙ ap (λ (f : List ℕ). f ++ rest) (front_is names n h)) ends)
+    sym (told names n h line rest (is ∙ ap (λ (f : List ℕ). f ++ rest) (front_is h.word n h.holds)) ends)
 
 computed_by : (names : Names) (job : JobId) (tick : ℕ) → step_by names job tick (codes " compute") ≡ Some (Step job Compute Computed None tick)
 unfolding step_by outcome_of over_of
@@ -148,7 +149,7 @@ line_lacks names n h =
     lacks_append 10 (front_of h.word n.tick) (codes " compute")
     (lacks_append 10 (codes "step") (field h.word ++ field (decimal n.tick)) (lacks_test 10 (codes "step") refl)
     (lacks_append 10 (field h.word) (field (decimal n.tick)) (lacks_append 10 (codes " ") h.word (lacks_test 10 (codes " ") refl) h.no_end)
-    (lacks_append 10 (codes " ") (decimal n.tick) (lacks_test 10 (codes " ") refl) (decimal_lacks 10 n.tick no_digit h.tick))))
+    (lacks_append 10 (codes " ") (decimal n.tick) (lacks_test 10 (codes " ") refl) (decimal_lacks 10 n.tick no_digit h.holds.tick))))
     (lacks_test 10 (codes " compute") refl)
 
 -- a text that begins with this line
@@ -159,7 +160,7 @@ computed_told names n text rest next some is =
     let front : List ℕ = front_of h.word n.tick in
     let line : List ℕ = front ++ codes " compute" in
     let all : text ≡ line ++ 10 ∷ rest =
-    is ∙ (ap (λ (l : List ℕ). l ++ rest) h.line
+    is ∙ (ap (λ (l : List ℕ). l ++ rest) h.holds.line
     ∙ (append_assoc front (codes " compute\n") rest ∙ sym (append_assoc front (codes " compute") (10 ∷ rest)))) in
     let cut : cut_at 10 text ≡ Some (line, rest) = ap (cut_at 10) all ∙ cut_again 10 line rest (line_lacks names n h) in
     let entry : entry_of names line ≡ Some (Step n.job Compute Computed None n.tick) =
@@ -214,51 +215,42 @@ lead_front word init last =
     sym (append_assoc (codes "step") (field word ++ field init) (last ∷ [])
     ∙ ap (λ (r : List ℕ). codes "step" ++ r) (append_assoc (field word) (field init) (last ∷ [])))
 
-pub goes_on : (names : Names) (n : NextStep) → IsNext names n → 18 ≤ n.len → get_or n.line (n.len - 9 - 1) 0 < 57 → n.tick + 1 < 2 ^ 64
-    → IsNext names (gone_on n)
-goes_on names n next some low lt =
-    let h = next.awaits some in
+held_on : (word : List ℕ) (n : NextStep) → Holds word n → get_or n.line (n.len - 9 - 1) 0 < 57 → n.tick + 1 < 2 ^ 64 → Holds word (gone_on n)
+held_on word n h low lt =
     let digits : List ℕ = decimal n.tick in
     let nonempty : 0 < length digits = decimal_nonempty n.tick h.tick in
     let init : List ℕ = take (length digits - 1) digits in
     let last : ℕ = get_or digits (length digits - 1) 0 in
     let apart : digits ≡ init ++ last ∷ [] = last_apart digits nonempty in
     let tail : List ℕ = codes " compute\n" ++ drop n.len n.line in
-    let front : front_of h.word n.tick ≡ lead h.word init ++ last ∷ [] =
-    ap (λ (d : List ℕ). codes "step" ++ (field h.word ++ field d)) apart ∙ lead_front h.word init last in
-    let all : n.line ≡ lead h.word init ++ last ∷ tail =
-    whole names n h ∙ (ap (λ (f : List ℕ). f ++ tail) front ∙ append_assoc (lead h.word init) (last ∷ []) tail) in
-    let size : n.len - 9 - 1 ≡ length (lead h.word init) =
-    omega (arith, h.size, ap length front, length-append (lead h.word init) (last ∷ [])) in
+    let front : front_of word n.tick ≡ lead word init ++ last ∷ [] =
+    ap (λ (d : List ℕ). codes "step" ++ (field word ++ field d)) apart ∙ lead_front word init last in
+    let all : n.line ≡ lead word init ++ last ∷ tail =
+    whole word n h ∙ (ap (λ (f : List ℕ). f ++ tail) front ∙ append_assoc (lead word init) (last ∷ []) tail) in
+    let size : n.len - 9 - 1 ≡ length (lead word init) =
+    omega (arith, h.size, ap length front, length-append (lead word init) (last ∷ [])) in
     let here : get_or n.line (n.len - 9 - 1) 0 ≡ last =
     ap (λ (l : List ℕ). get_or l (n.len - 9 - 1) 0) all
-    ∙ (ap (λ (i : ℕ). get_or (lead h.word init ++ last ∷ tail) i 0) size ∙ get_or-append_seam (lead h.word init) last tail 0) in
+    ∙ (ap (λ (i : ℕ). get_or (lead word init ++ last ∷ tail) i 0) size ∙ get_or-append_seam (lead word init) last tail 0) in
     let more : decimal (n.tick + 1) ≡ init ++ (last + 1) ∷ [] = next_decimal n.tick init last lt apart (omega (arith, here, low)) in
-    let front_more : front_of h.word (n.tick + 1) ≡ lead h.word init ++ (last + 1) ∷ [] =
-    ap (λ (d : List ℕ). codes "step" ++ (field h.word ++ field d)) more ∙ lead_front h.word init (last + 1) in
-    let changed : (gone_on n).line ≡ (front_of h.word (n.tick + 1) ++ codes " compute\n") ++ drop n.len n.line =
+    let front_more : front_of word (n.tick + 1) ≡ lead word init ++ (last + 1) ∷ [] =
+    ap (λ (d : List ℕ). codes "step" ++ (field word ++ field d)) more ∙ lead_front word init (last + 1) in
+    let changed : (gone_on n).line ≡ (front_of word (n.tick + 1) ++ codes " compute\n") ++ drop n.len n.line =
     ap (λ (l : List ℕ). set l (n.len - 9 - 1) (get_or n.line (n.len - 9 - 1) 0 + 1)) all
-    ∙ (set_at (lead h.word init) last tail (get_or n.line (n.len - 9 - 1) 0 + 1) (n.len - 9 - 1) (sym size)
-    ∙ (ap (λ (d : ℕ). lead h.word init ++ (d + 1) ∷ tail) here
-    ∙ (sym (append_assoc (lead h.word init) ((last + 1) ∷ []) tail)
+    ∙ (set_at (lead word init) last tail (get_or n.line (n.len - 9 - 1) 0 + 1) (n.len - 9 - 1) (sym size)
+    ∙ (ap (λ (d : ℕ). lead word init ++ (d + 1) ∷ tail) here
+    ∙ (sym (append_assoc (lead word init) ((last + 1) ∷ []) tail)
     ∙ (ap (λ (f : List ℕ). f ++ tail) (sym front_more)
-    ∙ sym (append_assoc (front_of h.word (n.tick + 1)) (codes " compute\n") (drop n.len n.line)))))) in
-    let long : n.len ≡ length (front_of h.word (n.tick + 1)) + 9 =
-    omega (arith, h.size, ap length front, ap length front_more, length-append (lead h.word init) (last ∷ []), length-append (lead h.word init) ((last + 1) ∷ [])) in
+    ∙ sym (append_assoc (front_of word (n.tick + 1)) (codes " compute\n") (drop n.len n.line)))))) in
+    let long : n.len ≡ length (front_of word (n.tick + 1)) + 9 =
+    omega (arith, h.size, ap length front, ap length front_more, length-append (lead word init) (last ∷ []), length-append (lead word init) ((last + 1) ∷ [])) in
     record {
-      within = next.within;
-      awaits = λ enough. record {
-        word = h.word;
-        line =
-            ap (take n.len) changed
-            ∙ take_at (front_of h.word (n.tick + 1) ++ codes " compute\n") (drop n.len n.line) n.len
-            (length-append (front_of h.word (n.tick + 1)) (codes " compute\n") ∙ sym long);
-        size = long;
-        job = h.job;
-        no_blank = h.no_blank;
-        no_end = h.no_end;
-        tick = lt;
-      };
+      line =
+          ap (take n.len) changed
+          ∙ take_at (front_of word (n.tick + 1) ++ codes " compute\n") (drop n.len n.line) n.len
+          (length-append (front_of word (n.tick + 1)) (codes " compute\n") ∙ sym long);
+      size = long;
+      tick = lt;
     }
 
 -- the same where the last digit is 9 and the one before it is not
@@ -328,20 +320,20 @@ last_two ds some =
     }
 
 -- the byte before a single digit is a blank
-two_digits : (names : Names) (n : NextStep) (h : Awaits names n) → 48 ≤ get_or n.line (n.len - 9 - 1 - 1) 0 → 1 < length (decimal n.tick)
-two_digits names n h high =
+two_digits : (word : List ℕ) (n : NextStep) (h : Holds word n) → 48 ≤ get_or n.line (n.len - 9 - 1 - 1) 0 → 1 < length (decimal n.tick)
+two_digits word n h high =
     let digits : List ℕ = decimal n.tick in
     elim (cases_lt 1 (length digits)) [
       | inl many ↦ many
       | inr few ↦
           let nonempty : 0 < length digits = decimal_nonempty n.tick h.tick in
-          let lead : List ℕ = codes "step" ++ field h.word in
+          let lead : List ℕ = codes "step" ++ field word in
           let all : n.line ≡ lead ++ 32 ∷ (digits ++ (codes " compute\n" ++ drop n.len n.line)) =
-          whole names n h
-          ∙ (grouped h.word n.tick (codes " compute\n" ++ drop n.len n.line)
-          ∙ sym (append_assoc (codes "step") (field h.word) (32 ∷ (digits ++ (codes " compute\n" ++ drop n.len n.line))))) in
-          let size : length (codes "step" ++ (field h.word ++ field digits)) ≡ length lead + length (field digits) =
-          ap length (sym (append_assoc (codes "step") (field h.word) (field digits))) ∙ length-append lead (field digits) in
+          whole word n h
+          ∙ (grouped word n.tick (codes " compute\n" ++ drop n.len n.line)
+          ∙ sym (append_assoc (codes "step") (field word) (32 ∷ (digits ++ (codes " compute\n" ++ drop n.len n.line))))) in
+          let size : length (codes "step" ++ (field word ++ field digits)) ≡ length lead + length (field digits) =
+          ap length (sym (append_assoc (codes "step") (field word) (field digits))) ∙ length-append lead (field digits) in
           let at : n.len - 9 - 1 - 1 ≡ length lead = omega (arith, h.size, size, few, nonempty) in
           let blank : get_or n.line (n.len - 9 - 1 - 1) 0 ≡ 32 =
           ap (λ (l : List ℕ). get_or l (n.len - 9 - 1 - 1) 0) all
@@ -350,69 +342,99 @@ two_digits names n h high =
           absurd (omega (arith, blank, high))
     ]
 
-pub carries : (names : Names) (n : NextStep) → IsNext names n → 18 ≤ n.len → 57 ≤ get_or n.line (n.len - 9 - 1) 0
-    → 48 ≤ get_or n.line (n.len - 9 - 1 - 1) 0 → get_or n.line (n.len - 9 - 1 - 1) 0 < 57 → n.tick + 1 < 2 ^ 64 → IsNext names (carried_on n)
-carries names n next some nine digit low lt =
-    let h = next.awaits some in
-    let p = last_two (decimal n.tick) (two_digits names n h digit) in
+carried : (word : List ℕ) (n : NextStep) → Holds word n → 57 ≤ get_or n.line (n.len - 9 - 1) 0
+    → 48 ≤ get_or n.line (n.len - 9 - 1 - 1) 0 → get_or n.line (n.len - 9 - 1 - 1) 0 < 57 → n.tick + 1 < 2 ^ 64 → Holds word (carried_on n)
+carried word n h nine digit low lt =
+    let p = last_two (decimal n.tick) (two_digits word n h digit) in
     let tail : List ℕ = codes " compute\n" ++ drop n.len n.line in
-    let front : front_of h.word n.tick ≡ lead h.word p.init ++ p.a ∷ p.b ∷ [] =
-    ap (λ (d : List ℕ). codes "step" ++ (field h.word ++ field d)) p.all ∙ lead_two h.word p.init p.a p.b in
-    let all : n.line ≡ lead h.word p.init ++ p.a ∷ p.b ∷ tail =
-    whole names n h ∙ (ap (λ (f : List ℕ). f ++ tail) front ∙ append_assoc (lead h.word p.init) (p.a ∷ p.b ∷ []) tail) in
-    let size : n.len - 9 - 1 - 1 ≡ length (lead h.word p.init) =
-    omega (arith, h.size, ap length front, length-append (lead h.word p.init) (p.a ∷ p.b ∷ [])) in
-    let over : n.len - 9 - 1 ≡ length (lead h.word p.init) + 1 = omega (arith, h.size, ap length front, length-append (lead h.word p.init) (p.a ∷ p.b ∷ [])) in
-    let longer : length (lead h.word p.init ++ p.a ∷ []) ≡ length (lead h.word p.init) + 1 = length-append (lead h.word p.init) (p.a ∷ []) in
+    let front : front_of word n.tick ≡ lead word p.init ++ p.a ∷ p.b ∷ [] =
+    ap (λ (d : List ℕ). codes "step" ++ (field word ++ field d)) p.all ∙ lead_two word p.init p.a p.b in
+    let all : n.line ≡ lead word p.init ++ p.a ∷ p.b ∷ tail =
+    whole word n h ∙ (ap (λ (f : List ℕ). f ++ tail) front ∙ append_assoc (lead word p.init) (p.a ∷ p.b ∷ []) tail) in
+    let size : n.len - 9 - 1 - 1 ≡ length (lead word p.init) =
+    omega (arith, h.size, ap length front, length-append (lead word p.init) (p.a ∷ p.b ∷ [])) in
+    let over : n.len - 9 - 1 ≡ length (lead word p.init) + 1 = omega (arith, h.size, ap length front, length-append (lead word p.init) (p.a ∷ p.b ∷ [])) in
+    let longer : length (lead word p.init ++ p.a ∷ []) ≡ length (lead word p.init) + 1 = length-append (lead word p.init) (p.a ∷ []) in
     let here : get_or n.line (n.len - 9 - 1 - 1) 0 ≡ p.a =
     ap (λ (l : List ℕ). get_or l (n.len - 9 - 1 - 1) 0) all
-    ∙ (ap (λ (i : ℕ). get_or (lead h.word p.init ++ p.a ∷ p.b ∷ tail) i 0) size ∙ get_or-append_seam (lead h.word p.init) p.a (p.b ∷ tail) 0) in
-    let apart : n.line ≡ (lead h.word p.init ++ p.a ∷ []) ++ p.b ∷ tail = all ∙ sym (append_assoc (lead h.word p.init) (p.a ∷ []) (p.b ∷ tail)) in
+    ∙ (ap (λ (i : ℕ). get_or (lead word p.init ++ p.a ∷ p.b ∷ tail) i 0) size ∙ get_or-append_seam (lead word p.init) p.a (p.b ∷ tail) 0) in
+    let apart : n.line ≡ (lead word p.init ++ p.a ∷ []) ++ p.b ∷ tail = all ∙ sym (append_assoc (lead word p.init) (p.a ∷ []) (p.b ∷ tail)) in
     let last : get_or n.line (n.len - 9 - 1) 0 ≡ p.b =
     ap (λ (l : List ℕ). get_or l (n.len - 9 - 1) 0) apart
-    ∙ (ap (λ (i : ℕ). get_or ((lead h.word p.init ++ p.a ∷ []) ++ p.b ∷ tail) i 0) (over ∙ sym longer)
-    ∙ get_or-append_seam (lead h.word p.init ++ p.a ∷ []) p.b tail 0) in
+    ∙ (ap (λ (i : ℕ). get_or ((lead word p.init ++ p.a ∷ []) ++ p.b ∷ tail) i 0) (over ∙ sym longer)
+    ∙ get_or-append_seam (lead word p.init ++ p.a ∷ []) p.b tail 0) in
     let more : decimal (n.tick + 1) ≡ p.init ++ (p.a + 1) ∷ 48 ∷ [] =
     carried_decimal n.tick p.init p.a p.b lt p.all (omega (arith, here, low)) (omega (arith, last, nine)) in
-    let front_more : front_of h.word (n.tick + 1) ≡ lead h.word p.init ++ (p.a + 1) ∷ 48 ∷ [] =
-    ap (λ (d : List ℕ). codes "step" ++ (field h.word ++ field d)) more ∙ lead_two h.word p.init (p.a + 1) 48 in
-    let once : set n.line (n.len - 9 - 1 - 1) (get_or n.line (n.len - 9 - 1 - 1) 0 + 1) ≡ (lead h.word p.init ++ (p.a + 1) ∷ []) ++ p.b ∷ tail =
+    let front_more : front_of word (n.tick + 1) ≡ lead word p.init ++ (p.a + 1) ∷ 48 ∷ [] =
+    ap (λ (d : List ℕ). codes "step" ++ (field word ++ field d)) more ∙ lead_two word p.init (p.a + 1) 48 in
+    let once : set n.line (n.len - 9 - 1 - 1) (get_or n.line (n.len - 9 - 1 - 1) 0 + 1) ≡ (lead word p.init ++ (p.a + 1) ∷ []) ++ p.b ∷ tail =
     ap (λ (l : List ℕ). set l (n.len - 9 - 1 - 1) (get_or n.line (n.len - 9 - 1 - 1) 0 + 1)) all
-    ∙ (set_at (lead h.word p.init) p.a (p.b ∷ tail) (get_or n.line (n.len - 9 - 1 - 1) 0 + 1) (n.len - 9 - 1 - 1) (sym size)
-    ∙ (ap (λ (d : ℕ). lead h.word p.init ++ (d + 1) ∷ p.b ∷ tail) here
-    ∙ sym (append_assoc (lead h.word p.init) ((p.a + 1) ∷ []) (p.b ∷ tail)))) in
-    let width : length (lead h.word p.init ++ (p.a + 1) ∷ []) ≡ n.len - 9 - 1 = length-append (lead h.word p.init) ((p.a + 1) ∷ []) ∙ sym over in
-    let changed : (carried_on n).line ≡ (front_of h.word (n.tick + 1) ++ codes " compute\n") ++ drop n.len n.line =
+    ∙ (set_at (lead word p.init) p.a (p.b ∷ tail) (get_or n.line (n.len - 9 - 1 - 1) 0 + 1) (n.len - 9 - 1 - 1) (sym size)
+    ∙ (ap (λ (d : ℕ). lead word p.init ++ (d + 1) ∷ p.b ∷ tail) here
+    ∙ sym (append_assoc (lead word p.init) ((p.a + 1) ∷ []) (p.b ∷ tail)))) in
+    let width : length (lead word p.init ++ (p.a + 1) ∷ []) ≡ n.len - 9 - 1 = length-append (lead word p.init) ((p.a + 1) ∷ []) ∙ sym over in
+    let changed : (carried_on n).line ≡ (front_of word (n.tick + 1) ++ codes " compute\n") ++ drop n.len n.line =
     ap (λ (l : List ℕ). set l (n.len - 9 - 1) 48) once
-    ∙ (set_at (lead h.word p.init ++ (p.a + 1) ∷ []) p.b tail 48 (n.len - 9 - 1) width
-    ∙ (append_assoc (lead h.word p.init) ((p.a + 1) ∷ []) (48 ∷ tail)
-    ∙ (sym (append_assoc (lead h.word p.init) ((p.a + 1) ∷ 48 ∷ []) tail)
+    ∙ (set_at (lead word p.init ++ (p.a + 1) ∷ []) p.b tail 48 (n.len - 9 - 1) width
+    ∙ (append_assoc (lead word p.init) ((p.a + 1) ∷ []) (48 ∷ tail)
+    ∙ (sym (append_assoc (lead word p.init) ((p.a + 1) ∷ 48 ∷ []) tail)
     ∙ (ap (λ (f : List ℕ). f ++ tail) (sym front_more)
-    ∙ sym (append_assoc (front_of h.word (n.tick + 1)) (codes " compute\n") (drop n.len n.line)))))) in
-    let long : n.len ≡ length (front_of h.word (n.tick + 1)) + 9 =
-    omega (arith, h.size, ap length front, ap length front_more, length-append (lead h.word p.init) (p.a ∷ p.b ∷ []), length-append (lead h.word p.init) ((p.a + 1) ∷ 48 ∷ [])) in
+    ∙ sym (append_assoc (front_of word (n.tick + 1)) (codes " compute\n") (drop n.len n.line)))))) in
+    let long : n.len ≡ length (front_of word (n.tick + 1)) + 9 =
+    omega (arith, h.size, ap length front, ap length front_more, length-append (lead word p.init) (p.a ∷ p.b ∷ []), length-append (lead word p.init) ((p.a + 1) ∷ 48 ∷ [])) in
     record {
-      within = next.within;
-      awaits = λ enough. record {
-        word = h.word;
-        line =
-            ap (take n.len) changed
-            ∙ take_at (front_of h.word (n.tick + 1) ++ codes " compute\n") (drop n.len n.line) n.len
-            (length-append (front_of h.word (n.tick + 1)) (codes " compute\n") ∙ sym long);
-        size = long;
-        job = h.job;
-        no_blank = h.no_blank;
-        no_end = h.no_end;
-        tick = lt;
-      };
+      line =
+          ap (take n.len) changed
+          ∙ take_at (front_of word (n.tick + 1) ++ codes " compute\n") (drop n.len n.line) n.len
+          (length-append (front_of word (n.tick + 1)) (codes " compute\n") ∙ sym long);
+      size = long;
+      tick = lt;
     }
+
+-- what holds of the line and stays of the job
+
+next_on : (names : Names) (n more : NextStep) → IsNext names n → 18 ≤ n.len → more.len ≡ n.len → more.job ≡ n.job
+    → ((word : List ℕ) → Holds word n → Holds word more) → IsNext names more
+next_on names n more next some size job on =
+    let h = next.awaits some in
+    record {
+      within = omega (arith, size, next.within);
+      awaits = λ enough. record { word = h.word; holds = on h.word h.holds; job = h.job ∙ ap Some (sym job); no_blank = h.no_blank; no_end = h.no_end };
+    }
+
+own_on : (names : Names) (n more : NextStep) → IsOwn names n → 18 ≤ n.len → more.len ≡ n.len → more.job ≡ n.job
+    → ((word : List ℕ) → Holds word n → Holds word more) → IsOwn names more
+own_on names n more own some size job on =
+    record {
+      within = omega (arith, size, own.within);
+      holds = λ enough. subst (λ (j : JobId). Holds (job_text names.txns j) more) (sym job) (on (job_text names.txns n.job) (own.holds some));
+    }
+
+pub goes_on : (names : Names) (n : NextStep) → IsNext names n → 18 ≤ n.len → get_or n.line (n.len - 9 - 1) 0 < 57 → n.tick + 1 < 2 ^ 64
+    → IsNext names (gone_on n)
+goes_on names n next some low lt = next_on names n (gone_on n) next some refl refl (λ word h. held_on word n h low lt)
+
+pub own_goes_on : (names : Names) (n : NextStep) → IsOwn names n → 18 ≤ n.len → get_or n.line (n.len - 9 - 1) 0 < 57 → n.tick + 1 < 2 ^ 64
+    → IsOwn names (gone_on n)
+own_goes_on names n own some low lt = own_on names n (gone_on n) own some refl refl (λ word h. held_on word n h low lt)
+
+pub carries : (names : Names) (n : NextStep) → IsNext names n → 18 ≤ n.len → 57 ≤ get_or n.line (n.len - 9 - 1) 0
+    → 48 ≤ get_or n.line (n.len - 9 - 1 - 1) 0 → get_or n.line (n.len - 9 - 1 - 1) 0 < 57 → n.tick + 1 < 2 ^ 64 → IsNext names (carried_on n)
+carries names n next some nine digit low lt = next_on names n (carried_on n) next some refl refl (λ word h. carried word n h nine digit low lt)
+
+pub own_carries : (names : Names) (n : NextStep) → IsOwn names n → 18 ≤ n.len → 57 ≤ get_or n.line (n.len - 9 - 1) 0
+    → 48 ≤ get_or n.line (n.len - 9 - 1 - 1) 0 → get_or n.line (n.len - 9 - 1 - 1) 0 < 57 → n.tick + 1 < 2 ^ 64 → IsOwn names (carried_on n)
+own_carries names n own some nine digit low lt = own_on names n (carried_on n) own some refl refl (λ word h. carried word n h nine digit low lt)
 
 pub nothing : (names : Names) (n : NextStep) → n.len ≡ 0 → IsNext names n
 nothing names n none = record { within = omega (arith, none); awaits = λ enough. absurd (omega (arith, none, enough)) }
 
+pub own_nothing : (names : Names) (n : NextStep) → n.len ≡ 0 → IsOwn names n
+own_nothing names n none = record { within = omega (arith, none); holds = λ enough. absurd (omega (arith, none, enough)) }
+
 -- ---- a line that is noted
 
-pub noted : (names : Names) (n : NextStep) (fields word : List ℕ) → n.len ≡ 4 + length fields + 9 → n.len ≤ 96
+pub noted : (names : Names) (n : NextStep) (fields word : List ℕ) → n.len ≡ 4 + length fields + 9 → n.len ≤ 64
     → take n.len n.line ≡ (codes "step" ++ fields) ++ codes " compute\n" → fields ≡ field word ++ field (decimal n.tick)
     → job_of names.txns word ≡ Some n.job → Lacks 32 word → Lacks 10 word → n.tick < 2 ^ 64 → IsNext names n
 noted names n fields word size within line is job blank end lt =
@@ -420,12 +442,14 @@ noted names n fields word size within line is job blank end lt =
       within = within;
       awaits = λ enough. record {
         word = word;
-        line = line ∙ ap (λ (f : List ℕ). (codes "step" ++ f) ++ codes " compute\n") is;
-        size = omega (arith, size, ap length is);
+        holds = record {
+          line = line ∙ ap (λ (f : List ℕ). (codes "step" ++ f) ++ codes " compute\n") is;
+          size = omega (arith, size, ap length is);
+          tick = lt;
+        };
         job = job;
         no_blank = blank;
         no_end = end;
-        tick = lt;
       };
     }
 
@@ -520,3 +544,45 @@ step_is names bs more rest job tick one two = rw (sym one, sym two) refl
 
 pub after_lacks : (byte : ℕ) (line front rest : List ℕ) → line ≡ front ++ rest → Lacks byte line → Lacks byte rest
 after_lacks byte line front rest is h = lacks_right byte front rest (subst (Lacks byte) is h)
+
+-- ---- a line that was written
+
+pub noted_own : (names : Names) (n : NextStep) (fields : List ℕ) → n.len ≡ 4 + length fields + 9 → n.len ≤ 64
+    → take n.len n.line ≡ (codes "step" ++ fields) ++ codes " compute\n" → fields ≡ field (job_text names.txns n.job) ++ field (decimal n.tick)
+    → n.tick < 2 ^ 64 → IsOwn names n
+noted_own names n fields size within line is lt =
+    record {
+      within = within;
+      holds = λ enough. record {
+        line = line ∙ ap (λ (f : List ℕ). (codes "step" ++ f) ++ codes " compute\n") is;
+        size = omega (arith, size, ap length is);
+        tick = lt;
+      };
+    }
+
+pub own_front : (names : Names) (n : NextStep) (job : JobId) (tick : ℕ) → IsOwn names n → 18 ≤ n.len → job ≡ n.job → tick ≡ n.tick
+    → take (n.len - 9) n.line ≡ front_of (job_text names.txns job) tick
+own_front names n job tick own some same at =
+    front_is (job_text names.txns n.job) n (own.holds some)
+    ∙ (ap (λ (j : JobId). front_of (job_text names.txns j) n.tick) (sym same) ∙ ap (front_of (job_text names.txns job)) (sym at))
+
+pub own_line : (names : Names) (n : NextStep) (job : JobId) (tick : ℕ) → IsOwn names n → 18 ≤ n.len → job ≡ n.job → tick ≡ n.tick
+    → take n.len n.line ≡ compute_line names job tick
+own_line names n job tick own some same at =
+    (own.holds some).line
+    ∙ (ap (λ (j : JobId). compute_line names j n.tick) (sym same) ∙ ap (compute_line names job) (sym at))
+
+-- the line of a Compute by its parts
+pub compute_whole : (names : Names) (job : JobId) (tick : ℕ) → entry_line names (Step job Compute Computed None tick) ++ codes "\n" ≡ compute_line names job tick
+compute_whole names job tick =
+    let word : List ℕ = job_text names.txns job in
+    append_assoc (codes "step") (field word ++ (field (decimal tick) ++ codes " compute")) (codes "\n")
+    ∙ (ap (λ (r : List ℕ). codes "step" ++ r)
+    (append_assoc (field word) (field (decimal tick) ++ codes " compute") (codes "\n")
+    ∙ ap (λ (r : List ℕ). field word ++ r) (append_assoc (field (decimal tick)) (codes " compute") (codes "\n")))
+    ∙ sym (grouped word tick (codes " compute\n")))
+
+-- what stands before, and a front of what follows
+pub take_past : (a b : List ℕ) (n m : ℕ) → n ≡ length a + m → take n (a ++ b) ≡ a ++ take m b
+take_past [] b n m e = (let q : n ≡ m = omega (arith, e) in ap (λ (k : ℕ). take k b) q)
+take_past (x ∷ a) b n m e = ap (λ (k : ℕ). take k (x ∷ (a ++ b))) (let q : n ≡ suc (length a + m) = omega (arith, e) in q) ∙ ap (λ (l : List ℕ). x ∷ l) (take_past a b (length a + m) m refl)

@@ -83,3 +83,37 @@ next_digits n m len digits h is lt low =
     sym (append_assoc f.front ((48 + m % 10) ∷ []) zeros)
     ∙ (ap (λ (d : List ℕ). d ++ zeros) (sym text) ∙ ap (λ (k : ℕ). decimal m ++ replicate (32 - k) 0) (sym same)) in
     record { bytes = changed ∙ whole; width = h.width ∙ sym same; short = h.short }
+
+pub two_digits : (n len : ℕ) (digits : List ℕ) → n < 2 ^ 64 → 10 ≤ n → AreDigits n digits len → 2 ≤ len
+two_digits n len digits lt many h =
+    let lead : 0 < length (decimal (n / 10)) = decimal_nonempty (n / 10) (omega (arith, lt)) in
+    omega (arith, h.width, ap length (decimal_step n many lt), length-append (decimal (n / 10)) ((48 + n % 10) ∷ []), lead)
+
+-- where only the last two digits differ
+pub near_digits : (n m len : ℕ) (digits : List ℕ) → AreDigits n digits len → n < 2 ^ 64 → m < 2 ^ 64 → 10 ≤ n → 10 ≤ m → m / 100 ≡ n / 100
+    → AreDigits m (set (set digits (len - 1 - 1) (48 + m / 10 % 10)) (len - 1) (48 + m % 10)) len
+near_digits n m len digits h below lt many more same =
+    let f = front_of (n / 10) (omega (arith, below)) in
+    let a : ℕ = 48 + n / 10 % 10 in
+    let b : ℕ = 48 + n % 10 in
+    let c : ℕ = 48 + m / 10 % 10 in
+    let d : ℕ = 48 + m % 10 in
+    let zeros : List ℕ = replicate (32 - length (decimal n)) 0 in
+    let old : decimal n ≡ f.front ++ a ∷ b ∷ [] =
+    decimal_step n many below ∙ (ap (λ (l : List ℕ). l ++ b ∷ []) f.here ∙ append_assoc f.front (a ∷ []) (b ∷ [])) in
+    let text : decimal m ≡ f.front ++ c ∷ d ∷ [] =
+    decimal_step m more lt ∙ (ap (λ (l : List ℕ). l ++ d ∷ []) (f.next (m / 10) (omega (arith, same)) (omega (arith, lt))) ∙ append_assoc f.front (c ∷ []) (d ∷ [])) in
+    let all : digits ≡ f.front ++ a ∷ b ∷ zeros = h.bytes ∙ (ap (λ (l : List ℕ). l ++ zeros) old ∙ append_assoc f.front (a ∷ b ∷ []) zeros) in
+    let width : len ≡ length f.front + 2 = h.width ∙ (ap length old ∙ length-append f.front (a ∷ b ∷ [])) in
+    let first : set digits (len - 1 - 1) c ≡ (f.front ++ c ∷ []) ++ b ∷ zeros =
+    ap (λ (l : List ℕ). set l (len - 1 - 1) c) all
+    ∙ (set_at f.front a (b ∷ zeros) c (len - 1 - 1) (omega (arith, width)) ∙ sym (append_assoc f.front (c ∷ []) (b ∷ zeros))) in
+    let both : set (set digits (len - 1 - 1) c) (len - 1) d ≡ (f.front ++ c ∷ []) ++ d ∷ zeros =
+    ap (λ (l : List ℕ). set l (len - 1) d) first
+    ∙ set_at (f.front ++ c ∷ []) b zeros d (len - 1) (omega (arith, width, length-append f.front (c ∷ []))) in
+    let long : length (decimal m) ≡ length (decimal n) = omega (arith, ap length text, length-append f.front (c ∷ d ∷ []), width, h.width) in
+    let whole : (f.front ++ c ∷ []) ++ d ∷ zeros ≡ placed m =
+    append_assoc f.front (c ∷ []) (d ∷ zeros)
+    ∙ (sym (append_assoc f.front (c ∷ d ∷ []) zeros)
+    ∙ (ap (λ (l : List ℕ). l ++ zeros) (sym text) ∙ ap (λ (k : ℕ). decimal m ++ replicate (32 - k) 0) (sym long))) in
+    record { bytes = both ∙ whole; width = h.width ∙ sym long; short = h.short }

@@ -1,5 +1,6 @@
 -- The line of an entry.
 use Rattle.std.specs.Prelude.{ℕ, ◌≡◌, ◌<◌, ◌^◌, List, [], ◌++◌, length, codes, decimal, Option, Some, None}
+use Rattle.std.specs.List.{flat_map}
 use Rattle.std.specs.Fmt.{signed_decimal}
 use Rattle.rt_base.specs.declared.name.Names.{Names}
 use Rattle.rt_base.specs.declared.ids.ItemId.{ItemId}
@@ -65,6 +66,14 @@ entry_line names (Blocked job op by ceiling tick) =
     codes "block" ⊕ field (job_text names.txns job) ⊕ field (decimal tick) ⊕ op_text names op ⊕ field (codes "by")
     ⊕ field (job_text names.txns by) ⊕ field (decimal ceiling)
 entry_line names (Idle from to) = codes "idle" ⊕ field (decimal from) ⊕ field (decimal to)
+
+-- the line with its line end
+abbrev pub whole_line : Names → Entry → List ℕ
+whole_line names entry = entry_line names entry ++ codes "\n"
+
+-- the lines of entries
+abbrev pub whole_lines : Names → List Entry → List ℕ
+whole_lines names entries = flat_map (whole_line names) entries
 
 -- ---- which entries have a line
 

@@ -5,7 +5,7 @@ use Rattle.rt_base.specs.declared.ids.JobId.{JobId}
 use Rattle.step_journal.specs.declared.entry.Entry.{Entry}
 use Rattle.step_journal.specs.declared.entry.Entry.TheVariants.{Step}
 use Rattle.journal_text.specs.Cuts.{◌>>=◌, cut_at, field, Lacks}
-use Rattle.journal_text.specs.Ids.{job_of}
+use Rattle.journal_text.specs.Ids.{job_of, job_text}
 use Rattle.journal_text.specs.Lines.{◌⊕◌}
 use Rattle.journal_text.specs.Reading.{answers_of, op_of, over_of, entry_of}
 use Rattle.journal_text.specs.declared.next_step.NextStep.{NextStep}
@@ -25,17 +25,30 @@ first_entry names text = cut_at 10 text >>= λ p. entry_of names p.0 >>= λ e. S
 abbrev pub front_of : List ℕ → ℕ → List ℕ
 front_of word tick = codes "step" ⊕ field word ⊕ field (decimal tick)
 
--- what is kept is such a line with its line end, of the job and the tick
-pub record Awaits (names : Names) (next : NextStep) : Type 0 where
-  pub word : List ℕ
+-- the line of a Compute of a job, with its line end
+abbrev pub compute_line : Names → JobId → ℕ → List ℕ
+compute_line names job tick = front_of (job_text names.txns job) tick ⊕ codes " compute\n"
+
+-- what is kept is such a line with its line end, of this word for the job and of the tick
+pub record Holds (word : List ℕ) (next : NextStep) : Type 0 where
   pub line : take next.len next.line ≡ front_of word next.tick ⊕ codes " compute\n"
   pub size : next.len ≡ length (front_of word next.tick) + 9
+  pub tick : next.tick < 2 ^ 64
+
+-- its word is read as the job
+pub record Awaits (names : Names) (next : NextStep) : Type 0 where
+  pub word : List ℕ
+  pub holds : Holds word next
   pub job : job_of names.txns word ≡ Some next.job
   pub no_blank : Lacks 32 word
   pub no_end : Lacks 10 word
-  pub tick : next.tick < 2 ^ 64
 
--- there is nothing, or such a line; none has fewer bytes than 18
+-- there is nothing, or a line that is read so; none has fewer bytes than 18
 pub record IsNext (names : Names) (next : NextStep) : Type 0 where
-  pub within : next.len ≤ 96
+  pub within : next.len ≤ 64
   pub awaits : 18 ≤ next.len → Awaits names next
+
+-- there is nothing, or the line as it is written
+pub record IsOwn (names : Names) (next : NextStep) : Type 0 where
+  pub within : next.len ≤ 64
+  pub holds : 18 ≤ next.len → Holds (job_text names.txns next.job) next

@@ -1,11 +1,16 @@
 //! From entries to lines.
-ghost use Rattle.std.specs.Prelude.{◌≡◌, ◌+◌, ◌<◌, ◌≤◌, ◌++◌, length, codes, vec_len, vec_capacity};
+ghost use Rattle.std.specs.Prelude.{◌≡◌, ◌+◌, ◌*◌, ◌<◌, ◌≤◌, ◌++◌, ◌^◌, length, codes, vec_len, vec_capacity, false, None, IsTrue, IfSome};
+ghost use Rattle.std.specs.List.{All};
+ghost use Rattle.step_journal.specs.declared.entry.Entry.TheVariants.{Step};
+ghost use Rattle.journal_text.specs.Next.{front_of, IsOwn};
+ghost use Rattle.journal_text.specs.Ids.{job_text, IsJob};
 ghost use Rattle.journal_text.specs.Cuts.{field};
-ghost use Rattle.journal_text.specs.Lines.{op_text, stamp_text, outcome_text, end_text, over_text, entry_line, IsOp, IsOutcome, IsEnd, IsOver, HasLine, KnownOp, KnownEnd, KnownOver, IsWritable};
+ghost use Rattle.journal_text.specs.Lines.{op_text, stamp_text, outcome_text, end_text, over_text, entry_line, IsOp, IsOutcome, IsEnd, IsOver, HasLine, whole_line, whole_lines, KnownOp, KnownEnd, KnownOver, IsWritable};
 
+use crate::next_step::NextStep;
 use crate::numerals::Numerals;
 use crate::writing::{put, put_name, put_short, put_signed, put_unsigned};
-use rt_base::{End, Names, Op, Outcome};
+use rt_base::{End, JobId, Names, Op, Outcome, Tick};
 use std::mem;
 use step_journal::Entry;
 
@@ -114,14 +119,51 @@ fn put_over(into: &mut Vec<u8>, names: &Names, over: Option<End>)
     }
 }
 
+// Adds the line of a step up to its operation. It makes that of the job's next step likely.
 #[inline(always)]
-fn put_entry(into: &mut Vec<u8>, names: &Names, entry: &Entry, numerals: &mut Numerals)
+fn put_step(
+    into: &mut Vec<u8>,
+    names: &Names,
+    job: JobId,
+    tick: Tick,
+    numerals: &mut Numerals,
+    likely: &mut NextStep,
+)
+    requires known { job.tx.0 < length names.now.txns }
+    requires own { IsOwn names.now likely.old }
+    requires room { vec_len into.old + 103 ≤ vec_capacity into.old }
+    ensures items { into.new.items ≡ into.old.items ++ front_of (job_text names.now.txns job) tick }
+    ensures line { IsJob names.now.txns job × (tick < 2 ^ 64) }
+    ensures len { vec_len into.new ≤ vec_len into.old + 69 }
+    ensures room { vec_capacity into.old ≤ vec_capacity into.new }
+    ensures own { IsOwn names.now likely.new }
+{
+    if likely.put_front(job, tick, into) {
+        return;
+    }
+    put(into, b"step");
+    let start = into.len();
+    numerals.put_job(into, names.txns.as_slice(), job);
+    numerals.put_tick(into, tick);
+    likely.note(&into[start..], job, tick);
+}
+
+#[inline(always)]
+fn put_entry(
+    into: &mut Vec<u8>,
+    names: &Names,
+    entry: &Entry,
+    numerals: &mut Numerals,
+    likely: &mut NextStep,
+)
     requires known { IsWritable names.now entry.now }
+    requires own { IsOwn names.now likely.old }
     requires room { vec_len into.old + 255 ≤ vec_capacity into.old }
     ensures items { into.new.items ≡ into.old.items ++ entry_line names.now entry.now }
     ensures line { HasLine names.now entry.now }
     ensures len { vec_len into.new ≤ vec_len into.old + 254 }
     ensures room { vec_capacity into.old ≤ vec_capacity into.new }
+    ensures own { IsOwn names.now likely.new }
 {
     match entry {
         Entry::Planned { tx, tick } => {
@@ -136,9 +178,7 @@ fn put_entry(into: &mut Vec<u8>, names: &Names, entry: &Entry, numerals: &mut Nu
             over,
             tick,
         } => {
-            put(into, b"step");
-            numerals.put_job(into, names.txns.as_slice(), *job);
-            numerals.put_tick(into, *tick);
+            put_step(into, names, *job, *tick, numerals, likely);
             put_op(into, names, *op);
             put_outcome(into, *outcome);
             put_over(into, names, *over);
@@ -166,9 +206,72 @@ fn put_entry(into: &mut Vec<u8>, names: &Names, entry: &Entry, numerals: &mut Nu
     }
 }
 
+// The job and the tick of a Compute at which nothing ends.
+#[inline(always)]
+fn computed(entry: &Entry) -> Option<(JobId, Tick)>
+    ensures { IfSome result (λ p. entry.now ≡ Step p.0 Op.Compute Outcome.Computed None p.1) }
+{
+    match entry {
+        Entry::Step {
+            job,
+            op: Op::Compute,
+            outcome: Outcome::Computed,
+            over: None,
+            tick,
+        } => Some((*job, *tick)),
+        _ => None,
+    }
+}
+
+// Adds the line that is likely, if it is that of the entry: whether it is. Else nothing changes.
+#[inline(always)]
+fn put_likely(into: &mut Vec<u8>, names: &Names, entry: &Entry, likely: &mut NextStep) -> bool
+    requires known { IsWritable names.now entry.now }
+    requires own { IsOwn names.now likely.old }
+    requires room { vec_len into.old + 255 ≤ vec_capacity into.old }
+    ensures items { IsTrue result → into.new.items ≡ into.old.items ++ whole_line names.now entry.now }
+    ensures line { IsTrue result → HasLine names.now entry.now }
+    ensures other { result ≡ false → (into.new.items ≡ into.old.items) × (vec_len into.new ≡ vec_len into.old) }
+    ensures len { vec_len into.new ≤ vec_len into.old + 255 }
+    ensures room { vec_capacity into.old ≤ vec_capacity into.new }
+    ensures own { IsOwn names.now likely.new }
+{
+    let _names = names;
+    match computed(entry) {
+        Some((job, tick)) => likely.put(job, tick, into),
+        None => false,
+    }
+}
+
+/// Adds the lines of entries, each with its line end and of at most 256 bytes. It takes no memory. Each line is that of its entry
+/// alone (`lines_both_ways`). Digits that are those of an earlier line are taken from `numerals`, and the line of a Compute
+/// that follows another step of its job from that one's.
+#[inline(never)]
+pub fn write_entries(names: &Names, entries: &[Entry], numerals: &mut Numerals, into: &mut Vec<u8>)
+    requires known { All (IsWritable names.now) entries.now }
+    requires room { vec_len into.old + 256 * length entries.now ≤ vec_capacity into.old }
+    ensures items { into.new.items ≡ into.old.items ++ whole_lines names.now entries.now }
+    ensures lines { All (HasLine names.now) entries.now }
+    ensures len { vec_len into.new ≤ vec_len into.old + 255 * length entries.now }
+    ensures room { vec_capacity into.old ≤ vec_capacity into.new }
+{
+    // A list of its own stays in registers while the pieces are added.
+    let alloc = *into.allocator();
+    let mut lines = mem::replace(into, Vec::new(alloc));
+    let mut likely = NextStep::new();
+    for i in 0..entries.len() {
+        let entry = &entries[i];
+        if put_likely(&mut lines, names, entry, &mut likely) {
+            continue;
+        }
+        put_entry(&mut lines, names, entry, numerals, &mut likely);
+        lines.push_reserved(b'\n');
+    }
+    *into = lines;
+}
+
 /// Adds the line of an entry, with its line end: at most 256 bytes. It takes no memory. The line is that of this entry
 /// alone (`lines_both_ways`). Digits that are those of an earlier line are taken from `numerals`.
-#[inline(never)]
 pub fn write_entry(names: &Names, entry: &Entry, numerals: &mut Numerals, into: &mut Vec<u8>)
     requires known { IsWritable names.now entry.now }
     requires room { vec_len into.old + 256 ≤ vec_capacity into.old }
@@ -177,10 +280,5 @@ pub fn write_entry(names: &Names, entry: &Entry, numerals: &mut Numerals, into: 
     ensures len { vec_len into.new ≤ vec_len into.old + 255 }
     ensures room { vec_capacity into.old ≤ vec_capacity into.new }
 {
-    // A list of its own stays in registers while the pieces are added.
-    let alloc = *into.allocator();
-    let mut line = mem::replace(into, Vec::new(alloc));
-    put_entry(&mut line, names, entry, numerals);
-    line.push_reserved(b'\n');
-    *into = line;
+    write_entries(names, &[*entry], numerals, into);
 }

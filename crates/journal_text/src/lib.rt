@@ -15,7 +15,7 @@ mod writing;
 
 pub use cuts::{cut, done, field, is_word, next_word, word};
 pub use entry_laws::{lines_both_ways, one_entry_a_line};
-pub use entry_writing::{put_end, write_entry};
+pub use entry_writing::{put_end, write_entries, write_entry};
 pub use field_laws::{named_both_ways, numbers_both_ways};
 pub use ids::{item, job, next_item, next_job, next_tx, tx};
 pub use next_step::NextStep;

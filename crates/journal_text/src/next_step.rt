@@ -1,26 +1,27 @@
-//! The line of a step that is likely to be next.
-ghost use Rattle.std.specs.Prelude.{◌≡◌, ◌+◌, ◌-◌, ◌≤◌, ◌<◌, ◌^◌, ◌++◌, ℕ, List, None, Some, IfSome, IsTrue, length, take, drop, decimal, slice_index_or, option_map};
+//! The line of a Compute that is likely to be next, where lines are read and where they are written.
+ghost use Rattle.std.specs.Prelude.{◌≡◌, ◌+◌, ◌-◌, ◌≤◌, ◌<◌, ◌^◌, ◌++◌, ℕ, List, None, Some, IfSome, IsTrue, length, take, drop, decimal, slice_index_or, option_map, false, vec_len, vec_capacity};
 ghost use Rattle.rt_base.specs.declared.name.Names.{Names as AllNames};
 ghost use Rattle.rt_base.specs.declared.ids.JobId.{JobId as Job};
 ghost use Rattle.step_journal.specs.declared.entry.Entry.TheVariants.{Step};
 ghost use Rattle.journal_text.specs.Cuts.{field, Lacks, Ends};
-ghost use Rattle.journal_text.specs.Ids.{job_of};
+ghost use Rattle.journal_text.specs.Ids.{job_of, job_text};
 ghost use Rattle.journal_text.specs.Reading.{entry_of};
-ghost use Rattle.journal_text.specs.Next.{step_by, first_entry as first_entry_of, IsNext};
+ghost use Rattle.journal_text.specs.Next.{step_by, first_entry as first_entry_of, compute_line, front_of, IsNext, IsOwn};
 
 use crate::cuts::cut;
 use crate::ids::next_job;
 use crate::numbers::next_unsigned;
 use crate::reading::{after, any_entry, step_after};
+use crate::writing::put;
 use name_table::NameTables;
 use rt_base::{JobId, Op, Outcome, Tick, TxId};
 use step_journal::Entry;
 
 /// The line of a Compute of a job at a tick at which nothing ends, with its line end; or nothing. It is what is likely to be
-/// next where a history's lines are read.
+/// next where a history's lines are read or written.
 #[derive(Drop)]
 pub struct NextStep {
-    line: [u8; 96],
+    line: [u8; 64],
     // 0 where there is nothing.
     len: usize,
     job: JobId,
@@ -86,20 +87,27 @@ fn same_front(a: &[u8], b: &[u8], len: usize) -> bool
 
 // Writes bytes from a place on.
 #[inline(always)]
-fn put_at(line: &mut [u8; 96], at: usize, bytes: &[u8])
-    requires { at + length bytes.now ≤ 96 }
+fn put_at(line: &mut [u8; 64], at: usize, bytes: &[u8])
+    requires { at + length bytes.now ≤ 64 }
     ensures { take (at + length bytes.now) line.new ≡ take at line.old ++ bytes.now }
 {
     line[at..at + bytes.len()].copy_from_slice(bytes);
 }
 
+fn same_job(a: JobId, b: JobId) -> bool
+    ensures { IsTrue result → a ≡ b }
+{
+    a.tx.0 == b.tx.0 && a.serial == b.serial
+}
+
 impl NextStep {
     /// Nothing.
     pub fn new() -> NextStep
-        ensures { (names : AllNames) → IsNext names result }
+        ensures next { (names : AllNames) → IsNext names result }
+        ensures own { (names : AllNames) → IsOwn names result }
     {
         NextStep {
-            line: [0; 96],
+            line: [0; 64],
             len: 0,
             job: JobId {
                 tx: TxId(0),
@@ -112,7 +120,7 @@ impl NextStep {
     // What follows the tick, where a line begins as this one up to there.
     #[inline(always)]
     fn passed<'a>(&self, line: &'a [u8]) -> Option<&'a [u8]>
-        requires { self.now.len ≤ 96 }
+        requires { self.now.len ≤ 64 }
         ensures some { IfSome result (λ rest. 18 ≤ self.now.len) }
         ensures front { IfSome result (λ rest. line.now ≡ take (self.now.len - 9) self.now.line ++ rest.now) }
         ensures ends { IfSome result (λ rest. Ends rest.now) }
@@ -130,7 +138,7 @@ impl NextStep {
     // What follows this line, where a text begins with it.
     #[inline(always)]
     fn computed<'a>(&self, text: &'a [u8]) -> Option<&'a [u8]>
-        requires { self.now.len ≤ 96 }
+        requires { self.now.len ≤ 64 }
         ensures some { IfSome result (λ rest. 18 ≤ self.now.len) }
         ensures front { IfSome result (λ rest. text.now ≡ take self.now.len self.now.line ++ rest.now) }
     {
@@ -145,8 +153,9 @@ impl NextStep {
     #[inline(always)]
     fn go_on(&mut self)
         requires some { 18 ≤ self.old.len }
-        requires within { self.old.len ≤ 96 }
-        ensures { (names : AllNames) → IsNext names self.old → IsNext names self.new }
+        requires within { self.old.len ≤ 64 }
+        ensures next { (names : AllNames) → IsNext names self.old → IsNext names self.new }
+        ensures own { (names : AllNames) → IsOwn names self.old → IsOwn names self.new }
     {
         let last = self.len - COMPUTE - 1;
         if u64::MAX <= self.tick {
@@ -165,11 +174,12 @@ impl NextStep {
 
     // Notes the line of a job and a tick, by their fields, and goes on to the next tick.
     #[inline(never)]
-    fn note(&mut self, fields: &[u8], job: JobId, tick: Tick)
-        ensures { (names : AllNames) (word : List ℕ) → fields.now ≡ field word ++ field (decimal tick) → job_of names.txns word ≡ Some job → Lacks 32 word → Lacks 10 word → IsNext names self.new }
+    pub(crate) fn note(&mut self, fields: &[u8], job: JobId, tick: Tick)
+        ensures own { (names : AllNames) → fields.now ≡ field (job_text names.txns job) ++ field (decimal tick) → IsOwn names self.new }
+        ensures next { (names : AllNames) (word : List ℕ) → fields.now ≡ field word ++ field (decimal tick) → job_of names.txns word ≡ Some job → Lacks 32 word → Lacks 10 word → IsNext names self.new }
     {
         self.len = 0;
-        if fields.len() > 80 {
+        if fields.len() > 48 {
             return;
         }
         if fields.len() < 5 {
@@ -183,6 +193,61 @@ impl NextStep {
         self.job = job;
         self.tick = tick;
         self.go_on();
+    }
+
+    // Whether this is the line of a Compute of this job at this tick.
+    #[inline(always)]
+    fn is_of(&self, job: JobId, tick: Tick) -> bool
+        ensures { IsTrue result → (18 ≤ self.now.len) × (job ≡ self.now.job) × (tick ≡ self.now.tick) }
+    {
+        LEAST <= self.len && tick == self.tick && same_job(job, self.job)
+    }
+
+    // Adds this line, if it is that of this Compute, and goes on to the next tick: whether it is. Else nothing changes.
+    #[inline(always)]
+    pub(crate) fn put(&mut self, job: JobId, tick: Tick, into: &mut Vec<u8>) -> bool
+        requires own { (names : AllNames) × IsOwn names self.old }
+        requires room { vec_len into.old + 64 ≤ vec_capacity into.old }
+        ensures line { IsTrue result → (names : AllNames) → IsOwn names self.old → into.new.items ≡ into.old.items ++ compute_line names job tick }
+        ensures other { result ≡ false → (into.new.items ≡ into.old.items) × (vec_len into.new ≡ vec_len into.old) }
+        ensures fits { (job.serial < 2 ^ 32) × (tick < 2 ^ 64) }
+        ensures len { vec_len into.new ≤ vec_len into.old + 64 }
+        ensures room { vec_capacity into.old ≤ vec_capacity into.new }
+        ensures own { (names : AllNames) → IsOwn names self.old → IsOwn names self.new }
+    {
+        if !self.is_of(job, tick) {
+            return false;
+        }
+        let end = into.len() + self.len;
+        let line = self.line;
+        put(into, &line);
+        into.truncate(end);
+        self.go_on();
+        true
+    }
+
+    // Adds this line up to its operation, if it is that of this job and tick, and goes on to the next tick: whether it is. Else
+    // nothing changes.
+    #[inline(always)]
+    pub(crate) fn put_front(&mut self, job: JobId, tick: Tick, into: &mut Vec<u8>) -> bool
+        requires own { (names : AllNames) × IsOwn names self.old }
+        requires room { vec_len into.old + 64 ≤ vec_capacity into.old }
+        ensures line { IsTrue result → (names : AllNames) → IsOwn names self.old → into.new.items ≡ into.old.items ++ front_of (job_text names.txns job) tick }
+        ensures other { result ≡ false → (into.new.items ≡ into.old.items) × (vec_len into.new ≡ vec_len into.old) }
+        ensures fits { (job.serial < 2 ^ 32) × (tick < 2 ^ 64) }
+        ensures len { vec_len into.new ≤ vec_len into.old + 55 }
+        ensures room { vec_capacity into.old ≤ vec_capacity into.new }
+        ensures own { (names : AllNames) → IsOwn names self.old → IsOwn names self.new }
+    {
+        if !self.is_of(job, tick) {
+            return false;
+        }
+        let end = into.len() + (self.len - COMPUTE);
+        let line = self.line;
+        put(into, &line);
+        into.truncate(end);
+        self.go_on();
+        true
     }
 
     // The job and the tick of a step that is not the one that was likely, and what follows them in its line.

@@ -75,12 +75,20 @@ impl Numeral {
         }
     }
 
-    // Apart, so that nothing of it is made where the digits are there.
+    // Apart, so that nothing of it is made where the digits are there. Where only the last two digits change, these alone are
+    // made.
     #[inline(never)]
     fn make(&mut self, number: u64)
         ensures { self.new ≡ number }
     {
-        *self = Numeral::of(number);
+        if 10 <= number && 10 <= self.number && number / 100 == self.number / 100 {
+            let last = self.len - 1;
+            self.digits[last - 1] = b'0' + (number / 10 % 10) as u8;
+            self.digits[last] = b'0' + (number % 10) as u8;
+            self.number = number;
+        } else {
+            *self = Numeral::of(number);
+        }
     }
 
     /// Adds the digits to text: all places by one copy, of which those after the digits are taken off again.

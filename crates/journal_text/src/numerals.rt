@@ -28,10 +28,10 @@ impl Numerals {
         }
     }
 
-    // Adds a blank and a tick.
+    /// Adds a blank and a tick. The digits are those of the latest one, where they are the same.
     #[inline(always)]
     #[tactic(auto, using(crate::proofs::IdLaws::unsigned_length))]
-    pub(crate) fn put_tick(&mut self, into: &mut Vec<u8>, tick: Tick)
+    pub fn put_tick(&mut self, into: &mut Vec<u8>, tick: Tick)
         requires { vec_len into.old + 33 ≤ vec_capacity into.old }
         ensures items { into.new.items ≡ into.old.items ++ field (decimal tick) }
         ensures fits { tick < 2 ^ 64 }
@@ -43,10 +43,10 @@ impl Numerals {
         self.tick.put(into);
     }
 
-    // Adds a blank and a job.
+    /// Adds a blank and a job. The digits of its serial are those of the latest one of its transaction, where they are the same.
     #[inline(always)]
     #[tactic(auto, using(crate::proofs::IdLaws::short_length))]
-    pub(crate) fn put_job(&mut self, into: &mut Vec<u8>, txns: &[Name], job: JobId)
+    pub fn put_job(&mut self, into: &mut Vec<u8>, txns: &[Name], job: JobId)
         requires known { job.tx.0 < length txns.now }
         requires room { vec_len into.old + 66 ≤ vec_capacity into.old }
         ensures items { into.new.items ≡ into.old.items ++ field (job_text txns.now job) }

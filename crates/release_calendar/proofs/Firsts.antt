@@ -50,10 +50,8 @@ is_known (q ∷ rest) zero some = omega arith
 is_known (q ∷ rest) (suc tx) some = omega (arith, is_known rest tx some)
 
 -- the first queue that begins at the least tick
-pub place_first : (queues : List (List Planned)) (heads : List ℕ) (waiting least tick first : ℕ) → AreQueues queues heads waiting → IsLeast heads least → IsFirstLeast heads first → least ≡ tick → tick < no_tick → IsPlace tick queues first 0
-place_first queues heads waiting least tick first are is is_first e lt =
-    let among : tick_at heads is.among.0 ≡ least = is.among.1 in
-    let at : tick_at heads first ≡ tick = omega (arith, among, e, is.below first, is_first.below is.among.0) in
+pub place_first : (queues : List (List Planned)) (heads : List ℕ) (waiting tick first : ℕ) → AreQueues queues heads waiting → IsFirstLeast heads first → tick_at heads first ≡ tick → tick < no_tick → IsPlace tick queues first 0
+place_first queues heads waiting tick first are is_first at lt =
     let here : (0 < length (queue_of queues first)) × ((d : Planned) → (get_or (queue_of queues first) 0 d).tick ≡ tick) = begins_at (queue_of queues first) tick (sym (are.begins first) ∙ at) lt in
     place_found queues tick first 0 are.each
     (λ k below i d within q.

@@ -53,6 +53,14 @@ queue_less tx q i lt is = record {
   rising = rising_less q i lt is.rising;
 }
 
+-- a queue begins at a tick, or there is none
+head_low : (tx : ℕ) (q : List Planned) → IsQueue tx q → head_tick q ≤ no_tick
+head_low tx [] is = omega arith
+head_low tx (p ∷ rest) is = (let lt : p.tick < no_tick = is.low 0 p (omega arith) in omega (arith, lt))
+
+pub left_low : (tx : ℕ) (q : List Planned) (i : ℕ) → i < length q → IsQueue tx q → head_tick (remove q i) ≤ no_tick
+left_low tx q i lt is = head_low tx (remove q i) (queue_less tx q i lt is)
+
 each_set : (queues : List (List Planned)) (tx : ℕ) (q : List Planned) → tx < length queues → ((k : ℕ) → IsQueue k (queue_of queues k)) → IsQueue tx q → (k : ℕ) → IsQueue k (queue_of (set queues tx q) k)
 each_set queues tx q lt each is k =
     elim (cases_eq k tx) [

@@ -1,5 +1,6 @@
 mod Firsts
 mod Keeps
+mod Keys
 mod Leasts
 mod Moves
 mod Releases

@@ -35,7 +35,8 @@ impl Model for Calendar {
 
 impl Calendar {
     /// Nothing planned, of transactions with these periods, each from 1 to 2^30 ticks. There is room for so many planned
-    /// releases in all, and that room is reserved for each transaction.
+    /// releases in all, and that room is reserved for each transaction. Err comes where a growth was refused, and for more than
+    /// 2^22 transactions.
     pub fn new(alloc: Global, periods: Vec<Tick>, room: usize) -> Result<Calendar, OutOfMemory>
         requires { ArePeriods periods.items }
         ensures periods { IfOk result (λ c. c.periods ≡ periods.items) }
@@ -132,7 +133,7 @@ impl Calendar {
 
     /// Takes out one release that is planned for a tick, the one with the least transaction number; None exactly where there
     /// is none. It costs one comparison where nothing is planned up to that tick. Where nothing is planned before it, it costs
-    /// at most 32 looks for up to 64 transactions, and at most 16 more for each 64 further ones. Else it goes over the planned
+    /// at most 16 looks for up to 64 transactions, and at most 8 more for each 64 further ones. Else it goes over the planned
     /// releases.
     pub fn due(&mut self, tick: Tick) -> Option<JobId>
         ensures due { (planned : List Release) → Holds self.old planned → MatchOption result (NothingDue tick planned) (IsDue tick planned) }

@@ -5,7 +5,7 @@ ghost use Rattle.std.specs.VecDeque.{deque_capacity};
 ghost use Rattle.release_calendar.specs.Heads.{no_tick, tick_at};
 ghost use Rattle.release_calendar.specs.Queues.{IsFirstTick, IsPlace, NoneAt, head_tick, queue_of, queued};
 
-use crate::heads::Heads;
+use crate::heads::{Heads, NO_TICK};
 use crate::planned::Planned;
 use rt_base::{OutOfMemory, Tick};
 use std::alloc::Global;
@@ -90,7 +90,7 @@ impl Queues {
     /// Puts a release last into the queue of its transaction. It costs a few comparisons, however many there are.
     pub fn put(&mut self, next: Planned)
         requires tx { next.tx < length self.old.queues }
-        requires tick { next.tick < 2 ^ 64 - 1 }
+        requires tick { next.tick < no_tick }
         requires rising { All (λ p. p.tick ≤ next.tick) (queue_of self.old.queues next.tx) }
         requires room { length (queued self.old.queues) < self.old.room }
         ensures queues { self.new.queues ≡ slice_set self.old.queues next.tx (queue_of self.old.queues next.tx ++ next ∷ []) }
@@ -111,19 +111,13 @@ impl Queues {
     }
 
     /// Where the first release of all stands, if it is for a tick: at the head of the first queue that begins then. It costs two
-    /// comparisons, and looks at the ticks at which queues begin up to that.
+    /// comparisons.
     #[inline(always)]
     pub fn first_at(&self, tick: Tick) -> Option<Place>
         ensures { IfSome result (λ place. IsPlace tick self.now.queues place.tx place.index) }
     {
-        if self.heads.least() == tick && tick != Tick::MAX {
-            Some(Place {
-                tx: self.heads.first(),
-                index: 0,
-            })
-        } else {
-            None
-        }
+        let tx = self.heads.first_at(tick)?;
+        Some(Place { tx, index: 0 })
     }
 
     /// Where the release for a tick of the least transaction stands. One comparison tells that there is none where nothing is
@@ -167,13 +161,13 @@ impl Queues {
     }
 }
 
-/// The tick at which a queue begins, or the last tick of all where it is empty.
+/// The tick at which a queue begins, or none where it is empty.
 fn begins(queue: &VecDeque<Planned>) -> Tick
     ensures { result ≡ head_tick queue.now.items }
 {
     match queue.front() {
         Some(next) => next.tick,
-        None => Tick::MAX,
+        None => NO_TICK,
     }
 }
 
@@ -181,6 +175,7 @@ fn begins(queue: &VecDeque<Planned>) -> Tick
 fn come(heads: &mut Heads, queue: &VecDeque<Planned>, next: Planned)
     requires tx { next.tx < length heads.old }
     requires begins { tick_at heads.old next.tx ≡ head_tick queue.now.items }
+    requires tick { next.tick < no_tick }
     ensures { heads.new ≡ slice_set heads.old next.tx (head_tick (queue.now.items ++ next ∷ [])) }
 {
     if queue.is_empty() {

@@ -10,7 +10,8 @@ use Rattle.job_rows.specs.Upkeep.{RowsSeen, Follows, planned_jobs}
 use Rattle.report_text.specs.Texts.{entries_text, NamesSet}
 use Rattle.report_out.specs.declared.standing.Standing.{Standing}
 use Rattle.report_out.specs.declared.standing.Standing.TheVariants.{Going, Cut, Full}
-use Rattle.report_out.specs.Outs.{Begun, OutSeen, IsGoing, TakenAt, LostAt, HasTaken, IsLost, Continues}
+use Rattle.report_out.specs.Outs.{Begun, OutSeen, IsGoing, TakenAt, LostAt, HasTaken, IsLost}
+use Rattle.run_report.specs.Report.{Continues}
 use Rattle.report_out.proofs.Texts.{legal_front, planned_append, text_append, appends_none}
 use Rattle.io_edge.proofs.Known.{appends_then}
 

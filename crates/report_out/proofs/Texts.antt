@@ -1,7 +1,7 @@
 -- The lines of entries, as far as they were handed on.
-use Rattle.std.proofs.Common.{◌≡◌, ℕ, zero, suc, ◌+◌, ◌*◌, ◌<◌, ◌≤◌, List, [], ◌∷◌, ◌++◌, take, drop, length, get_or, Option, None, Some, Result, Ok, Err, OnOk, OnErr, refl, sym, ap, subst, ◌∙◌, arith, length-append, append_assoc, append-nil, drop-cons, add-one}
-use Rattle.std.proofs.lemmas.List.{take-append-drop}
-use Rattle.std.proofs.Math.Seq.{take-append_seam}
+use Rattle.std.proofs.Common.{◌≡◌, ℕ, zero, suc, ◌+◌, ◌-◌, ◌*◌, ◌<◌, ◌≤◌, List, [], ◌∷◌, ◌++◌, take, drop, length, get_or, Option, None, Some, Result, Ok, Err, OnOk, OnErr, refl, sym, ap, subst, ◌∙◌, arith, length-append, append_assoc, append-nil, drop-cons, add-one}
+use Rattle.std.proofs.lemmas.List.{take-append-drop, take_all, length-drop}
+use Rattle.std.proofs.Math.Seq.{take-append_seam, take-nil}
 use Rattle.std.proofs.Math.ListN.{drop_of_length-le}
 use Rattle.std.specs.List.{filter}
 use Rattle.std.specs.Io.KnownBytes.{Appends}
@@ -14,8 +14,7 @@ use Rattle.step_journal.specs.History.{IsLegal, IsLegalFrom, state_after}
 use Rattle.job_rows.specs.Upkeep.{RowsSeen, Follows, is_plan, planned_jobs}
 use Rattle.report_text.specs.Rows.{numbered}
 use Rattle.report_text.specs.Texts.{entries_text, whole_entry_line}
-use Rattle.run_report.specs.Report.{Writes}
-use Rattle.report_out.specs.Outs.{Continues}
+use Rattle.run_report.specs.Report.{Continues}
 use Rattle.io_edge.proofs.Known.{appends_then}
 
 -- ---- fronts of histories
@@ -33,53 +32,67 @@ planned_append xs ys = ap (λ (l : List Entry). length l) (filter-append is_plan
 pub planned_front : (xs ys : List Entry) → planned_jobs xs ≤ planned_jobs (xs ++ ys)
 planned_front xs ys = omega (arith, planned_append xs ys)
 
--- the entries up to and with the one at a place, and the rest
-pub parts_at : (story entries : List Entry) (i : ℕ) (e d : Entry) → i < length entries → e ≡ get_or entries i d
-    → story ++ entries ≡ ((story ++ take i entries) ++ e ∷ []) ++ drop (i + 1) entries
-parts_at story entries i e d lt is =
-    let rest : drop i entries ≡ e ∷ drop (i + 1) entries =
-    drop-cons entries i d lt ∙ (ap (λ (x : Entry). x ∷ drop (suc i) entries) (sym is) ∙ ap (λ (n : ℕ). e ∷ drop n entries) (sym (add-one i))) in
-    ap (λ (l : List Entry). story ++ l) (sym (take-append-drop i entries))
-    ∙ (ap (λ (l : List Entry). story ++ (take i entries ++ l)) rest
-    ∙ (sym (append_assoc story (take i entries) (e ∷ drop (i + 1) entries))
-    ∙ sym (append_assoc (story ++ take i entries) (e ∷ []) (drop (i + 1) entries))))
+-- the first so many of the entries after a place
+take_plus : (i n : ℕ) (entries : List Entry) → take (i + n) entries ≡ take i entries ++ take n (drop i entries)
+take_plus zero n entries = (let q : 0 + n ≡ n = omega arith in ap (λ (k : ℕ). take k entries) q)
+take_plus (suc i) n [] = (let q : suc i + n ≡ suc (i + n) = omega arith in ap (λ (k : ℕ). take {A = Entry} k []) q ∙ sym (take-nil n))
+take_plus (suc i) n (e ∷ es) = (let q : suc i + n ≡ suc (i + n) = omega arith in ap (λ (k : ℕ). take k (e ∷ es)) q ∙ ap (λ (l : List Entry). e ∷ l) (take_plus i n es))
 
--- the entry at a place is the next one
-pub next_writes : (names : Names) (rows now : RowsSeen) (entries : List Entry) (i : ℕ) (e d : Entry) → (c : Continues names rows entries)
-    → i < length entries → e ≡ get_or entries i d → now.room ≡ rows.room
-    → ((set : Set) (story : List Entry) → Follows set rows story → IsLegal set (story ++ entries) → Follows set now (story ++ take i entries))
-    → Writes names now e
-next_writes names rows now entries i e d c lt is room follows =
-    let parts = parts_at c.story entries i e d lt is in
-    let legal : IsLegal c.set (((c.story ++ take i entries) ++ e ∷ []) ++ drop (i + 1) entries) = subst (IsLegal c.set) parts c.legal in
-    let few : planned_jobs ((c.story ++ take i entries) ++ e ∷ []) ≤ planned_jobs (c.story ++ entries) =
-    subst (λ (l : List Entry). planned_jobs ((c.story ++ take i entries) ++ e ∷ []) ≤ planned_jobs l) (sym parts) (planned_front ((c.story ++ take i entries) ++ e ∷ []) (drop (i + 1) entries)) in
+drop_plus : (i n : ℕ) (entries : List Entry) → drop n (drop i entries) ≡ drop (i + n) entries
+drop_plus zero n entries = (let q : n ≡ 0 + n = omega arith in ap (λ (k : ℕ). drop k entries) q)
+drop_plus (suc i) n [] = drop_none n ∙ (let q : suc (i + n) ≡ suc i + n = omega arith in ap (λ (k : ℕ). drop {A = Entry} k []) q) where
+  drop_none : (n : ℕ) → drop {A = Entry} n [] ≡ []
+  drop_none zero = refl
+  drop_none (suc n) = refl
+drop_plus (suc i) n (e ∷ es) = drop_plus i n es ∙ (let q : suc (i + n) ≡ suc i + n = omega arith in ap (λ (k : ℕ). drop k (e ∷ es)) q)
+
+pub rest_is : (n : ℕ) (entries : List Entry) → take (length entries - n) (drop n entries) ≡ drop n entries
+rest_is n entries = take_all (length entries - n) (drop n entries) (omega (arith, length-drop n entries))
+
+-- a front of the entries goes on too
+pub continues_front : (names : Names) (rows : RowsSeen) (entries : List Entry) (n : ℕ) → Continues names rows entries → Continues names rows (take n entries)
+continues_front names rows entries n c =
+    let parts : c.story ++ entries ≡ (c.story ++ take n entries) ++ drop n entries =
+    ap (λ (l : List Entry). c.story ++ l) (sym (take-append-drop n entries)) ∙ sym (append_assoc c.story (take n entries) (drop n entries)) in
+    let fewer : planned_jobs (c.story ++ take n entries) ≤ planned_jobs (c.story ++ entries) =
+    subst (λ (l : List Entry). planned_jobs (c.story ++ take n entries) ≤ planned_jobs l) (sym parts) (planned_front (c.story ++ take n entries) (drop n entries)) in
     record {
-      goes = record {
-        set = c.set;
-        story = c.story ++ take i entries;
-        follows = follows c.set c.story c.follows c.legal;
-        legal = legal_front c.set ((c.story ++ take i entries) ++ e ∷ []) (drop (i + 1) entries) legal;
-        fits = omega (arith, few, c.few, room);
-      };
+      set = c.set;
+      story = c.story;
       one_each = c.one_each;
+      follows = c.follows;
+      legal = legal_front c.set (c.story ++ take n entries) (drop n entries) (subst (IsLegal c.set) parts c.legal);
+      few = omega (arith, fewer, c.few);
     }
 
-pub take_next : (entries : List Entry) (i : ℕ) (e d : Entry) → i < length entries → e ≡ get_or entries i d
-    → take i entries ++ e ∷ [] ≡ take (suc i) entries
-take_next [] i e d lt is = absurd (omega (arith, lt))
-take_next (x ∷ xs) zero e d lt is = ap (λ (y : Entry). y ∷ []) is
-take_next (x ∷ xs) (suc i) e d lt is = ap (λ (l : List Entry). x ∷ l) (take_next xs i e d (omega (arith, lt)) is)
+-- what is left of the entries goes on after those before
+pub continues_rest : (names : Names) (rows now : RowsSeen) (entries : List Entry) (i : ℕ) → (c : Continues names rows entries) → now.room ≡ rows.room
+    → ((set : Set) (story : List Entry) → Follows set rows story → IsLegal set (story ++ entries) → Follows set now (story ++ take i entries))
+    → Continues names now (drop i entries)
+continues_rest names rows now entries i c room follows =
+    let parts : c.story ++ entries ≡ (c.story ++ take i entries) ++ drop i entries =
+    ap (λ (l : List Entry). c.story ++ l) (sym (take-append-drop i entries)) ∙ sym (append_assoc c.story (take i entries) (drop i entries)) in
+    record {
+      set = c.set;
+      story = c.story ++ take i entries;
+      one_each = c.one_each;
+      follows = follows c.set c.story c.follows c.legal;
+      legal = subst (IsLegal c.set) parts c.legal;
+      few = omega (arith, ap planned_jobs parts, c.few, room);
+    }
 
-pub follows_next : (set : Set) (rows now now' : RowsSeen) (entries story : List Entry) (i : ℕ) (e d : Entry) → i < length entries → e ≡ get_or entries i d
-    → (Follows set rows story → IsLegal set (story ++ entries) → Follows set now (story ++ take i entries))
-    → ((before : List Entry) → Follows set now before → IsLegal set (before ++ e ∷ []) → Follows set now' (before ++ e ∷ []))
-    → Follows set rows story → IsLegal set (story ++ entries) → Follows set now' (story ++ take (i + 1) entries)
-follows_next set rows now now' entries story i e d lt is so_far next h legal =
-    let parts = parts_at story entries i e d lt is in
-    let here : IsLegal set ((story ++ take i entries) ++ e ∷ []) = legal_front set ((story ++ take i entries) ++ e ∷ []) (drop (i + 1) entries) (subst (IsLegal set) parts legal) in
-    subst (Follows set now') (append_assoc story (take i entries) (e ∷ []) ∙ ap (λ (l : List Entry). story ++ l) (take_next entries i e d lt is ∙ ap (λ (n : ℕ). take n entries) (sym (add-one i))))
-    (next (story ++ take i entries) (so_far h legal) here)
+pub follows_more : (rows now now' : RowsSeen) (entries : List Entry) (i n : ℕ)
+    → ((set : Set) (story : List Entry) → Follows set rows story → IsLegal set (story ++ entries) → Follows set now (story ++ take i entries))
+    → ((set : Set) (before : List Entry) → Follows set now before → IsLegal set (before ++ take n (drop i entries)) → Follows set now' (before ++ take n (drop i entries)))
+    → (set : Set) (story : List Entry) → Follows set rows story → IsLegal set (story ++ entries) → Follows set now' (story ++ take (i + n) entries)
+follows_more rows now now' entries i n so_far next set story h legal =
+    let front : story ++ take (i + n) entries ≡ (story ++ take i entries) ++ take n (drop i entries) =
+    ap (λ (l : List Entry). story ++ l) (take_plus i n entries) ∙ sym (append_assoc story (take i entries) (take n (drop i entries))) in
+    let parts : story ++ entries ≡ (story ++ take (i + n) entries) ++ drop (i + n) entries =
+    ap (λ (l : List Entry). story ++ l) (sym (take-append-drop (i + n) entries)) ∙ sym (append_assoc story (take (i + n) entries) (drop (i + n) entries)) in
+    let here : IsLegal set ((story ++ take i entries) ++ take n (drop i entries)) =
+    subst (IsLegal set) front (legal_front set (story ++ take (i + n) entries) (drop (i + n) entries) (subst (IsLegal set) parts legal)) in
+    subst (Follows set now') (sym front) (next set (story ++ take i entries) (so_far set story h legal) here)
 
 -- ---- their lines
 
@@ -88,18 +101,19 @@ any_place : (names : Names) (i j : ℕ) (entries : List Entry) → numbered (who
 any_place names i j [] = refl
 any_place names i j (e ∷ es) = ap (λ (t : List ℕ). whole_entry_line names 0 e ++ t) (any_place names (i + 1) (j + 1) es)
 
-pub text_cons : (names : Names) (entries : List Entry) (i : ℕ) (e d : Entry) → i < length entries → e ≡ get_or entries i d
-    → entries_text names (drop i entries) ≡ whole_entry_line names 0 e ++ entries_text names (drop (i + 1) entries)
-text_cons names entries i e d lt is =
-    ap (entries_text names) (drop-cons entries i d lt ∙ (ap (λ (x : Entry). x ∷ drop (suc i) entries) (sym is) ∙ ap (λ (n : ℕ). e ∷ drop n entries) (sym (add-one i))))
-    ∙ ap (λ (t : List ℕ). whole_entry_line names 0 e ++ t) (any_place names 1 0 (drop (i + 1) entries))
-
 pub text_append : (names : Names) (xs ys : List Entry) → entries_text names (xs ++ ys) ≡ entries_text names xs ++ entries_text names ys
 text_append names [] ys = refl
 text_append names (x ∷ xs) ys =
     ap (λ (t : List ℕ). whole_entry_line names 0 x ++ t) (any_place names 1 0 (xs ++ ys) ∙ text_append names xs ys)
     ∙ (sym (append_assoc (whole_entry_line names 0 x) (entries_text names xs) (entries_text names ys))
     ∙ ap (λ (t : List ℕ). (whole_entry_line names 0 x ++ t) ++ entries_text names ys) (any_place names 0 1 xs))
+
+pub text_parts : (names : Names) (entries : List Entry) (i n : ℕ)
+    → entries_text names (drop i entries) ≡ entries_text names (take n (drop i entries)) ++ entries_text names (drop (i + n) entries)
+text_parts names entries i n =
+    ap (entries_text names) (sym (take-append-drop n (drop i entries)))
+    ∙ (text_append names (take n (drop i entries)) (drop n (drop i entries))
+    ∙ ap (λ (l : List Entry). entries_text names (take n (drop i entries)) ++ entries_text names l) (drop_plus i n entries))
 
 -- what was handed on, with the lines that wait and those of the entries to come, is the whole
 pub record IsOnTheWay (taken now : Option (List ℕ)) (waiting coming whole : List ℕ) : Type 0 where
@@ -164,16 +178,16 @@ has_begun names rows entries taken lines none = record {
   places = refl;
 }
 
-pub has_come : (names : Names) (rows now now' : RowsSeen) (entries : List Entry) (i : ℕ) (e d : Entry) (taken now_taken then : Option (List ℕ)) (lines lines' : List ℕ)
-    → HasCome names rows now entries i taken now_taken lines → i < length entries → e ≡ get_or entries i d
-    → (sent : List ℕ) → Appends now_taken then sent → sent ++ lines' ≡ lines ++ whole_entry_line names 0 e
-    → ((set : Set) (before : List Entry) → Follows set now before → IsLegal set (before ++ e ∷ []) → Follows set now' (before ++ e ∷ []))
+pub has_come : (names : Names) (rows now now' : RowsSeen) (entries : List Entry) (i n : ℕ) (taken now_taken then : Option (List ℕ)) (lines lines' : List ℕ)
+    → HasCome names rows now entries i taken now_taken lines
+    → (sent : List ℕ) → Appends now_taken then sent → sent ++ lines' ≡ lines ++ entries_text names (take n (drop i entries))
+    → ((set : Set) (before : List Entry) → Follows set now before → IsLegal set (before ++ take n (drop i entries)) → Follows set now' (before ++ take n (drop i entries)))
     → now'.room ≡ now.room
-    → HasCome names rows now' entries (i + 1) taken then lines'
-has_come names rows now now' entries i e d taken now_taken then lines lines' h lt is sent has parts next places = record {
-  way = goes_on taken now_taken then lines lines' (whole_entry_line names 0 e) (entries_text names (drop i entries)) (entries_text names (drop (i + 1) entries))
-      (entries_text names entries) h.way (text_cons names entries i e d lt is) sent has parts;
-  follows = λ set story f legal. follows_next set rows now now' entries story i e d lt is (h.follows set story) (next set) f legal;
+    → HasCome names rows now' entries (i + n) taken then lines'
+has_come names rows now now' entries i n taken now_taken then lines lines' h sent has parts next places = record {
+  way = goes_on taken now_taken then lines lines' (entries_text names (take n (drop i entries))) (entries_text names (drop i entries)) (entries_text names (drop (i + n) entries))
+      (entries_text names entries) h.way (text_parts names entries i n) sent has parts;
+  follows = follows_more rows now now' entries i n h.follows next;
   places = places ∙ h.places;
 }
 
@@ -185,11 +199,11 @@ pub record AreCounted (names : Names) (entries : List Entry) (i bytes : ℕ) : T
 pub counted_none : (names : Names) (entries : List Entry) → AreCounted names entries 0 0
 counted_none names entries = record { all = omega arith; short = omega arith }
 
-pub counted_next : (names : Names) (entries : List Entry) (i bytes n : ℕ) (e d : Entry) → AreCounted names entries i bytes → i < length entries
-    → e ≡ get_or entries i d → n ≡ length (whole_entry_line names 0 e) → n ≤ 256 → AreCounted names entries (i + 1) (bytes + n)
-counted_next names entries i bytes n e d c lt is line few =
-    let next = ap (λ (t : List ℕ). length t) (text_cons names entries i e d lt is) ∙ length-append (whole_entry_line names 0 e) (entries_text names (drop (i + 1) entries)) in
-    record { all = omega (arith, c.all, next, line); short = omega (arith, c.short, few) }
+pub counted_next : (names : Names) (entries : List Entry) (i n bytes more : ℕ) → AreCounted names entries i bytes
+    → more ≡ length (entries_text names (take n (drop i entries))) → more ≤ 256 * n → AreCounted names entries (i + n) (bytes + more)
+counted_next names entries i n bytes more c text few =
+    let next = ap (λ (t : List ℕ). length t) (text_parts names entries i n) ∙ length-append (entries_text names (take n (drop i entries))) (entries_text names (drop (i + n) entries)) in
+    record { all = omega (arith, c.all, next, text); short = omega (arith, c.short, few) }
 
 pub counted_all : (names : Names) (entries : List Entry) (i bytes : ℕ) → AreCounted names entries i bytes → length entries ≤ i → i ≤ length entries
     → (bytes ≡ length (entries_text names entries)) × (bytes ≤ 256 * length entries)

@@ -101,12 +101,3 @@ abbrev pub full_stops : Standing → ℕ
 full_stops Going = 0
 full_stops Cut = 0
 full_stops Full = 1
-
--- the entries go on after a history that the rows follow, of no more jobs than there are places
-pub record Continues (names : Names) (rows : RowsSeen) (entries : List Entry) : Type 0 where
-  pub set : Set
-  pub story : List Entry
-  pub one_each : NamesSet names set
-  pub follows : Follows set rows story
-  pub legal : IsLegal set (story ++ entries)
-  pub few : planned_jobs (story ++ entries) ≤ rows.room

@@ -6,9 +6,8 @@ ghost use Rattle.txn_set.specs.Set.{Set};
 ghost use Rattle.step_journal.specs.declared.entry.Entry.{Entry as Noted};
 ghost use Rattle.step_journal.specs.History.{IsLegal};
 ghost use Rattle.job_rows.specs.Upkeep.{Follows};
-ghost use Rattle.report_text.specs.Texts.{entries_text, whole_entry_line};
-ghost use Rattle.run_report.specs.Report.{Writes};
-ghost use Rattle.report_out.specs.Outs.{Continues};
+ghost use Rattle.report_text.specs.Texts.{entries_text};
+ghost use Rattle.run_report.specs.Report.{Continues};
 
 use io_edge::{Sink, WriteFault, write_all};
 use rt_base::Names;
@@ -17,6 +16,9 @@ use step_journal::Entry;
 
 // The most bytes of a line.
 const LINE: usize = 256;
+
+// Where less is free, the lines are handed on.
+const SPARE: usize = 32 * LINE;
 
 // Hands all lines to the sink.
 fn send<K: Sink>(lines: &mut Vec<u8>, sink: &mut K) -> Result<(), WriteFault>
@@ -40,38 +42,41 @@ fn make_room<K: Sink>(lines: &mut Vec<u8>, sink: &mut K) -> Result<(), WriteFaul
     ensures places { vec_capacity lines.new ≡ vec_capacity lines.old }
     ensures cause { HasCause (K.faults sink.old) (K.faults sink.new) result }
 {
-    if lines.capacity() - lines.len() < LINE {
+    if lines.capacity() - lines.len() < SPARE {
         send(lines, sink)
     } else {
         Ok(())
     }
 }
 
-// Adds the line of the next entry after the others, and answers how many bytes it has.
-#[inline(always)]
-fn add_line<K: Sink>(
+// Adds the lines of the next entries after the others, as many as there is surely room for, and answers how many entries these
+// are and how many bytes the lines have.
+fn add_some<K: Sink>(
     writer: &mut ReportWriter,
     names: &Names,
-    entry: &Entry,
+    entries: &[Entry],
     lines: &mut Vec<u8>,
     sink: &mut K,
-) -> Result<u64, WriteFault>
-    requires next { Writes names.now writer.old entry.now }
+) -> Result<(usize, u64), WriteFault>
+    requires next { Continues names.now writer.old entries.now }
+    requires some { 0 < length entries.now }
     requires room { 256 ≤ vec_capacity lines.old }
-    ensures added { OnOk result ((sent : Many ℕ) × Appends (K.taken sink.old) (K.taken sink.new) sent ×
-        (sent ++ lines.new.items ≡ lines.old.items ++ whole_entry_line names.now 0 entry.now)) }
-    ensures bytes { IfOk result (λ n. (n ≡ length (whole_entry_line names.now 0 entry.now)) × (n ≤ 256)) }
+    ensures some { IfOk result (λ p. (0 < p.0) × (p.0 ≤ length entries.now)) }
+    ensures added { IfOk result (λ p. (sent : Many ℕ) × Appends (K.taken sink.old) (K.taken sink.new) sent ×
+        (sent ++ lines.new.items ≡ lines.old.items ++ entries_text names.now (take p.0 entries.now))) }
+    ensures bytes { IfOk result (λ p. (p.1 ≡ length (entries_text names.now (take p.0 entries.now))) × (p.1 ≤ 256 * p.0)) }
     ensures front { OnErr result ((n : ℕ) × Appends (K.taken sink.old) (K.taken sink.new) (take n lines.old.items)) }
-    ensures follows { OnOk result ((set : Set) (story : Many Noted) → Follows set writer.old story →
-        IsLegal set (story ++ entry.now ∷ []) → Follows set writer.new (story ++ entry.now ∷ [])) }
+    ensures follows { IfOk result (λ p. (set : Set) (story : Many Noted) → Follows set writer.old story →
+        IsLegal set (story ++ take p.0 entries.now) → Follows set writer.new (story ++ take p.0 entries.now)) }
     ensures places { writer.new.room ≡ writer.old.room }
     ensures room { vec_capacity lines.old ≤ vec_capacity lines.new }
     ensures cause { HasCause (K.faults sink.old) (K.faults sink.new) result }
 {
     make_room(lines, sink)?;
     let before = lines.len();
-    writer.push(names, entry, lines);
-    Ok((lines.len() - before) as u64)
+    let count = ((lines.capacity() - before) / LINE).min(entries.len());
+    writer.push_all(names, &entries[..count], lines);
+    Ok((count, (lines.len() - before) as u64))
 }
 
 /// Hands the lines of the next entries to the sink, and answers how many bytes they have. `lines` is a place for them, of
@@ -97,8 +102,11 @@ pub(crate) fn add_lines<K: Sink>(
     ensures cause { HasCause (K.faults sink.old) (K.faults sink.new) result }
 {
     let mut bytes = 0;
-    for i in 0..entries.len() {
-        bytes += add_line(writer, names, &entries[i], lines, sink)?;
+    let mut done = 0;
+    while done < entries.len() {
+        let (count, more) = add_some(writer, names, &entries[done..], lines, sink)?;
+        done += count;
+        bytes += more;
     }
     send(lines, sink)?;
     Ok(bytes)

@@ -7,7 +7,7 @@ ghost use Rattle.report_text.specs.Texts.{by_text, close_text, job_line, jobs_te
 
 use item_model::Stored;
 use job_rows::JobRow;
-use journal_text::{put, put_end, put_job, put_name, put_signed, put_unsigned};
+use journal_text::{Numerals, put, put_end, put_job, put_name, put_signed, put_unsigned};
 use rt_base::{End, JobId, Names, OutOfMemory, Tick};
 use std::mem;
 
@@ -26,17 +26,23 @@ fn put_by(into: &mut Vec<u8>, names: &Names, by: Option<JobId>)
 }
 
 #[inline(always)]
-fn put_close(into: &mut Vec<u8>, names: &Names, release: Tick, end: Option<(End, Tick)>)
+fn put_close(
+    into: &mut Vec<u8>,
+    names: &Names,
+    release: Tick,
+    end: Option<(End, Tick)>,
+    numerals: &mut Numerals,
+)
     requires known { KnownClose names.now end }
     requires after { (e : EndOf) (tick : ℕ) → end ≡ Some (e, tick) → release ≤ tick }
-    requires room { vec_len into.old + 114 ≤ vec_capacity into.old }
+    requires room { vec_len into.old + 126 ≤ vec_capacity into.old }
     ensures items { into.new.items ≡ into.old.items ++ close_text names.now release end }
     ensures len { vec_len into.new ≤ vec_len into.old + 114 }
     ensures room { vec_capacity into.old ≤ vec_capacity into.new }
 {
     match end {
         Some((end, tick)) => {
-            put_unsigned(into, tick);
+            numerals.put_tick(into, tick);
             put_end(into, names, end);
             put_unsigned(into, tick - release);
         }
@@ -45,7 +51,7 @@ fn put_close(into: &mut Vec<u8>, names: &Names, release: Tick, end: Option<(End,
 }
 
 #[inline(always)]
-fn put_row(into: &mut Vec<u8>, names: &Names, row: &JobRow)
+fn put_row(into: &mut Vec<u8>, names: &Names, row: &JobRow, numerals: &mut Numerals)
     requires known { KnownRow names.now row.now }
     requires room { vec_len into.old + 256 ≤ vec_capacity into.old }
     ensures items { into.new.items ≡ into.old.items ++ job_line names.now 0 row.now }
@@ -53,16 +59,16 @@ fn put_row(into: &mut Vec<u8>, names: &Names, row: &JobRow)
     ensures room { vec_capacity into.old ≤ vec_capacity into.new }
 {
     put(into, b"job");
-    put_job(into, names.txns.as_slice(), row.job);
+    numerals.put_job(into, names.txns.as_slice(), row.job);
     put_unsigned(into, row.release);
-    put_close(into, names, row.release, row.end);
+    put_close(into, names, row.release, row.end, numerals);
     put_by(into, names, row.delayed_by);
     put_unsigned(into, row.delay);
     put(into, b"\n");
 }
 
-/// Adds the line of a job: at most 256 bytes. It takes no memory.
-pub fn put_job_line(into: &mut Vec<u8>, names: &Names, row: &JobRow)
+// Adds the line of a job: at most 256 bytes. It takes no memory.
+fn put_job_line(into: &mut Vec<u8>, names: &Names, row: &JobRow, numerals: &mut Numerals)
     requires known { KnownRow names.now row.now }
     requires room { vec_len into.old + 256 ≤ vec_capacity into.old }
     ensures items { into.new.items ≡ into.old.items ++ job_line names.now 0 row.now }
@@ -72,16 +78,21 @@ pub fn put_job_line(into: &mut Vec<u8>, names: &Names, row: &JobRow)
     // A list of its own stays in registers while the pieces are added.
     let alloc = *into.allocator();
     let mut line = mem::replace(into, Vec::new(alloc));
-    put_row(&mut line, names, row);
+    put_row(&mut line, names, row, numerals);
     *into = line;
 }
 
-fn add_job(into: &mut Vec<u8>, names: &Names, row: &JobRow) -> Result<(), OutOfMemory>
+fn add_job(
+    into: &mut Vec<u8>,
+    names: &Names,
+    row: &JobRow,
+    numerals: &mut Numerals,
+) -> Result<(), OutOfMemory>
     requires { KnownRow names.now row.now }
     ensures { OnOk result (into.new.items ≡ into.old.items ++ job_line names.now 0 row.now) }
 {
     into.reserve(256)?;
-    put_job_line(into, names, row);
+    put_job_line(into, names, row, numerals);
     Ok(())
 }
 
@@ -90,8 +101,9 @@ pub fn add_jobs(into: &mut Vec<u8>, names: &Names, rows: &[JobRow]) -> Result<()
     requires { All (KnownRow names.now) rows.now }
     ensures { OnOk result (into.new.items ≡ into.old.items ++ jobs_text names.now rows.now) }
 {
+    let mut numerals = Numerals::new();
     for i in 0..rows.len() {
-        add_job(into, names, &rows[i])?;
+        add_job(into, names, &rows[i], &mut numerals)?;
     }
     Ok(())
 }

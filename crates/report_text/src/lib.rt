@@ -14,7 +14,7 @@ mod parts;
 mod read;
 mod words;
 
-pub use closing::{add_finals, add_jobs, put_job_line};
+pub use closing::{add_finals, add_jobs};
 pub use declared::add_declarations;
 pub use document::{
     Document, DocumentError, Front, Placed, read_document, read_front, read_placed,

@@ -1,5 +1,5 @@
 -- What the writer of a report asks for.
-use Rattle.std.proofs.Common.{◌≡◌, ◌≤◌, List, [], ◌∷◌, ◌++◌, map, length, get_or, refl, ap, subst, ◌∙◌, arith, length-append}
+use Rattle.std.proofs.Common.{◌≡◌, ℕ, suc, ◌+◌, ◌≤◌, List, [], ◌∷◌, ◌++◌, map, length, get_or, refl, ap, subst, ◌∙◌, arith, length-append}
 use Rattle.std.specs.List.{All}
 use Rattle.rt_base.specs.declared.name.Names.{Names}
 use Rattle.item_model.specs.declared.stored.Stored.{Stored}
@@ -9,10 +9,11 @@ use Rattle.step_journal.specs.declared.entry.Entry.{Entry}
 use Rattle.step_journal.specs.State.{opening}
 use Rattle.board.proofs.Counts.{items_count}
 use Rattle.job_rows.specs.Rows.{job_rows}
-use Rattle.job_rows.specs.Upkeep.{RowsSeen, Follows}
-use Rattle.journal_text.specs.Lines.{IsWritable}
-use Rattle.report_text.specs.Texts.{KnownRow, NamesSet}
-use Rattle.run_report.specs.Report.{Writes, Closes}
+use Rattle.job_rows.specs.Upkeep.{RowsSeen, Follows, GoOn}
+use Rattle.journal_text.specs.Lines.{IsWritable, whole_lines}
+use Rattle.report_text.specs.Rows.{numbered}
+use Rattle.report_text.specs.Texts.{KnownRow, NamesSet, whole_entry_line, entries_text}
+use Rattle.run_report.specs.Report.{Writes, Continues, Closes}
 use Rattle.run_report.proofs.LegalLines.{legal_lines}
 use Rattle.run_report.proofs.LegalRows.{legal_rows}
 
@@ -26,6 +27,28 @@ writes_line names rows entry w =
     let all = legal_lines names w.goes.set (story ++ entry ∷ []) w.one_each w.goes.follows.compiled w.goes.legal in
     subst (IsWritable names) (at_end story entry entry)
     (all (length story) entry (omega (arith, length-append story (entry ∷ []))))
+
+past : {A : Type 0} (xs ys : List A) (k : ℕ) (d : A) → get_or (xs ++ ys) (length xs + k) d ≡ get_or ys k d
+past [] ys k d = (let q : 0 + k ≡ k = omega arith in ap (λ (n : ℕ). get_or ys n d) q)
+past (x ∷ xs) ys k d = (let q : length (x ∷ xs) + k ≡ suc (length xs + k) = omega arith in ap (λ (n : ℕ). get_or (x ∷ (xs ++ ys)) n d) q ∙ past xs ys k d)
+
+pub continues_lines : (names : Names) (rows : RowsSeen) (entries : List Entry) → Continues names rows entries → All (IsWritable names) entries
+continues_lines names rows entries c k d lt =
+    let all = legal_lines names c.set (c.story ++ entries) c.one_each c.follows.compiled c.legal in
+    subst (IsWritable names) (past c.story entries k d)
+    (all (length c.story + k) d (omega (arith, lt, length-append c.story entries)))
+
+pub goes_on : (names : Names) (rows : RowsSeen) (entries : List Entry) → Continues names rows entries → GoOn rows entries
+goes_on names rows entries c = record { set = c.set; story = c.story; follows = c.follows; legal = c.legal; fits = c.few }
+
+-- the lines, each without its place
+any_place : (names : Names) (i j : ℕ) (entries : List Entry) → numbered (whole_entry_line names) i entries ≡ numbered (whole_entry_line names) j entries
+any_place names i j [] = refl
+any_place names i j (e ∷ es) = ap (λ (t : List ℕ). whole_entry_line names 0 e ++ t) (any_place names (i + 1) (j + 1) es)
+
+pub lines_are : (names : Names) (entries : List Entry) → whole_lines names entries ≡ entries_text names entries
+lines_are names [] = refl
+lines_are names (e ∷ es) = ap (λ (t : List ℕ). whole_entry_line names 0 e ++ t) (lines_are names es ∙ any_place names 0 1 es)
 
 pub closes_rows : (names : Names) (rows : RowsSeen) (items : List Stored) (c : Closes names rows items)
     → All (KnownRow names) (job_rows c.set c.story)

@@ -1,13 +1,13 @@
 -- The report of a set, its mode and its entries.
-use Rattle.std.specs.Prelude.{◌≡◌, ℕ, Bool, List, [], codes, if◌then◌else◌}
+use Rattle.std.specs.Prelude.{◌≡◌, ℕ, ◌≤◌, Bool, List, [], ◌++◌, codes, if◌then◌else◌}
 use Rattle.rt_base.specs.declared.name.Names.{Names}
 use Rattle.item_model.specs.declared.stored.Stored.{Stored}
 use Rattle.txn_set.specs.Set.{Set}
 use Rattle.step_journal.specs.declared.entry.Entry.{Entry}
-use Rattle.step_journal.specs.History.{state_of}
+use Rattle.step_journal.specs.History.{IsLegal, state_of}
 use Rattle.job_rows.specs.declared.row.JobRow.{JobRow}
 use Rattle.job_rows.specs.Rows.{job_rows}
-use Rattle.job_rows.specs.Upkeep.{RowsSeen, Follows, GoesOn}
+use Rattle.job_rows.specs.Upkeep.{RowsSeen, Follows, GoesOn, planned_jobs}
 use Rattle.journal_text.specs.Lines.{◌⊕◌}
 use Rattle.report_text.specs.Texts.{declarations, ceilings_of, entries_text, jobs_text, finals_text, NamesSet}
 use Rattle.run_report.specs.Bounds.{limits_of}
@@ -35,6 +35,15 @@ report_of names set admitted entries =
 pub record Writes (names : Names) (rows : RowsSeen) (entry : Entry) : Type 0 where
   pub goes : GoesOn rows entry
   pub one_each : NamesSet names goes.set
+
+-- the entries go on after a history that the rows follow, of no more jobs than there are places
+pub record Continues (names : Names) (rows : RowsSeen) (entries : List Entry) : Type 0 where
+  pub set : Set
+  pub story : List Entry
+  pub one_each : NamesSet names set
+  pub follows : Follows set rows story
+  pub legal : IsLegal set (story ++ entries)
+  pub few : planned_jobs (story ++ entries) ≤ rows.room
 
 -- a history that the rows follow, of a set with these names, and its last items
 pub record Closes (names : Names) (rows : RowsSeen) (items : List Stored) : Type 0 where

@@ -4,7 +4,7 @@ ghost use Rattle.step_journal.specs.History.{IsLegal};
 ghost use Rattle.run_report.specs.Summary.{counted, jobs_line, entries_line, last_line, summary_of};
 
 use crate::counts::{Ends, Kinds, count_ends, count_kinds, last_instant, longest_delay};
-use job_rows::rows_of;
+use job_rows::rows_of_jobs;
 use journal_text::{put, put_field, put_unsigned};
 use rt_base::{OutOfMemory, Tick};
 use std::alloc::Global;
@@ -68,10 +68,11 @@ pub fn summary(alloc: Global, set: &CompiledSet, entries: &[Entry]) -> Result<Ve
     requires { IsLegal set.now entries.now }
     ensures { IfOk result (λ text. text.items ≡ summary_of set.now entries.now) }
 {
-    let rows = rows_of(alloc, set, entries)?;
+    let kinds = count_kinds(entries);
+    let rows = rows_of_jobs(alloc, set, entries, kinds.plans as usize)?;
     let mut text = Vec::new(alloc);
     add_ends(&mut text, count_ends(rows.as_slice()))?;
-    add_kinds(&mut text, entries.len() as u64, count_kinds(entries))?;
+    add_kinds(&mut text, entries.len() as u64, kinds)?;
     add_last(
         &mut text,
         last_instant(set, entries),

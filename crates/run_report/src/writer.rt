@@ -1,5 +1,5 @@
 //! A report, written as its entries come.
-ghost use Rattle.std.specs.Prelude.{◌≡◌, ◌+◌, ◌≤◌, ◌++◌, ◌∷◌, [], List as Many, codes, length, is_some, IfSome, IfOk, OnErr, OnOk, ◌^◌, ◌<◌, vec_len, vec_capacity};
+ghost use Rattle.std.specs.Prelude.{◌≡◌, ◌+◌, ◌*◌, ◌≤◌, ◌++◌, ◌∷◌, [], List as Many, codes, length, is_some, IfSome, IfOk, OnErr, OnOk, ◌^◌, ◌<◌, vec_len, vec_capacity};
 ghost use Rattle.std.specs.List.{All};
 ghost use Rattle.txn_set.specs.Set.{Set};
 ghost use Rattle.step_journal.specs.declared.entry.Entry.{Entry as Noted};
@@ -7,13 +7,13 @@ ghost use Rattle.step_journal.specs.History.{IsLegal};
 ghost use Rattle.job_rows.specs.Rows.{job_rows};
 ghost use Rattle.job_rows.specs.Upkeep.{Follows};
 ghost use Rattle.journal_text.specs.Lines.{entry_line};
-ghost use Rattle.report_text.specs.Texts.{NamesSet, KnownRow};
-ghost use Rattle.run_report.specs.Report.{opening_text, closing_text, limits_text, Writes, Closes};
+ghost use Rattle.report_text.specs.Texts.{NamesSet, KnownRow, entries_text};
+ghost use Rattle.run_report.specs.Report.{opening_text, closing_text, limits_text, Writes, Continues, Closes};
 
 use crate::limits::add_limits;
 use item_model::{Items, Stored};
 use job_rows::{JobRow, JobRows};
-use journal_text::{Numerals, write_entry};
+use journal_text::{Numerals, write_entries, write_entry};
 use report_text::{add_ceilings, add_declarations, add_finals, add_jobs};
 use rt_base::{Names, OutOfMemory};
 use set_admission::AdmittedSet;
@@ -124,6 +124,22 @@ impl ReportWriter {
     {
         self.rows.push(entry);
         write_entry(names, entry, &mut self.numerals, into);
+    }
+
+    /// Adds the lines of the next entries, each of at most 256 bytes, and keeps the rows up. It takes no memory, and looks at no
+    /// earlier entry.
+    #[inline(always)]
+    pub fn push_all(&mut self, names: &Names, entries: &[Entry], into: &mut Vec<u8>)
+        requires next { Continues names.now self.old entries.now }
+        requires room { vec_len into.old + 256 * length entries.now ≤ vec_capacity into.old }
+        ensures text { into.new.items ≡ into.old.items ++ entries_text names.now entries.now }
+        ensures len { vec_len into.new ≤ vec_len into.old + 256 * length entries.now }
+        ensures room { vec_capacity into.old ≤ vec_capacity into.new }
+        ensures places { self.new.room ≡ self.old.room }
+        ensures follows { (set : Set) (story : Many Noted) → Follows set self.old story → IsLegal set (story ++ entries.now) → Follows set self.new (story ++ entries.now) }
+    {
+        self.rows.push_all(entries);
+        write_entries(names, entries, &mut self.numerals, into);
     }
 
     /// How many planned jobs more have a place.

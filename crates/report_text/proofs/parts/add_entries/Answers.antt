@@ -14,7 +14,7 @@ loop-entry-init c = (
   refl,
   at_start (entry_form c.args.second c.args.names.now) c.args.first c.args.text.now,
   refl,
-  c.new-next.ensures c.args.names.now,
+  c.new-next.ensures.next c.args.names.now,
 )
 
 pub loop-entry-preserved : goal.loop-entry-preserved

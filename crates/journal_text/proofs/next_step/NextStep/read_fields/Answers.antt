@@ -19,4 +19,4 @@ returns-clause-next c =
     let f = fields_are c.args.names.now c.in_ok-rest.rest.now c.in_ok-job.more.now c.in_ok-tick.more.now c.in_ok-job.job c.in_ok-tick.tick
     (after_lacks 10 c.args.line.now (codes "step") c.in_ok-rest.rest.now c.in_ok-rest.ensures.0 c.requires.lacks)
     c.in_ok-job.ensures c.in_ok-tick.ensures in
-    c.note.ensures c.args.names.now f.word f.all f.is f.blank f.no_end
+    c.note.ensures.next c.args.names.now f.word f.all f.is f.blank f.no_end

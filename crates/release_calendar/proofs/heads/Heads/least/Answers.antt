@@ -1,8 +1,9 @@
-use Rattle.std.proofs.Common.{ℕ, List, subst, arith}
-use Rattle.release_calendar.specs.Heads.{IsLeast}
-use Rattle.release_calendar.proofs.Leasts.{is_least}
+use Rattle.std.proofs.Common.{ℕ, List, map, sym, subst}
+use Rattle.release_calendar.specs.Heads.{IsLeast, tick_of}
+use Rattle.release_calendar.proofs.Keys.{is_least}
 use Rattle.release_calendar.proofs.heads.Heads.least.Goals as goal
 
 pub returns : goal.returns
 returns c =
-    subst (λ (ticks : List ℕ). IsLeast ticks c.self.inside.least) c.self.view_is (is_least c.self.inside.ticks.items c.self.inside.leasts.items c.self.inside.least c.self.invariant (omega arith))
+    subst (λ (ticks : List ℕ). IsLeast ticks c.self.inside.tick) c.self.view_is
+    (subst (λ (t : ℕ). IsLeast (map tick_of c.self.inside.keys.items) t) (sym c.self.invariant.2) (is_least c.self.inside.keys.items c.self.inside.leasts.items c.self.inside.least c.self.invariant.0 c.self.invariant.1))

@@ -2,14 +2,21 @@ use Rattle.std.proofs.Common.{◌≡◌, ℕ, ◌<◌, ◌-◌, List, length, se
 use Rattle.std.specs.List.{remove}
 use Rattle.release_calendar.specs.declared.planned.Planned.{Planned}
 use Rattle.release_calendar.specs.Queues.{QueueFacts, AreQueues, queue_of, head_tick}
-use Rattle.release_calendar.proofs.Keeps.{Took, took, contents, take_keeps}
+use Rattle.release_calendar.proofs.Keeps.{Took, took, contents, left_low, take_keeps}
 use Rattle.release_calendar.proofs.Splits.{in_all}
 use Rattle.release_calendar.proofs.queues.Queues.take.Goals as goal
 
-pub set-requires : goal.set-requires
-set-requires c =
+pub set-requires-clause-tx : goal.set-requires-clause-tx
+set-requires-clause-tx c =
     let known : c.args.place.tx < length (contents c.self.inside.queues.items) = subst (λ (l : QueueFacts). c.args.place.tx < length l.queues) (sym c.self.view_is) c.requires.tx in
     omega (arith, known, c.self.invariant.0.places)
+
+pub set-requires-clause-tick : goal.set-requires-clause-tick
+set-requires-clause-tick c =
+    let t : Took c.self.inside.queues.items c.args.place.tx c.args.place.index c.out_of-taken.new.queue c.out_of-taken.result c.self.inside.room =
+    took c.self.inside.queues.items c.args.place.tx c.args.place.index c.index_mut-queue.result.now c.out_of-taken.new.queue c.out_of-taken.result c.self.inside.room (subst (λ (l : QueueFacts). c.args.place.tx < length l.queues) (sym c.self.view_is) c.requires.tx) (subst (λ (l : QueueFacts). c.args.place.index < length (queue_of l.queues c.args.place.tx)) (sym c.self.view_is) c.requires.index)
+    c.index_mut-queue.ensures.value c.out_of-taken.ensures.value c.out_of-taken.ensures.items c.out_of-taken.ensures.capacity c.self.invariant.1 in
+    omega (arith, c.begins.ensures, ap head_tick t.left, left_low c.args.place.tx (queue_of (contents c.self.inside.queues.items) c.args.place.tx) c.args.place.index t.within (c.self.invariant.0.each c.args.place.tx))
 
 pub overflow_sub-self : goal.overflow_sub-self
 overflow_sub-self c =
