@@ -23,11 +23,13 @@ struct progress {
 };
 
 struct plant {
+    struct progress at[MOST_TXNS];
     rtdb db;
     uint32_t n;
     uint32_t jobs;
+    rtdb_job job;            /* the running one */
+    rtdb_time time;          /* the answer to the last plan, or to the last idling */
     rtdb_step_answer answer; /* of the last step */
-    struct progress at[MOST_TXNS];
 };
 
 static uint64_t offset_of(uint32_t n, uint32_t i) {
@@ -55,60 +57,53 @@ static rtdb_status opened(struct plant *p, size_t room) {
 }
 
 static int plan_next(struct plant *p, uint32_t tx) {
-    rtdb_time answer = {0, {0, 0}, 0, 0};
-    return rtdb_plan_next(&p->db, tx, &answer) == RTDB_OK && answer.reply == RTDB_PLANNED;
+    return rtdb_plan_next(&p->db, tx, &p->time) == RTDB_OK && p->time.reply == RTDB_PLANNED;
 }
 
 /* The first job at the offset, and each next one a period later. */
 static void plan_first(struct plant *p, uint32_t tx, uint32_t count) {
-    rtdb_time answer = {0, {0, 0}, 0, 0};
-    if (count == 0 || rtdb_plan(&p->db, tx, offset_of(p->n, tx), &answer) != RTDB_OK || answer.reply != RTDB_PLANNED) return;
+    if (count == 0 || rtdb_plan(&p->db, tx, offset_of(p->n, tx), &p->time) != RTDB_OK || p->time.reply != RTDB_PLANNED) return;
     p->at[tx].planned = 1;
     while (p->at[tx].planned < count && plan_next(p, tx)) p->at[tx].planned++;
 }
 
-struct operation {
-    uint32_t code;
-    uint32_t item;
-    int64_t value;
-};
-
-/* What a job asks for at its place. */
-static struct operation operation_at(uint32_t n, rtdb_job job, const struct progress *at) {
-    uint32_t i = job.transaction;
-    if (i % 2 == 0) {
-        if (at->place == 0) return (struct operation){RTDB_WRITE, i, job.serial};
-        if (at->place <= 2) return (struct operation){RTDB_COMPUTE, 0, 0};
-    } else {
-        if (at->place == 0) return (struct operation){RTDB_READ, i - 1, 0};
-        if (at->place == 1) return (struct operation){RTDB_WRITE, i, at->last};
-        if (at->place == 2) return (struct operation){RTDB_WRITE, n, at->last + i};
-    }
-    return (struct operation){RTDB_COMMIT, 0, 0};
+/* The job asks for an operation. */
+static rtdb_status asked(struct plant *p, uint32_t operation, uint32_t item, int64_t value) {
+    return rtdb_step(&p->db, p->job, operation, item, value, &p->answer);
 }
 
-/* The running job asks for its next operation. 0 where it is refused for good. */
-static int ask(struct plant *p, rtdb_job job) {
-    struct progress *at = &p->at[job.transaction];
-    struct operation asked = operation_at(p->n, job, at);
-    const rtdb_step_answer *answer = &p->answer;
-    if (rtdb_step(&p->db, job, asked.code, asked.item, asked.value, &p->answer) != RTDB_OK) return 0;
-    if (answer->reply == RTDB_BLOCKED) return 1;
-    if (answer->reply != RTDB_DONE) return 0;
-    at->place++;
-    if (answer->outcome == RTDB_GOT) at->last = answer->value;
-    if (answer->over.kind != RTDB_NOT_ENDED) {
-        at->place = 0;
-        if (at->planned < p->jobs && plan_next(p, job.transaction)) at->planned++;
+/* The running job asks for the operation at its place. */
+static rtdb_status step(struct plant *p, const struct progress *at) {
+    uint32_t i = p->job.transaction;
+    if (i % 2 == 0) {
+        if (at->place == 0) return asked(p, RTDB_WRITE, i, p->job.serial);
+        if (at->place <= 2) return asked(p, RTDB_COMPUTE, 0, 0);
+    } else {
+        if (at->place == 0) return asked(p, RTDB_READ, i - 1, 0);
+        if (at->place == 1) return asked(p, RTDB_WRITE, i, at->last);
+        if (at->place == 2) return asked(p, RTDB_WRITE, p->n, at->last + i);
     }
+    return asked(p, RTDB_COMMIT, 0, 0);
+}
+
+/* The running job goes on. 0 where it is refused for good. */
+static int ask(struct plant *p) {
+    struct progress *at = &p->at[p->job.transaction];
+    if (step(p, at) != RTDB_OK) return 0;
+    if (p->answer.reply != RTDB_DONE) return p->answer.reply == RTDB_BLOCKED;
+    if (p->answer.over.kind != RTDB_NOT_ENDED) {
+        at->place = 0;
+        if (at->planned < p->jobs && plan_next(p, p->job.transaction)) at->planned++;
+        return 1;
+    }
+    at->place++;
+    if (p->answer.outcome == RTDB_GOT) at->last = p->answer.value;
     return 1;
 }
 
 static int turn(struct plant *p) {
-    rtdb_job job = {0, 0};
-    if (rtdb_running(&p->db, &job) == RTDB_OK) return ask(p, job);
-    rtdb_time answer = {0, {0, 0}, 0, 0};
-    return rtdb_idle(&p->db, &answer) == RTDB_OK && answer.reply == RTDB_ADVANCED;
+    if (rtdb_running(&p->db, &p->job) == RTDB_OK) return ask(p);
+    return rtdb_idle(&p->db, &p->time) == RTDB_OK && p->time.reply == RTDB_ADVANCED;
 }
 
 int main(int count, char **words) {

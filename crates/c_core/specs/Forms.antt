@@ -43,6 +43,21 @@ no_job = record { tx = 0; serial = 0 }
 abbrev pub no_end : EndForm
 no_end = record { kind = 0; item = 0; other = 0; stamp = 0 }
 
+-- which number an outcome has, and an end
+abbrev pub number_of_outcome : Outcome → ℕ
+number_of_outcome (outcome.Got value stamp) = 0
+number_of_outcome outcome.Put = 1
+number_of_outcome outcome.Computed = 2
+number_of_outcome outcome.Closed = 3
+
+abbrev pub number_of_end : End → ℕ
+number_of_end end.Committed = 1
+number_of_end end.Overrun = 2
+number_of_end end.Late = 3
+number_of_end (end.Stale item stamp) = 4
+number_of_end (end.Apart a b) = 5
+number_of_end end.Quit = 6
+
 abbrev pub form_of_end : Option End → EndForm
 form_of_end None = no_end
 form_of_end (Some end.Committed) = record no_end { kind = 1 }

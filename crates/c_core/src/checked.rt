@@ -1,10 +1,10 @@
 //! A core whose calls test each number that they are given. Such a call answers a status: OK where the core was called,
 //! and else why it was not; then nothing is changed.
-ghost use Rattle.std.specs.Prelude.{◌≡◌, ◌≢◌, ◌+◌, ◌≤◌, ◌^◌, [], List, length, IfOk, IfErr, Some, None, slice_get, nat_lt, ◌<◌, ◌++◌, min, map, take, drop, vec_capacity};
+ghost use Rattle.std.specs.Prelude.{◌≡◌, ◌≢◌, ◌+◌, ◌≤◌, ◌^◌, [], List, length, IfOk, IfErr, IsTrue, false, Some, None, slice_get, nat_lt, ◌<◌, ◌++◌, min, map, take, drop, vec_capacity};
 ghost use Rattle.rt_base.specs.declared.operation.Op.{Op as Asked};
 ghost use Rattle.step_journal.specs.declared.entry.Entry.{Entry as Noted};
 ghost use Rattle.step_journal.specs.History.{state_of};
-ghost use Rattle.board.specs.Stories.{noted, plan_entry, plan_next_entry, step_entry, idle_entry, plan_answer, plan_next_answer, idle_answer, now_of, running_of, pending_of, ended_of, planned_of};
+ghost use Rattle.board.specs.Stories.{noted, plan_entry, plan_next_entry, step_entry, idle_entry, plan_answer, plan_next_answer, step_answer, idle_answer, now_of, running_of, pending_of, ended_of, planned_of};
 ghost use Rattle.law_times.specs.Ages.{IsAdmitted};
 ghost use Rattle.law_times.specs.Response.{response};
 ghost use Rattle.txn_set.specs.Set.{Set, txn_of};
@@ -22,12 +22,14 @@ ghost use Rattle.c_core.specs.Calls.{tx_status, item_status, step_status, step_r
 
 use crate::entries::{EntryForm, put_entries};
 use crate::forms::{
-    JobForm, StepForm, TimeForm, idle_form, job_form, op_of, plan_form, plan_next_form, put_step,
+    JobForm, StepForm, TimeForm, idle_form, job_form, op_of, plan_form, plan_next_form, put_done,
+    put_reply,
 };
 use crate::open_core::OpenCore;
 use crate::refusals::{NOT_ADMITTED, Refused};
 use crate::tables::{Tables, compiled};
-use rt_base::{ItemId, JobId, OutOfMemory, TxId};
+use board::StepReply;
+use rt_base::{ItemId, JobId, Op, OutOfMemory, Outcome, TxId};
 use set_admission::{AdmittedSet, admit};
 use std::alloc::Global;
 use step_journal::Entry;
@@ -65,6 +67,44 @@ pub struct CheckedCore {
 pub struct StoredForm {
     pub value: i64,
     pub stamp: u64,
+}
+
+// Whether the job asks to compute, and did so by which nothing else happens. Else nothing changes.
+#[inline(always)]
+fn computes(core: &mut OpenCore, job: JobId, op: Op) -> bool
+    requires { job.tx.0 < length (board_of core.old).set.txns }
+    ensures fixed { ((board_of core.new).set ≡ (board_of core.old).set) × ((board_of core.new).journal.room ≡ (board_of core.old).journal.room) × ((board_of core.new).journal.first ≡ (board_of core.old).journal.first) }
+    ensures admitted { admitted_of core.new ≡ admitted_of core.old }
+    ensures answer { IsTrue result → (story : List Noted) → Stands (board_of core.old) story → step_answer (board_of core.old).set story (length (board_of core.old).journal.kept) (board_of core.old).journal.room job op ≡ StepReply.Done Outcome.Computed None }
+    ensures after { IsTrue result → (story : List Noted) → Stands (board_of core.old) story → Stands (board_of core.new) (noted story (step_entry (now_of (board_of core.old).set story) job op (StepReply.Done Outcome.Computed None))) }
+    ensures unchanged { result ≡ false → core.new ≡ core.old }
+    ensures bounds { IsTrue result → (story : List Noted) → Stands (board_of core.new) story → KeepsBoundsOf core.new story }
+{
+    match op {
+        Op::Compute => core.compute(job),
+        Op::Read(_) => false,
+        Op::Write(_, _) => false,
+        Op::Commit => false,
+        Op::Quit => false,
+    }
+}
+
+// As the core's call, and writes what it answers. Of a job that only computes the answer is known without a reply.
+#[inline(always)]
+fn asked(core: &mut OpenCore, job: JobId, op: Op, answer: &mut StepForm)
+    requires { job.tx.0 < length (board_of core.old).set.txns }
+    ensures fixed { ((board_of core.new).set ≡ (board_of core.old).set) × ((board_of core.new).journal.room ≡ (board_of core.old).journal.room) × ((board_of core.new).journal.first ≡ (board_of core.old).journal.first) }
+    ensures admitted { admitted_of core.new ≡ admitted_of core.old }
+    ensures answer { (story : List Noted) → Stands (board_of core.old) story → answer.new ≡ form_of_step (step_answer (board_of core.old).set story (length (board_of core.old).journal.kept) (board_of core.old).journal.room job op) }
+    ensures after { (story : List Noted) → Stands (board_of core.old) story → Stands (board_of core.new) (noted story (step_entry (now_of (board_of core.old).set story) job op (step_answer (board_of core.old).set story (length (board_of core.old).journal.kept) (board_of core.old).journal.room job op))) }
+    ensures blocked_once { (story : List Noted) → Stands (board_of core.old) story → IfBlocked (step_answer (board_of core.old).set story (length (board_of core.old).journal.kept) (board_of core.old).journal.room job op) (IsFirstRefusal (board_of core.old).set story job) }
+    ensures bounds { (story : List Noted) → Stands (board_of core.new) story → KeepsBoundsOf core.new story }
+{
+    if computes(core, job, op) {
+        put_done(&Outcome::Computed, &None, answer);
+        return;
+    }
+    put_reply(&core.step(job, op), answer);
 }
 
 // The journal has room for no more entries.
@@ -207,7 +247,7 @@ impl CheckedCore {
             tx: TxId(job.tx),
             serial: job.serial,
         };
-        put_step(self.core.step(job, op), answer);
+        asked(&mut self.core, job, op, answer);
         OK
     }
 

@@ -1,6 +1,7 @@
 //! A core over an admitted set, or over one that was not admitted.
-ghost use Rattle.std.specs.Prelude.{◌≡◌, ◌≤◌, ◌^◌, ◌+◌, ◌-◌, ◌<◌, ◌++◌, [], List, length, min, take, drop, vec_len, vec_capacity, Some, None, MatchOption, IfOk, IfErr, slice_get};
+ghost use Rattle.std.specs.Prelude.{◌≡◌, ◌≤◌, ◌^◌, ◌+◌, ◌-◌, ◌<◌, ◌++◌, [], List, length, min, take, drop, vec_len, vec_capacity, Some, None, MatchOption, IfOk, IfErr, IsTrue, false, slice_get};
 ghost use Rattle.step_journal.specs.declared.entry.Entry.{Entry as Noted};
+ghost use Rattle.step_journal.specs.declared.entry.Entry.TheVariants.{Step};
 ghost use Rattle.step_journal.specs.History.{state_of};
 ghost use Rattle.board.specs.Stories.{noted, plan_entry, plan_next_entry, step_entry, idle_entry, plan_answer, plan_next_answer, step_answer, idle_answer, now_of, running_of, pending_of, ended_of, planned_of};
 ghost use Rattle.law_histories.specs.Protocol.{IsFirstRefusal};
@@ -11,7 +12,7 @@ ghost use Rattle.c_core.specs.Open.{board_of, admitted_of, KeepsBoundsOf};
 use admitted_core::{AdmittedBoard, AdmittedCore};
 use board::{Board, IdleReply, StepReply};
 use lock_core::Core;
-use rt_base::{ItemId, JobId, Op, OutOfMemory, PlanRefused, Tick, TxId, Value};
+use rt_base::{ItemId, JobId, Op, OutOfMemory, Outcome, PlanRefused, Tick, TxId, Value};
 use set_admission::AdmittedSet;
 use std::alloc::Global;
 use std::marker::Model;
@@ -141,6 +142,22 @@ impl OpenCore {
         let reply = self.core.step(job, op);
         self.keeps_bounds();
         reply
+    }
+
+    /// The job computes for a tick as of the core, if nothing else happens by that: whether it did. Else nothing changes.
+    #[inline(always)]
+    pub fn compute(&mut self, job: JobId) -> bool
+        requires { job.tx.0 < length (board_of self.old).set.txns }
+        ensures fixed { ((board_of self.new).set ≡ (board_of self.old).set) × ((board_of self.new).journal.room ≡ (board_of self.old).journal.room) × ((board_of self.new).journal.first ≡ (board_of self.old).journal.first) }
+        ensures admitted { admitted_of self.new ≡ admitted_of self.old }
+        ensures answer { IsTrue result → (story : List Noted) → Stands (board_of self.old) story → step_answer (board_of self.old).set story (length (board_of self.old).journal.kept) (board_of self.old).journal.room job Op.Compute ≡ StepReply.Done Outcome.Computed None }
+        ensures after { IsTrue result → (story : List Noted) → Stands (board_of self.old) story → Stands (board_of self.new) (noted story (Some (Step job Op.Compute Outcome.Computed None (now_of (board_of self.old).set story)))) }
+        ensures unchanged { result ≡ false → self.new ≡ self.old }
+        ensures bounds { (story : List Noted) → Stands (board_of self.new) story → KeepsBoundsOf self.new story }
+    {
+        let computed = self.core.compute(job);
+        self.keeps_bounds();
+        computed
     }
 
     /// The time goes on as on the core.

@@ -240,10 +240,8 @@ pub extern "C" fn rtdb_running(alloc: Global, db: &mut Handle, job: &mut JobForm
 {
     match db.take(alloc) {
         Some(core) => {
-            let mut running = *job;
-            let status = core.running(&mut running);
+            let status = core.running(job);
             db.put(core);
-            *job = running;
             status
         }
         None => CLOSED,

@@ -10,7 +10,7 @@ use Rattle.turn_cell.proofs.Lists.{stand_longer, stand_note}
 use Rattle.shared_plant.specs.Seats.{IsKept, facts_of, view_of, is_operator}
 use Rattle.shared_plant.specs.Shared.{noting_own}
 
-begins_long : (seen story : List Entry) → Begins seen story → length seen ≤ length story
+pub begins_long : (seen story : List Entry) → Begins seen story → length seen ≤ length story
 begins_long seen story b = omega (arith, ap length b.1, length-append seen b.0)
 
 -- after a turn in which the seat noted an entry, or none

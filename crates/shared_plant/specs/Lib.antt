@@ -1,3 +1,4 @@
 pub mod Shared
 pub mod Seats
 pub mod Answers
+pub mod Steps

@@ -2,6 +2,7 @@
 //! call that changed anything once, and each answer is the board's at the history that the seat has then seen.
 #![tactic(auto)]
 
+mod asker;
 mod plant;
 mod seat;
 mod sends;
@@ -9,6 +10,7 @@ mod shared_board;
 mod tried;
 mod turn;
 
-pub use plant::{CloseRefused, Plant};
+pub use asker::Asker;
+pub use plant::{CloseRefused, MOST_STEPS, Plant};
 pub use seat::Seat;
 pub use tried::Tried;

@@ -7,12 +7,14 @@ ghost use Rattle.rt_base.specs.declared.ids.JobId.{JobId as Job};
 ghost use Rattle.board.specs.Stories.{plan_entry, plan_next_entry, step_entry, idle_entry, plan_answer, plan_next_answer, step_answer, idle_answer, now_of};
 ghost use Rattle.turn_cell.specs.Seats.{fresh};
 ghost use Rattle.shared_plant.specs.Seats.{TableId, IsOf, AreOf, Closed, is_operator, newcomer, newcomers};
+ghost use Rattle.shared_plant.specs.Steps.{Stepped};
 ghost use Rattle.shared_plant.specs.Answers.{IsBusy, IfSaid, missed_once, Answered, AnsweredLate, nothing, Drained, DrainedLate, IsNotYet, WaitsAt};
 
+use crate::asker::Asker;
 use crate::seat::Seat;
 use crate::shared_board::SharedBoard;
 use crate::tried::Tried;
-use crate::turn::settle;
+use crate::turn::{settle, step_on};
 use board::{Board, IdleReply, StepReply};
 use rt_base::{ItemId, JobId, List, Op, OutOfMemory, PlanRefused, Tick, TxId, Value};
 use std::alloc::Global;
@@ -20,6 +22,9 @@ use std::marker::Model;
 use std::sync::Wait;
 use step_journal::Entry;
 use turn_cell::{Past, TurnCell, TurnSeat};
+
+/// The most steps of a job that one turn has.
+pub const MOST_STEPS: u32 = 64;
 
 /// A board that callers share, each by its seat, from threads of their own and without a lock. A `try_` call makes one
 /// exchange for the turn, takes no memory and does not wait. It is Sync where the board is Send.
@@ -126,6 +131,33 @@ impl<B: Board> Plant<B> {
         let (reply, entry) = taken.value_mut().step(JobId { tx, serial }, op);
         seat.front = settle(&self.cell, &mut seat.seat, taken, entry);
         Tried::Said(reply)
+    }
+
+    /// Steps of a job of the seat's own transaction in one turn, at most `MOST_STEPS`, one after another: the asker says for what
+    /// the job asks, the board answers at the history with the steps before, and the asker hears it. They go on while the
+    /// operation was done and the job runs. The answer is the job that runs then. Other seats find the turn taken for so long.
+    #[inline(always)]
+    pub fn try_steps<C, A: Asker<C>>(
+        &self,
+        seat: &mut Seat<B>,
+        serial: u32,
+        asker: &mut A,
+        with: &C,
+    ) -> Tried<Option<JobId>>
+        requires plant { IsOf self.now seat.old }
+        requires tx { (tx : Transaction) × (seat.old.tx ≡ Some tx) }
+        ensures busy { IsBusy result → (seat.new ≡ missed_once seat.old) × (asker.new ≡ asker.old) }
+        ensures said { (tx : Transaction) → seat.old.tx ≡ Some tx → IfSaid result (λ running. let job : Job = record { tx = tx; serial = serial } in Stepped A.asks A.hears self.now job 64 running asker.old asker.new seat.old seat.new) }
+    {
+        let Some(tx) = seat.tx else { unreachable!() };
+        let Some(mut taken) = self.cell.try_take(&mut seat.seat) else {
+            return Tried::Busy;
+        };
+        let job = JobId { tx, serial };
+        step_on(&self.cell, &mut seat.seat, &mut taken, job, asker, with);
+        let running = taken.value().board.running();
+        seat.front = settle(&self.cell, &mut seat.seat, taken, None);
+        Tried::Said(running)
     }
 
     /// Plans the transaction's next job for a tick. Any seat may plan for any transaction.

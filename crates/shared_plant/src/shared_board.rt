@@ -1,13 +1,13 @@
 //! A board in a cell: its story is the board's history, its notes are the entries, and its fixed part is the set and the
 //! room. It has a place of its own on the heap, so that a turn does not move it. Each call gives the board's answer and the
 //! entry that the board appended, if any.
-ghost use Rattle.std.specs.Prelude.{◌≡◌, ℕ, ◌+◌, ◌-◌, ◌≤◌, ◌<◌, ◌++◌, List, length, min, take, drop, vec_len, vec_capacity, IfOk, IfErr};
+ghost use Rattle.std.specs.Prelude.{◌≡◌, IsTrue, None, false, ℕ, ◌+◌, ◌-◌, ◌≤◌, ◌<◌, ◌++◌, List, length, min, take, drop, vec_len, vec_capacity, IfOk, IfErr};
 ghost use Rattle.step_journal.specs.declared.entry.Entry.{Entry as Noted};
 ghost use Rattle.board.specs.Stories.{noted, plan_entry, plan_next_entry, step_entry, idle_entry, plan_answer, plan_next_answer, step_answer, idle_answer, now_of};
 ghost use Rattle.shared_plant.specs.Shared.{IsNext};
 
 use board::{Board, IdleReply, StepReply};
-use rt_base::{JobId, Op, OutOfMemory, PlanRefused, Tick, TxId};
+use rt_base::{JobId, Op, OutOfMemory, Outcome, PlanRefused, Tick, TxId};
 use std::alloc::Global;
 use step_journal::Entry;
 use turn_cell::Storied;
@@ -99,6 +99,25 @@ impl<B: Board> SharedBoard<B> {
         let reply = self.board.step(job, op);
         let entry = entry_of_step(now, job, op, &reply);
         (reply, entry)
+    }
+
+    // Computes for the job, where it asks for that and nothing else happens by it: whether it did.
+    #[inline(always)]
+    pub(crate) fn compute(&mut self, job: JobId, op: Op) -> bool
+        requires { job.tx.0 < length (B.set self.old.board.value).txns }
+        ensures fixed { (B.set self.new.board.value ≡ B.set self.old.board.value) × (B.room self.new.board.value ≡ B.room self.old.board.value) × (B.first self.new.board.value ≡ B.first self.old.board.value) }
+        ensures computed { IsTrue result → op ≡ Op.Compute }
+        ensures answer { IsTrue result → (story : List Noted) → B.stands self.old.board.value story → StepReply.Done Outcome.Computed None ≡ step_answer (B.set self.old.board.value) story (length story - B.first self.old.board.value) (B.room self.old.board.value) job op }
+        ensures after { IsTrue result → (story : List Noted) → B.stands self.old.board.value story → B.stands self.new.board.value (noted story (step_entry (now_of (B.set self.old.board.value) story) job op (StepReply.Done Outcome.Computed None))) }
+        ensures unchanged { result ≡ false → self.new.board.value ≡ self.old.board.value }
+    {
+        match op {
+            Op::Compute => self.board.compute(job),
+            Op::Read(_) => false,
+            Op::Write(_, _) => false,
+            Op::Commit => false,
+            Op::Quit => false,
+        }
     }
 
     pub(crate) fn idle(&mut self) -> (IdleReply, Option<Entry>)

@@ -1,10 +1,11 @@
 //! The kept entries of a history.
-ghost use Rattle.std.specs.Prelude.{◌≡◌, ◌+◌, ◌-◌, ◌<◌, ◌≤◌, ◌^◌, ◌++◌, ◌∷◌, [], min, take, drop, length, vec_len, vec_capacity, IfOk};
+ghost use Rattle.std.specs.Prelude.{◌≡◌, true, ◌+◌, ◌-◌, ◌<◌, ◌≤◌, ◌^◌, ◌++◌, ◌∷◌, [], min, take, drop, length, vec_len, vec_capacity, IfOk};
 
 use crate::entry::Entry;
 use rt_base::OutOfMemory;
 use std::alloc::Global;
 use std::marker::Model;
+use std::mem;
 
 /// The entries of a history that are not drained yet, with a room for them that never grows. Only `with_room` takes memory.
 #[derive(Drop)]
@@ -76,7 +77,8 @@ impl Journal {
     }
 
     /// Moves the oldest kept entries to the end of `into`, and answers how many: the least of `most`, of the number of
-    /// kept ones and of the spare places of `into`. It costs one move for each entry that was kept.
+    /// kept ones and of the spare places of `into`. It costs one move for each entry that was kept; an empty list of the same
+    /// capacity, to which all go, changes places with the journal's at once.
     pub fn drain_into(&mut self, most: usize, into: &mut Vec<Entry>) -> usize
         requires { self.old.first + length self.old.kept < 2 ^ 64 }
         ensures count { result ≡ min most (min (length self.old.kept) (vec_capacity into.old - vec_len into.old)) }
@@ -84,6 +86,12 @@ impl Journal {
         ensures places { vec_capacity into.new ≡ vec_capacity into.old }
         ensures left { self.new ≡ record self.old { first = self.old.first + result; kept = drop result self.old.kept } }
     {
+        if changes_places(&self.entries, most, into) {
+            let count = self.entries.len();
+            mem::swap(&mut self.entries, into);
+            self.first += count as u64;
+            return count;
+        }
         let count = most.min(self.entries.len().min(into.capacity() - into.len()));
         copy_front(self.entries.as_slice(), count, into);
         drop_front(&mut self.entries, count);
@@ -111,6 +119,13 @@ impl Journal {
         } = self;
         entries
     }
+}
+
+// Whether all entries go to an empty list of the same capacity.
+fn changes_places(entries: &Vec<Entry>, most: usize, into: &Vec<Entry>) -> bool
+    ensures { result ≡ true → (into.now.items ≡ []) × (vec_len entries.now ≤ most) × (vec_capacity into.now ≡ vec_capacity entries.now) }
+{
+    into.is_empty() && entries.len() <= most && into.capacity() == entries.capacity()
 }
 
 fn copy_front(entries: &[Entry], count: usize, into: &mut Vec<Entry>)

@@ -1,4 +1,4 @@
-use Rattle.std.proofs.Common.{◌≡◌, ◌+◌, ap, length, replicate, false, true, arith}
+use Rattle.std.proofs.Common.{◌≡◌, ap, length, replicate, false, true, arith}
 use Rattle.std.specs.Option.{option_to_list}
 use Rattle.std.proofs.lemmas.List.{length-replicate}
 use Rattle.turn_cell.specs.Seats.{fresh}

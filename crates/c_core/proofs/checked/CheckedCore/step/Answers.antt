@@ -1,7 +1,6 @@
 use Rattle.std.proofs.Common.{◌≡◌, ℤ, ap, sym, subst, ◌∙◌, to_z-of_z}
 use Rattle.std.specs.Prelude.{Option, None, Some}
 use Rattle.rt_base.specs.declared.operation.Op.{Op}
-use Rattle.board.specs.declared.replies.StepReply.{StepReply}
 use Rattle.board.specs.Stories.{noted, step_entry, now_of}
 use Rattle.lock_core.specs.Stands.{Stands}
 use Rattle.law_histories.specs.Protocol.{IsFirstRefusal}
@@ -23,18 +22,17 @@ pub returns-clause-answer : goal.returns-clause-answer
 returns-clause-answer c asked story _ named stands =
     let core = board_of c.args.self.now.core in
     let e : c.in-Some.op ≡ asked = same_op c.in-Some.op asked (sym c.in-Some.is ∙ c.op_of.ensures ∙ ap (λ (v : ℤ). op_named c.args.code c.args.item v) (to_z-of_z c.ranges.value) ∙ named) in
-    c.put_step.ensures ∙ ap form_of_step (c.step.ensures.answer story stands ∙ ap (λ (o : Op). step_reply_of core story c.args.job o) e)
+    c.asked.ensures.answer story stands ∙ ap (λ (o : Op). form_of_step (step_reply_of core story c.args.job o)) e
 
 pub returns-clause-after : goal.returns-clause-after
 returns-clause-after c asked story _ named stands =
     let core = board_of c.args.self.now.core in let job = job_of c.args.job in
     let e : c.in-Some.op ≡ asked = same_op c.in-Some.op asked (sym c.in-Some.is ∙ c.op_of.ensures ∙ ap (λ (v : ℤ). op_named c.args.code c.args.item v) (to_z-of_z c.ranges.value) ∙ named) in
-    subst (λ (o : Op). Stands (board_of c.step.new.self) (noted story (step_entry (now_of core.set story) job o (step_reply_of core story c.args.job o)))) e
-    (subst (λ (r : StepReply). Stands (board_of c.step.new.self) (noted story (step_entry (now_of core.set story) job c.in-Some.op r))) (c.step.ensures.answer story stands) (c.step.ensures.after story stands))
+    subst (λ (o : Op). Stands (board_of c.asked.new.core) (noted story (step_entry (now_of core.set story) job o (step_reply_of core story c.args.job o)))) e
+    (c.asked.ensures.after story stands)
 
 pub returns-clause-blocked_once : goal.returns-clause-blocked_once
 returns-clause-blocked_once c asked story _ named stands =
     let core = board_of c.args.self.now.core in let job = job_of c.args.job in
     let e : c.in-Some.op ≡ asked = same_op c.in-Some.op asked (sym c.in-Some.is ∙ c.op_of.ensures ∙ ap (λ (v : ℤ). op_named c.args.code c.args.item v) (to_z-of_z c.ranges.value) ∙ named) in
-    subst (λ (r : StepReply). IfBlocked r (IsFirstRefusal core.set story job)) (c.step.ensures.answer story stands ∙ ap (λ (o : Op). step_reply_of core story c.args.job o) e)
-    (c.step.ensures.blocked_once story stands)
+    subst (λ (o : Op). IfBlocked (step_reply_of core story c.args.job o) (IsFirstRefusal core.set story job)) e (c.asked.ensures.blocked_once story stands)

@@ -2,7 +2,7 @@ use Rattle.std.proofs.Common.{◌≡◌, ◌+◌, ◌-◌, ◌≤◌, ◌++◌, 
 use Rattle.step_journal.specs.declared.entry.Entry.{Entry}
 use Rattle.txn_set.specs.Set.{Set}
 use Rattle.turn_cell.specs.declared.view.View.{View}
-use Rattle.turn_cell.specs.Turn.{counted, draining, released}
+use Rattle.turn_cell.specs.Turn.{draining, released}
 use Rattle.shared_plant.specs.Seats.{PlantFacts, SeatFacts}
 use Rattle.shared_plant.proofs.Kept.{kept_drained, operator_counts, operator_drained}
 use Rattle.shared_plant.proofs.Drains.{drained_of}
