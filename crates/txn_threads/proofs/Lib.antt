@@ -4,6 +4,5 @@ pub mod Planning
 pub mod Rises
 pub mod Rounding
 pub mod Trying
-pub mod Stepping
 pub mod Draining
 pub mod Running
