@@ -4,5 +4,6 @@ pub mod Planning
 pub mod Rises
 pub mod Rounding
 pub mod Trying
+pub mod Stepping
 pub mod Draining
 pub mod Running

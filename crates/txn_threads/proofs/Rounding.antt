@@ -116,6 +116,37 @@ module _ {B Y : Type 0} (gives : Y → ℕ → List Outcome → Op) (stands : Y 
     sits = y.sits;
   }
 
+  -- a member whose seat has seen this history, and made an entry there or none
+  pub ran_by : (p : PlantFacts) (m n : Member B Y) (story : List Entry) (own : Option Entry)
+      → Sits gives stands p m → n.seat.plant ≡ m.seat.plant → n.seat.tx ≡ m.seat.tx → n.seat.seen ≡ noted story own → n.seat.mine ≡ with_own m.seat.mine story own → Begins m.seat.seen story
+      → n.jobs ≡ m.jobs → n.eager ≡ m.eager → gives n.task.body ≡ gives m.task.body
+      → ((tx : TxId) → m.seat.tx ≡ Some tx → AreAsked (gives m.task.body) tx m.seat.mine (own_pairs story own))
+      → ((tx : TxId) → m.seat.tx ≡ Some tx → ArePlanned p.set (noted story own) tx m.eager m.jobs m.planned (own_pairs story own))
+      → n.planned ≡ m.planned + plans_in (own_pairs story own)
+      → ((tx : TxId) → m.seat.tx ≡ Some tx → Tied gives stands tx (with_own m.seat.mine story own) n.task)
+      → ((tx : TxId) → m.seat.tx ≡ Some tx → n.ended ≤ ended_of p.set (noted story own) tx.0)
+      → Ran gives stands p m n
+  ran_by p m n story own sits plant tx_is seen mine begins jobs eager same asked plans planned tied knows = record {
+    plant = plant;
+    tx = tx_is;
+    jobs = jobs;
+    eager = eager;
+    gives_is = same;
+    seen = subst (Begins m.seat.seen) (sym seen) (noted_begins m.seat.seen story own begins);
+    added = own_pairs story own;
+    mine = mine ∙ own_is m.seat.mine story own;
+    rising = subst (λ (l : List Entry). AreRising (length m.seat.seen) (length l) (own_pairs story own)) (sym seen) (own_rises m.seat.seen story own begins);
+    asked = asked;
+    plans = λ tx is. subst (λ (l : List Entry). ArePlanned p.set l tx m.eager m.jobs m.planned (own_pairs story own)) (sym seen) (plans tx is);
+    planned = planned;
+    sits = record {
+      of = of_same p m.seat n.seat plant tx_is sits.of;
+      has = (sits.has.0, tx_is ∙ sits.has.1);
+      tied = λ tx is. subst (λ (l : List (ℕ × Entry)). Tied gives stands tx l n.task) (sym mine) (tied tx (sym tx_is ∙ is));
+      knows = λ tx is. subst (λ (l : List Entry). n.ended ≤ ended_of p.set l tx.0) (sym seen) (knows tx (sym tx_is ∙ is));
+    };
+  }
+
   -- a try that was answered at this history, with an entry of its own or none
   pub ran_one : (p : PlantFacts) (m n : Member B Y) (story : List Entry) (base : ℕ) (own : Option Entry)
       → Sits gives stands p m → n.seat ≡ turned m.seat story base own → Begins m.seat.seen story
@@ -126,30 +157,8 @@ module _ {B Y : Type 0} (gives : Y → ℕ → List Outcome → Op) (stands : Y 
       → ((tx : TxId) → m.seat.tx ≡ Some tx → Tied gives stands tx (with_own m.seat.mine story own) n.task)
       → ((tx : TxId) → m.seat.tx ≡ Some tx → n.ended ≤ ended_of p.set (noted story own) tx.0)
       → Ran gives stands p m n
-  ran_one p m n story base own sits after begins jobs eager same asked plans planned tied knows =
-      let plant : n.seat.plant ≡ m.seat.plant = ap (λ (s : SeatFacts). s.plant) after in
-      let tx_is : n.seat.tx ≡ m.seat.tx = ap (λ (s : SeatFacts). s.tx) after in
-      let seen : n.seat.seen ≡ noted story own = ap (λ (s : SeatFacts). s.seen) after in
-      let mine : n.seat.mine ≡ with_own m.seat.mine story own = ap (λ (s : SeatFacts). s.mine) after in record {
-        plant = plant;
-        tx = tx_is;
-        jobs = jobs;
-        eager = eager;
-        gives_is = same;
-        seen = subst (Begins m.seat.seen) (sym seen) (noted_begins m.seat.seen story own begins);
-        added = own_pairs story own;
-        mine = mine ∙ own_is m.seat.mine story own;
-        rising = subst (λ (l : List Entry). AreRising (length m.seat.seen) (length l) (own_pairs story own)) (sym seen) (own_rises m.seat.seen story own begins);
-        asked = asked;
-        plans = λ tx is. subst (λ (l : List Entry). ArePlanned p.set l tx m.eager m.jobs m.planned (own_pairs story own)) (sym seen) (plans tx is);
-        planned = planned;
-        sits = record {
-          of = of_same p m.seat n.seat plant tx_is sits.of;
-          has = (sits.has.0, tx_is ∙ sits.has.1);
-          tied = λ tx is. subst (λ (l : List (ℕ × Entry)). Tied gives stands tx l n.task) (sym mine) (tied tx (sym tx_is ∙ is));
-          knows = λ tx is. subst (λ (l : List Entry). n.ended ≤ ended_of p.set l tx.0) (sym seen) (knows tx (sym tx_is ∙ is));
-        };
-      }
+  ran_one p m n story base own sits after =
+      ran_by p m n story own sits (ap (λ (s : SeatFacts). s.plant) after) (ap (λ (s : SeatFacts). s.tx) after) (ap (λ (s : SeatFacts). s.seen) after) (ap (λ (s : SeatFacts). s.mine) after)
 
   -- a try that found the turn taken
   pub ran_busy : (p : PlantFacts) (m n : Member B Y) → Sits gives stands p m → n.seat ≡ missed_once m.seat
@@ -201,7 +210,7 @@ module _ {B Y : Type 0} (gives : Y → ℕ → List Outcome → Op) (stands : Y 
   pub all_step : (p : PlantFacts) (xs ys : List (Member B Y)) (i : ℕ) (y z : Member B Y) → Each (Ran gives stands p) xs ys → i < length ys → y ≡ slice_index_or ys i y → Ran gives stands p y z → Each (Ran gives stands p) xs (slice_set ys i z)
   all_step p = each_step (Ran gives stands p) (ran_trans gives stands p)
 
-refusal_none : (r : StepReply) (now : ℕ) (job : JobId) (op : Op) → IsRefusal r → step_entry now job op r ≡ None
+pub refusal_none : (r : StepReply) (now : ℕ) (job : JobId) (op : Op) → IsRefusal r → step_entry now job op r ≡ None
 refusal_none (reply.NoJob ended last) now job op h = refl
 refusal_none (reply.NotYet running) now job op h = refl
 refusal_none (reply.Undeclared item) now job op h = refl

@@ -30,12 +30,12 @@ use Rattle.txn_threads.proofs.Counting.{ended_grow, known_bound, tick_of}
 use Rattle.txn_threads.proofs.Scripting.{tied_other}
 use Rattle.txn_threads.proofs.Rounding.{own_pairs, noted_begins, ran_one, knew, refused_at, if_stop}
 
-same_tx : (s : Option TxId) (t tx : TxId) → s ≡ Some t → s ≡ Some tx → t ≡ tx
+pub same_tx : (s : Option TxId) (t tx : TxId) → s ≡ Some t → s ≡ Some tx → t ≡ tx
 same_tx s t tx p q = ap (the_tx tx) (sym p ∙ q)
 
 -- the entry of a step
 
-step_asked : (gives : ℕ → List Outcome → Op) (tx : TxId) (mine : List (ℕ × Entry)) (story : List Entry) (now serial : ℕ) (op : Op) (r : StepReply) → op ≡ gives serial (own_outcomes mine (job_of tx serial)) → AreAsked gives tx mine (own_pairs story (step_entry now (job_of tx serial) op r))
+pub step_asked : (gives : ℕ → List Outcome → Op) (tx : TxId) (mine : List (ℕ × Entry)) (story : List Entry) (now serial : ℕ) (op : Op) (r : StepReply) → op ≡ gives serial (own_outcomes mine (job_of tx serial)) → AreAsked gives tx mine (own_pairs story (step_entry now (job_of tx serial) op r))
 step_asked gives tx mine story now serial op (reply.NoJob ended last) own = tt
 step_asked gives tx mine story now serial op (reply.NotYet running) own = tt
 step_asked gives tx mine story now serial op (reply.Undeclared item) own = tt
@@ -45,7 +45,7 @@ step_asked gives tx mine story now serial op (reply.Full room) own = tt
 step_asked gives tx mine story now serial op (reply.Blocked by ceiling) own = ((refl, own), tt)
 step_asked gives tx mine story now serial op (reply.Done outcome over) own = ((refl, own), tt)
 
-step_plans : (set : Set) (seen : List Entry) (tx : TxId) (eager : Bool) (jobs n : ℕ) (story : List Entry) (now : ℕ) (job : JobId) (op : Op) (r : StepReply) → ArePlanned set seen tx eager jobs n (own_pairs story (step_entry now job op r)) × (plans_in (own_pairs story (step_entry now job op r)) ≡ 0)
+pub step_plans : (set : Set) (seen : List Entry) (tx : TxId) (eager : Bool) (jobs n : ℕ) (story : List Entry) (now : ℕ) (job : JobId) (op : Op) (r : StepReply) → ArePlanned set seen tx eager jobs n (own_pairs story (step_entry now job op r)) × (plans_in (own_pairs story (step_entry now job op r)) ≡ 0)
 step_plans set seen tx eager jobs n story now job op (reply.NoJob ended last) = (tt, refl)
 step_plans set seen tx eager jobs n story now job op (reply.NotYet running) = (tt, refl)
 step_plans set seen tx eager jobs n story now job op (reply.Undeclared item) = (tt, refl)

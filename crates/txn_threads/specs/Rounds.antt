@@ -21,7 +21,9 @@ use Rattle.txn_threads.specs.declared.round.Came.TheVariants as came
 use Rattle.txn_threads.specs.Scripts.{own_outcomes, AreAsked}
 use Rattle.txn_threads.specs.Plans.{plans_in, ArePlanned}
 use Rattle.txn_threads.specs.Rising.{AreRising}
-use Rattle.txn_threads.specs.Tasks.{Tied}
+use Rattle.txn_threads.specs.declared.task.Heard.{Heard}
+use Rattle.txn_threads.specs.declared.task.Heard.TheVariants as heard
+use Rattle.txn_threads.specs.Tasks.{Tied, heard_of}
 
 -- each element of the first list and the one of the second at its place
 abbrev pub Each : {X : Type 0} → (X → X → Type 0) → List X → List X → Type 0
@@ -132,9 +134,22 @@ known_after n (reply.Full room) = n
 known_after n (reply.Blocked by ceiling) = n
 known_after n (reply.Done outcome over) = n
 
+-- how many jobs are known to have ended, after what a task heard
+abbrev pub ended_by : ℕ → Heard → ℕ
+ended_by n heard.Nothing = n
+ended_by n (heard.Over ended) = ended
+ended_by n heard.Full = n
+ended_by n (heard.Undeclared item) = n
+ended_by n (heard.TooEarly left) = n
+ended_by n (heard.Unwritten item) = n
+
 -- the stop is this job's, by this refusal
 abbrev pub IsHaltOf : Halt → JobId → StepReply → Type 0
 IsHaltOf h job r = (h ≡ Refused job r) × IsRefusal r
+
+-- the stop is this job's, by the refusal that its task heard
+abbrev pub IsHeardHalt : Halt → JobId → Heard → Type 0
+IsHeardHalt h job kept = (r : StepReply) × (h ≡ Refused job r) × IsRefusal r × (kept ≡ heard_of r)
 
 -- how many jobs a member has planned, after an answer
 abbrev pub planned_after : ℕ → Result (JobId × ℕ) PlanRefused → ℕ

@@ -4,7 +4,7 @@ ghost use Rattle.txn_threads.specs.Runs.{Cleared};
 
 use crate::places::Places;
 use crate::round::Came;
-use crate::task::Task;
+use crate::task::{Heard, Task};
 use board::{Board, StepReply};
 use rt_base::{JobId, PlanRefused, TxId};
 use shared_plant::Seat;
@@ -50,6 +50,7 @@ impl<B: Board, Y: Body> Member<B, Y> {
             body,
             serial: 0,
             op: None,
+            heard: Heard::Nothing,
         };
         Member {
             seat,
@@ -77,6 +78,7 @@ impl<B: Board, Y: Body> Member<B, Y> {
             body,
             serial: _,
             op: _,
+            heard: _,
         } = task;
         (seat, body)
     }

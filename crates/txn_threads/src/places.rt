@@ -31,3 +31,31 @@ impl Places {
         if at < MOST_TXNS { self.by_tx[at] } else { None }
     }
 }
+
+// The worker that has the member of each transaction, and the place of the member among its own.
+#[derive(Clone, Copy)]
+pub(crate) struct Homes {
+    by_tx: [Option<(usize, usize)>; MOST_TXNS],
+}
+
+impl Homes {
+    // Of no member.
+    pub(crate) fn none() -> Homes {
+        Homes {
+            by_tx: [None; MOST_TXNS],
+        }
+    }
+
+    pub(crate) fn put(&mut self, tx: TxId, worker: usize, place: usize) {
+        let at = tx.0 as usize;
+        if at < MOST_TXNS {
+            self.by_tx[at] = Some((worker, place));
+        }
+    }
+
+    // The worker and the place of the member of a transaction, if there is one. One look.
+    pub(crate) fn of(&self, tx: TxId) -> Option<(usize, usize)> {
+        let at = tx.0 as usize;
+        if at < MOST_TXNS { self.by_tx[at] } else { None }
+    }
+}

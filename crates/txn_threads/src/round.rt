@@ -1,11 +1,14 @@
 //! A worker's part of a round.
 ghost use Rattle.std.specs.Prelude.{◌≡◌, ◌≢◌, ◌<◌, ◌+◌, ◌^◌, All, None, IfSome, length};
-ghost use Rattle.txn_threads.specs.Rounds.{Each, Sits, Ran, Met, MetIn, WorkerSits, WorkerRan, IfStop, IsCause, IsHaltOf, IsPlanHalt, known_after, planned_after};
+ghost use Rattle.txn_threads.specs.Rounds.{Each, Sits, Ran, Met, MetIn, WorkerSits, WorkerRan, IfStop, IsCause, IsHaltOf, IsHeardHalt, IsPlanHalt, ended_by, known_after, planned_after};
+ghost use Rattle.txn_threads.specs.Scripts.{job_of};
+ghost use Rattle.shared_plant.specs.Seats.{PlantFacts as Plants};
 ghost use Rattle.txn_threads.specs.declared.member.Halt.TheVariants as stop;
 
 use crate::gate::Gate;
 use crate::member::{Halt, Member, Worker};
 use crate::places::Places;
+use crate::task::Heard;
 use board::{Board, IdleReply, StepReply};
 use rt_base::{JobId, PlanRefused, Tick, TxId};
 use shared_plant::{Plant, Tried};
@@ -56,7 +59,7 @@ fn step_member<B: Board, Y: Body, G: Gate>(
     match plant.try_step(&mut member.seat, serial, op) {
         Tried::Busy => Came::Went,
         Tried::Said(reply) => {
-            member.task.hear(&reply);
+            member.task.answered(&reply);
             member.ended = ended_after(member.ended, &reply);
             came_of(JobId { tx, serial }, &reply, halt)
         }
@@ -72,6 +75,16 @@ fn ended_after(ended: u32, reply: &StepReply) -> u32
             ended: now,
             last: _,
         } => *now,
+        _ => ended,
+    }
+}
+
+// The same, by what a task heard.
+fn ended_by(ended: u32, heard: Heard) -> u32
+    ensures { result ≡ ended_by ended heard }
+{
+    match heard {
+        Heard::Over(now) => now,
         _ => ended,
     }
 }
@@ -207,7 +220,71 @@ fn came_of_idle(reply: &IdleReply) -> Came
     }
 }
 
-// One step try, and where the job has ended or is not pending a try to idle, whose answer tells which job runs.
+// What came of a turn of the member's steps: the stop that it met, or which job runs then. NoJob where none does.
+fn came_of_steps(
+    tx: TxId,
+    serial: u32,
+    heard: Heard,
+    running: Option<JobId>,
+    halt: &mut Option<Halt>,
+) -> Came
+    requires clear { halt.old ≡ None }
+    ensures { IfStop result halt.new (λ h. IsHeardHalt h (job_of tx serial) heard) }
+{
+    let reply = match heard {
+        Heard::Nothing | Heard::Over(_) => return came_of_running(running),
+        Heard::Full => return Came::Full,
+        Heard::Undeclared(item) => StepReply::Undeclared { item },
+        Heard::TooEarly(left) => StepReply::TooEarly { left },
+        Heard::Unwritten(item) => StepReply::Unwritten { item },
+    };
+    let job = JobId { tx, serial };
+    *halt = Some(Halt::Refused { job, reply });
+    Came::Stop
+}
+
+fn came_of_running(running: Option<JobId>) -> Came
+    ensures { IfStop result None (λ h. ⊥) }
+{
+    match running {
+        Some(job) => Came::NotYet(job.tx),
+        None => Came::NoJob,
+    }
+}
+
+// The steps of the member's job in one turn.
+#[inline(always)]
+fn steps_of<B: Board, Y: Body, G: Gate>(
+    plant: &Plant<B>,
+    gate: &G,
+    member: &mut Member<B, Y>,
+    halt: &mut Option<Halt>,
+) -> Came
+    requires sits { Sits Y.gives Y.stands plant.now member.old }
+    requires clear { halt.old ≡ None }
+    ensures ran { Ran Y.gives Y.stands plant.now member.old member.new }
+    ensures met { IfStop result halt.new (λ h. Met Y.gives plant.now h member.new) }
+{
+    let Some(tx) = member.seat.tx() else {
+        unreachable!()
+    };
+    let serial = member.task.serial;
+    member.task.heard = Heard::Nothing;
+    match plant.try_steps(&mut member.seat, serial, &mut member.task, gate) {
+        Tried::Busy => Came::Went,
+        Tried::Said(running) => {
+            let heard = member.task.heard;
+            if let Heard::Nothing = heard {
+                return came_of_running(running);
+            }
+            member.ended = ended_by(member.ended, heard);
+            came_of_steps(tx, serial, heard, running, halt)
+        }
+    }
+}
+
+// The steps of the member's job in one turn, and where nothing runs after them a try to idle.
+#[inline(always)]
 fn follow_member<B: Board, Y: Body, G: Gate>(
     plant: &Plant<B>,
     gate: &G,
@@ -219,9 +296,8 @@ fn follow_member<B: Board, Y: Body, G: Gate>(
     ensures ran { Ran Y.gives Y.stands plant.now member.old member.new }
     ensures met { IfStop result halt.new (λ h. Met Y.gives plant.now h member.new) }
 {
-    match step_member(plant, gate, member, halt) {
+    match steps_of(plant, gate, member, halt) {
         Came::NoJob => idle_member(plant, member),
-        Came::Ended => idle_member(plant, member),
         other => other,
     }
 }
@@ -385,7 +461,35 @@ fn passes<B: Board, Y: Body, G: Gate>(
     Came::Went
 }
 
+// Asks the member's body for its present operation, so that bodies of several workers are asked at once. It takes no turn.
+fn ask_ahead<B: Board, Y: Body, G: Gate>(gate: &G, member: &mut Member<B, Y>)
+    requires sits { (p : Plants) × Sits Y.gives Y.stands p member.old }
+    ensures ran { (p : Plants) → Sits Y.gives Y.stands p member.old → Ran Y.gives Y.stands p member.old member.new }
+{
+    let Some(tx) = member.seat.tx() else {
+        unreachable!()
+    };
+    let _op = member.task.operation(gate, tx);
+}
+
+// The tries of `follow_member` of a member, whose body is asked before its turn.
+fn follow_asked<B: Board, Y: Body, G: Gate>(
+    plant: &Plant<B>,
+    gate: &G,
+    member: &mut Member<B, Y>,
+    halt: &mut Option<Halt>,
+) -> Came
+    requires sits { Sits Y.gives Y.stands plant.now member.old }
+    requires clear { halt.old ≡ None }
+    ensures ran { Ran Y.gives Y.stands plant.now member.old member.new }
+    ensures met { IfStop result halt.new (λ h. Met Y.gives plant.now h member.new) }
+{
+    ask_ahead(gate, member);
+    follow_member(plant, gate, member, halt)
+}
+
 // The tries of `follow_member` of the member at a place.
+#[inline(always)]
 fn follow_at<B: Board, Y: Body, G: Gate>(
     plant: &Plant<B>,
     gate: &G,
@@ -401,6 +505,24 @@ fn follow_at<B: Board, Y: Body, G: Gate>(
 {
     let member = &mut members[place];
     follow_member(plant, gate, member, halt)
+}
+
+// The tries of `follow_asked` of the member at a place.
+fn follow_asked_at<B: Board, Y: Body, G: Gate>(
+    plant: &Plant<B>,
+    gate: &G,
+    members: &mut Vec<Member<B, Y>>,
+    place: usize,
+    halt: &mut Option<Halt>,
+) -> Came
+    requires sit { All (Sits Y.gives Y.stands plant.now) members.old.items }
+    requires clear { halt.old ≡ None }
+    requires place { place < length members.old.items }
+    ensures ran { Each (Ran Y.gives Y.stands plant.now) members.old.items members.new.items }
+    ensures met { IfStop result halt.new (λ h. MetIn Y.gives plant.now members.new.items h) }
+{
+    let member = &mut members[place];
+    follow_asked(plant, gate, member, halt)
 }
 
 // The place of the member that can go on after a try of the one at `first`, as far as the answer tells. None where it is no
@@ -434,7 +556,7 @@ fn follow<B: Board, Y: Body, G: Gate>(
         if *first >= members.len() {
             *first = 0;
         }
-        let came = follow_at(plant, gate, members, *first, halt);
+        let came = follow_asked_at(plant, gate, members, *first, halt);
         match heading(came, places, *first) {
             Some(place) => *first = place,
             None => return came,
@@ -443,8 +565,8 @@ fn follow<B: Board, Y: Body, G: Gate>(
     Came::Went
 }
 
-// Goes of a worker none of whose members has jobs to plan, at most sixteen for each member and each of one try or of two. Where
-// nothing is pending or planned each member has a try, and so hears that its jobs have ended.
+// Goes of a worker none of whose members has jobs to plan, at most sixteen for each member. Where nothing is pending or planned
+// each member has a step try, and so hears that its jobs have ended.
 fn follows<B: Board, Y: Body, G: Gate>(
     plant: &Plant<B>,
     gate: &G,
@@ -515,4 +637,21 @@ pub(crate) fn round<B: Board, Y: Body, G: Gate>(
             &mut worker.halt,
         );
     }
+}
+
+// A turn of the steps of the member at a place, unless the worker has met a stop.
+#[inline(always)]
+pub(crate) fn go_on<B: Board, Y: Body, G: Gate>(
+    plant: &Plant<B>,
+    gate: &G,
+    worker: &mut Worker<B, Y>,
+    place: usize,
+) -> Came
+    requires sits { WorkerSits Y.gives Y.stands plant.now worker.old }
+    ensures ran { WorkerRan Y.gives Y.stands plant.now worker.old worker.new }
+{
+    if worker.halt.is_some() || place >= worker.members.len() {
+        return Came::NoJob;
+    }
+    follow_at(plant, gate, &mut worker.members, place, &mut worker.halt)
 }

@@ -10,8 +10,8 @@ ghost use Rattle.txn_threads.specs.Runs.{MayRun, HasRun, IsDone, Operated, GotMo
 use crate::drain::Drain;
 use crate::gate::Gate;
 use crate::member::{Halt, Member, RunStop, Worker};
-use crate::places::Places;
-use crate::round::{Came, has_plans, round};
+use crate::places::{Homes, Places};
+use crate::round::{Came, go_on, has_plans, round};
 use board::Board;
 use rt_base::TxId;
 use run_out::{EntryOut, Stopped};
@@ -21,8 +21,8 @@ use std::thread;
 use std::thread::Threads;
 use step_script::Body;
 
-// How many workers go on one after another in a round in the caller's thread, at most.
-const PARTS: u32 = 64;
+// How many turns a round in the caller's thread has, at most.
+const TURNS: u32 = 512;
 
 // One round of all workers, in at most 64 threads.
 fn round_all<R: Threads + Sync, B: Board + Send, Y: Body + Send, G: Gate + Sync>(
@@ -45,115 +45,90 @@ fn round_all<R: Threads + Sync, B: Board + Send, Y: Body + Send, G: Gate + Sync>
     );
 }
 
-// The part of one worker of a round, in the thread of the caller.
-fn round_at<B: Board, Y: Body, G: Gate>(
-    plant: &Plant<B>,
-    workers: &mut [Worker<B, Y>],
-    place: usize,
-    gate: &G,
-)
-    requires sit { All (WorkerSits Y.gives Y.stands plant.now) workers.old }
-    requires place { place < length workers.old }
-    ensures ran { Each (WorkerRan Y.gives Y.stands plant.now) workers.old workers.new }
-{
-    let worker = &mut workers[place];
-    round(plant, gate, worker);
-}
-
-// The place of the worker that has the member of a transaction. One look for each worker.
-fn worker_of<B: Board, Y: Body>(workers: &[Worker<B, Y>], tx: TxId) -> Option<usize>
-    ensures within { IfSome result (λ i. i < length workers.now) }
-{
-    for i in 0..workers.len() {
-        let worker = &workers[i];
-        if worker.places.of(tx).is_some() {
-            return Some(i);
-        }
-    }
-    None
-}
-
-// The worker that alone can go on after a round of all, as the first answer tells that a job runs. None where an eager
-// member has jobs to plan.
-fn first_running<B: Board, Y: Body>(workers: &[Worker<B, Y>]) -> Option<usize>
-    ensures within { IfSome result (λ i. i < length workers.now) }
-{
+// The transaction whose job runs after a round of all, as the first answer told. None where an eager member has jobs to
+// plan.
+fn first_running<B: Board, Y: Body>(workers: &[Worker<B, Y>]) -> Option<TxId> {
     let mut running = None;
     for i in 0..workers.len() {
         let worker = &workers[i];
         if has_plans(worker.members.as_slice()) {
             return None;
         }
-        match worker.came {
-            Came::NotYet(tx) | Came::Waits(tx) => running = running.or(Some(tx)),
-            _ => {}
+        if let Came::NotYet(tx) = worker.came {
+            running = running.or(Some(tx));
         }
     }
-    worker_of(workers, running?)
+    running
 }
 
-// The worker that alone can go on after the part of one: itself where its job may run on, or the one whose job it was told
-// to run.
-fn next_running<B: Board, Y: Body>(workers: &[Worker<B, Y>], place: usize) -> Option<usize>
-    requires place { place < length workers.now }
-    ensures within { IfSome result (λ i. i < length workers.now) }
+// A turn of the member of a transaction. NoJob where there is none, or where its worker met a stop.
+#[inline(always)]
+fn go_on_at<B: Board, Y: Body, G: Gate>(
+    plant: &Plant<B>,
+    workers: &mut [Worker<B, Y>],
+    homes: &Homes,
+    tx: TxId,
+    gate: &G,
+) -> Came
+    requires sit { All (WorkerSits Y.gives Y.stands plant.now) workers.old }
+    ensures ran { Each (WorkerRan Y.gives Y.stands plant.now) workers.old workers.new }
 {
-    match workers[place].came {
-        Came::Went | Came::Idled | Came::Full => Some(place),
-        Came::NotYet(tx) | Came::Waits(tx) => worker_of(workers, tx),
-        _ => None,
+    let Some((at, place)) = homes.of(tx) else {
+        return Came::NoJob;
+    };
+    if at >= workers.len() {
+        return Came::NoJob;
     }
+    let worker = &mut workers[at];
+    go_on(plant, gate, worker, place)
 }
 
-// Whether the part of a worker ended as the job of another worker's member runs.
-fn was_told<B: Board, Y: Body>(workers: &[Worker<B, Y>], place: usize) -> bool
-    requires place { place < length workers.now }
-{
-    matches!(workers[place].came, Came::NotYet(_) | Came::Waits(_))
+// Whether no job runs, or a stop was met.
+fn is_over(came: Came) -> bool {
+    matches!(came, Came::NoJob | Came::Stop)
 }
 
-// Parts in the thread of the caller, each of the worker that alone can go on: the one at a place, and then, up to 64 times,
-// the one whose job it was told to run. It gives the worker that alone can go on after them.
+// Turns in the thread of the caller, each of the member whose job runs, as far as the answers tell: the first is that of a
+// transaction. It gives the one whose job runs after them.
 fn chain<B: Board, Y: Body, G: Gate>(
     plant: &Plant<B>,
     workers: &mut [Worker<B, Y>],
-    place: usize,
+    homes: &Homes,
+    tx: TxId,
     gate: &G,
-) -> Option<usize>
+) -> Option<TxId>
     requires sit { All (WorkerSits Y.gives Y.stands plant.now) workers.old }
-    requires place { place < length workers.old }
     ensures ran { Each (WorkerRan Y.gives Y.stands plant.now) workers.old workers.new }
-    ensures within { IfSome result (λ i. i < length workers.new) }
 {
-    let mut at = place;
-    for _ in 0..PARTS {
-        round_at(plant, workers, at, gate);
-        let told = was_told(workers, at);
-        let next = next_running(workers, at)?;
-        if !told {
-            return Some(next);
+    let mut running = tx;
+    for _ in 0..TURNS {
+        let came = go_on_at(plant, workers, homes, running, gate);
+        if let Came::NotYet(tx) = came {
+            running = tx;
+        } else if let Came::Full = came {
+            return Some(running);
+        } else if is_over(came) {
+            return None;
         }
-        at = next;
     }
-    Some(at)
+    Some(running)
 }
 
-// One round: of the workers that alone can go on, in the thread of the caller, or else of all workers. It gives the worker
-// that alone can go on after it.
+// One round: turns of the member whose job runs, in the thread of the caller, or else of all workers. It gives the transaction
+// whose job runs after it, as far as the answers tell.
 fn round_of<R: Threads + Sync, B: Board + Send, Y: Body + Send, G: Gate + Sync>(
     rt: &R,
     plant: &Plant<B>,
     workers: &mut [Worker<B, Y>],
-    alone: Option<usize>,
+    homes: &Homes,
+    running: Option<TxId>,
     gate: &G,
-) -> Option<usize>
+) -> Option<TxId>
     requires sit { All (WorkerSits Y.gives Y.stands plant.now) workers.old }
-    requires alone { IfSome alone (λ i. i < length workers.old) }
     ensures ran { Each (WorkerRan Y.gives Y.stands plant.now) workers.old workers.new }
-    ensures within { IfSome result (λ i. i < length workers.new) }
 {
-    match alone {
-        Some(place) => chain(plant, workers, place, gate),
+    match running {
+        Some(tx) => chain(plant, workers, homes, tx, gate),
         None => {
             round_all(rt, plant, workers, gate);
             first_running(workers)
@@ -270,6 +245,20 @@ fn places_of<B: Board, Y: Body>(members: &[Member<B, Y>]) -> Places {
     places
 }
 
+// The homes of the members of all workers.
+fn homes_of<B: Board, Y: Body>(workers: &[Worker<B, Y>]) -> Homes {
+    let mut homes = Homes::none();
+    for i in 0..workers.len() {
+        let members = workers[i].members.as_slice();
+        for k in 0..members.len() {
+            if let Some(tx) = members[k].seat.tx() {
+                homes.put(tx, i, k);
+            }
+        }
+    }
+    homes
+}
+
 // A worker as a run begins.
 fn clear_worker<B: Board, Y: Body>(worker: &mut Worker<B, Y>)
     ensures { WorkerCleared Y.gives Y.stands worker.old worker.new }
@@ -321,12 +310,13 @@ fn rounds<R: Threads + Wait + Sync, B: Board + Send, Y: Body + Send, G: Gate + S
     let Ok(()) = drain_all(rt, plant, drain, out) else {
         return Err(RunStop::Stopped);
     };
-    let mut alone = None;
+    let homes = homes_of(workers);
+    let mut running = None;
     for _ in rt.forever() {
-        if alone.is_none() && all_done(workers) {
+        if running.is_none() && all_done(workers) {
             return Ok(());
         }
-        alone = round_of(rt, plant, workers, alone, gate);
+        running = round_of(rt, plant, workers, &homes, running, gate);
         let Ok(()) = drain_all(rt, plant, drain, out) else {
             return Err(RunStop::Stopped);
         };
@@ -343,23 +333,22 @@ fn rounds<R: Threads + Wait + Sync, B: Board + Send, Y: Body + Send, G: Gate + S
 /// `drain` to `out`. A worker that meets a stop makes no further try. At its start the call clears what workers and members
 /// keep from an earlier one. It takes no memory, and it may wait.
 ///
-/// A worker's part of a round has at most sixteen times as many goes as it has members. A go is a step try of the member whose
-/// job runs, as far as the answers told, and where that job has ended or is not pending a try to idle besides, whose answer
-/// tells which job runs. The part ends where the journal is full, and that try is made again after the next drain; where the
-/// job of another worker's member runs; and where nothing is pending or planned, after a step try of each member. So it has at
-/// most 33 tries for each member. A worker that has eager members with jobs to plan goes at most sixteen times through its
-/// members instead. Each time it begins with the member whose job runs, as far as the answers told, and makes at most one step
-/// try a member, a plan try for an eager one whose planned jobs have ended, and a try to idle where no member's job is pending,
-/// which ends its part too unless the turn is taken. So it has at most 32 tries for each member then, and 15 more.
+/// A worker's part of a round has at most sixteen times as many goes as it has members. A go is a turn of the member whose job
+/// runs, as far as the answers told: its job's steps for as long as it runs, at most `MOST_STEPS`; and where no job runs then a
+/// try to idle. The part ends where the journal is full, and that step is asked for again after the next drain; where the job of
+/// another worker's member runs; and where nothing is pending or planned, after a step try of each member. A worker that has
+/// eager members with jobs to plan goes at most sixteen times through its members instead. Each time it begins with the member
+/// whose job runs, as far as the answers told, and makes at most one step try a member, a plan try for an eager one whose planned
+/// jobs have ended, and a try to idle where no member's job is pending, which ends its part too unless the turn is taken. So it
+/// has at most 32 tries for each member then, and 15 more.
 ///
-/// One job runs at a time. Where the answers of a round told whose, and no eager member has jobs to plan, the next round is
-/// of its worker alone, in the thread of the caller, and where its part ends as another's job runs, of that one after it, up
-/// to 64 parts, of which several may be of one worker: the others could only be told to wait, and starting their threads costs
-/// more than many steps. Where nothing is pending or planned the next round is of all workers again. One step costs about one
-/// try, with a look at each worker where the job of another's member runs.
+/// One job runs at a time. Where the answers of a round told whose, and no eager member has jobs to plan, the next round is in the
+/// thread of the caller: up to 512 goes, each of the member whose job runs, whichever worker has it. The others could only be told
+/// to wait, and starting their threads costs more than many steps. Where nothing is pending or planned the next round is of all
+/// workers again. A go costs one exchange for the turn and one look for the member.
 ///
-/// A round of all workers has one part of each. Each try adds at most one entry, and none where the journal is full, so that a
-/// round adds at most as many entries as the board has room for.
+/// A round of all workers has one part of each. Each step and each try adds at most one entry, and none where the journal is full,
+/// so that a round adds at most as many entries as the board has room for.
 ///
 /// That no two members have the same transaction, and that a member's transaction has exactly `jobs` planned jobs, or
 /// none if it is eager, is left to the caller: no promise needs it. Where the list of `drain` has reserved places for the

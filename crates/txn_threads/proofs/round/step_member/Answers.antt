@@ -13,11 +13,11 @@ returns-in-Said-clause-ran g c =
     let is = sym c.tx.ensures ∙ c.in-Some.is in
     ran_stepped g.Y.Body.gives g.Y.Body.stands c.args.plant.now c.args.member.now _ c.in-Some.tx c.operation-op.new.self c.operation-op.result c.in-Said.reply c.requires.sits is
     (c.in-Said.ensures.said c.in-Some.tx is)
-    refl refl (c.hear.ensures.same ∙ c.operation-op.ensures.same) c.operation-op.ensures.same c.operation-op.ensures.kept c.operation-op.ensures.tied c.hear.ensures.tied refl c.ended_after-member.ensures
+    refl refl (c.answered.ensures.same ∙ c.operation-op.ensures.same) c.operation-op.ensures.same c.operation-op.ensures.kept c.operation-op.ensures.tied c.answered.ensures.tied refl c.ended_after-member.ensures
 
 pub returns-in-Said-clause-met : goal.returns-in-Said-clause-met
 returns-in-Said-clause-met g c =
     let is = sym c.tx.ensures ∙ c.in-Some.is in
     refused_stop g.Y.Body.gives g.Y.Body.stands c.args.plant.now c.args.member.now _ c.in-Some.tx c.operation-op.new.self c.operation-op.result c.in-Said.reply c.came_of.result c.came_of.new.halt c.requires.sits is
     (c.in-Said.ensures.said c.in-Some.tx is)
-    c.hear.ensures.same c.operation-op.ensures.kept c.operation-op.ensures.tied c.came_of.ensures
+    c.answered.ensures.same c.operation-op.ensures.kept c.operation-op.ensures.tied c.came_of.ensures

@@ -2,16 +2,16 @@ use Rattle.txn_threads.proofs.Running.{workers_refl, workers_trans, workers_sit}
 use Rattle.txn_threads.proofs.run.chain.Goals as goal
 
 pub loop-init : goal.loop-init
-loop-init g c = (workers_refl g.Y.Body.gives g.Y.Body.stands c.args.plant.now c.args.workers.now c.requires.sit, c.requires.place)
+loop-init g c = workers_refl g.Y.Body.gives g.Y.Body.stands c.args.plant.now c.args.workers.now c.requires.sit
 
-pub round_at-requires : goal.round_at-requires
-round_at-requires g c = record { sit = workers_sit g.Y.Body.gives g.Y.Body.stands c.args.plant.now c.args.workers.now c.loop.workers c.loop.invariant.0; place = c.loop.invariant.1 }
+pub go_on_at-came-requires : goal.go_on_at-came-requires
+go_on_at-came-requires g c = record { sit = workers_sit g.Y.Body.gives g.Y.Body.stands c.args.plant.now c.args.workers.now c.loop.workers c.loop.invariant }
 
-pub returns-in_err-next-clause-ran : goal.returns-in_err-next-clause-ran
-returns-in_err-next-clause-ran g c = workers_trans g.Y.Body.gives g.Y.Body.stands c.args.plant.now c.args.workers.now c.loop.workers c.round_at.new.workers c.loop.invariant.0 c.round_at.ensures.ran
+pub returns-in-Full : goal.returns-in-Full
+returns-in-Full g c = record { ran = workers_trans g.Y.Body.gives g.Y.Body.stands c.args.plant.now c.args.workers.now c.loop.workers c.go_on_at-came.new.workers c.loop.invariant c.go_on_at-came.ensures.ran }
 
-pub returns-then-not-told-clause-ran : goal.returns-then-not-told-clause-ran
-returns-then-not-told-clause-ran g c = workers_trans g.Y.Body.gives g.Y.Body.stands c.args.plant.now c.args.workers.now c.loop.workers c.round_at.new.workers c.loop.invariant.0 c.round_at.ensures.ran
+pub returns-then-is_over : goal.returns-then-is_over
+returns-then-is_over g c = record { ran = workers_trans g.Y.Body.gives g.Y.Body.stands c.args.plant.now c.args.workers.now c.loop.workers c.go_on_at-came.new.workers c.loop.invariant c.go_on_at-came.ensures.ran }
 
 pub loop-preserved : goal.loop-preserved
-loop-preserved g c = (workers_trans g.Y.Body.gives g.Y.Body.stands c.args.plant.now c.args.workers.now c.loop.workers c.round_at.new.workers c.loop.invariant.0 c.round_at.ensures.ran, c.in_ok-next.ensures.within)
+loop-preserved g c = workers_trans g.Y.Body.gives g.Y.Body.stands c.args.plant.now c.args.workers.now c.loop.workers c.go_on_at-came.new.workers c.loop.invariant c.go_on_at-came.ensures.ran

@@ -30,14 +30,10 @@ loop-init g c = let e = c.in-Ok.ensures in (
   c.drain_all.ensures.stops,
   c.drain_all.ensures.good,
   c.drain_all.ensures.all,
-  tt,
 )
 
-pub round_of-alone-requires-clause-sit : goal.round_of-alone-requires-clause-sit
-round_of-alone-requires-clause-sit g c κs within = workers_sit g.Y.Body.gives g.Y.Body.stands c.args.plant.now c.args.workers.now c.loop.workers c.loop.invariant.2
-
-pub round_of-alone-requires-clause-alone : goal.round_of-alone-requires-clause-alone
-round_of-alone-requires-clause-alone g c κs within = c.loop.invariant.13
+pub round_of-running-requires-clause-sit : goal.round_of-running-requires-clause-sit
+round_of-running-requires-clause-sit g c κs within = workers_sit g.Y.Body.gives g.Y.Body.stands c.args.plant.now c.args.workers.now c.loop.workers c.loop.invariant.2
 
 pub drain_all-requires-in-loop-clause-plant : goal.drain_all-requires-in-loop-clause-plant
 drain_all-requires-in-loop-clause-plant g c = let q = c.loop.invariant.4 in of_same c.args.plant.now c.args.drain.now.operator c.loop.drain.operator q.plant q.tx c.requires.plant
@@ -58,7 +54,7 @@ pub returns-in-Some-first_halt-clause-good : goal.returns-in-Some-first_halt-cla
 returns-in-Some-first_halt-clause-good g c = λ story fine. c.drain_all-in-loop.ensures.good story (c.loop.invariant.11 story fine)
 
 pub returns-in_default-drain_all-clause-ran : goal.returns-in_default-drain_all-clause-ran
-returns-in_default-drain_all-clause-ran g c = workers_trans g.Y.Body.gives g.Y.Body.stands c.args.plant.now c.args.workers.now c.loop.workers c.round_of-alone.new.workers c.loop.invariant.2 c.round_of-alone.ensures.ran
+returns-in_default-drain_all-clause-ran g c = workers_trans g.Y.Body.gives g.Y.Body.stands c.args.plant.now c.args.workers.now c.loop.workers c.round_of-running.new.workers c.loop.invariant.2 c.round_of-running.ensures.ran
 
 pub returns-in_default-drain_all-clause-operated : goal.returns-in_default-drain_all-clause-operated
 returns-in_default-drain_all-clause-operated g c = operated_trans c.args.drain.now.operator c.loop.drain.operator c.drain_all-in-loop.new.drain.operator c.loop.invariant.4 c.drain_all-in-loop.ensures.operated
@@ -74,10 +70,10 @@ returns-in_default-drain_all-clause-got g c =
     )
 
 pub returns-in-Some-first_halt-clause-ran : goal.returns-in-Some-first_halt-clause-ran
-returns-in-Some-first_halt-clause-ran g c = workers_trans g.Y.Body.gives g.Y.Body.stands c.args.plant.now c.args.workers.now c.loop.workers c.round_of-alone.new.workers c.loop.invariant.2 c.round_of-alone.ensures.ran
+returns-in-Some-first_halt-clause-ran g c = workers_trans g.Y.Body.gives g.Y.Body.stands c.args.plant.now c.args.workers.now c.loop.workers c.round_of-running.new.workers c.loop.invariant.2 c.round_of-running.ensures.ran
 
 pub returns-in-Some-first_halt-clause-stop : goal.returns-in-Some-first_halt-clause-stop
-returns-in-Some-first_halt-clause-stop g c = subst (λ s. HaltIs c.round_of-alone.new.workers s) (sym c.stop_of.ensures) (halt_is c.round_of-alone.new.workers c.in-Some-first_halt.halt c.in-Some-first_halt.ensures.some)
+returns-in-Some-first_halt-clause-stop g c = subst (λ s. HaltIs c.round_of-running.new.workers s) (sym c.stop_of.ensures) (halt_is c.round_of-running.new.workers c.in-Some-first_halt.halt c.in-Some-first_halt.ensures.some)
 
 pub returns-in-Some-first_halt-clause-operated : goal.returns-in-Some-first_halt-clause-operated
 returns-in-Some-first_halt-clause-operated g c = operated_trans c.args.drain.now.operator c.loop.drain.operator c.drain_all-in-loop.new.drain.operator c.loop.invariant.4 c.drain_all-in-loop.ensures.operated
@@ -95,7 +91,7 @@ pub loop-preserved : goal.loop-preserved
 loop-preserved g c = let i = c.loop.invariant in let d = c.drain_all-in-loop.ensures in let was = i.10 in let rose = d.stops in (
   tt,
   tt,
-  workers_trans g.Y.Body.gives g.Y.Body.stands c.args.plant.now c.args.workers.now c.loop.workers c.round_of-alone.new.workers i.2 c.round_of-alone.ensures.ran,
+  workers_trans g.Y.Body.gives g.Y.Body.stands c.args.plant.now c.args.workers.now c.loop.workers c.round_of-running.new.workers i.2 c.round_of-running.ensures.ran,
   c.in-None-first_halt.ensures.none,
   operated_trans c.args.drain.now.operator c.loop.drain.operator c.drain_all-in-loop.new.drain.operator i.4 d.operated,
   d.within,
@@ -106,7 +102,6 @@ loop-preserved g c = let i = c.loop.invariant in let d = c.drain_all-in-loop.ens
   omega (arith, was, rose),
   (λ story fine. d.good story (i.11 story fine)),
   (λ places. let same = i.7 in d.all (omega (arith, places, same))),
-  c.round_of-alone.ensures.within,
 )
 
 pub returns-in_default-clause-all : goal.returns-in_default-clause-all

@@ -1,4 +1,4 @@
-use Rattle.std.proofs.Common.{◌≡◌, ◌<◌, ◌≤◌, List, [], length, All, None, IfSome, vec_capacity}
+use Rattle.std.proofs.Common.{◌≡◌, ◌≤◌, List, [], length, All, None, vec_capacity}
 use Rattle.step_journal.specs.declared.entry.Entry.{Entry}
 use Rattle.step_journal.specs.History.{IsLegal}
 use Rattle.txn_threads.specs.declared.member.Worker.{Worker}
@@ -21,4 +21,3 @@ invariant-loop g l =
     × (g.O.EntryOut.stops l.fn.out ≤ g.O.EntryOut.stops l.out)
     × ((story : List Entry) → g.O.EntryOut.good l.fn.out story → g.O.EntryOut.good l.out story)
     × (l.fn.plant.room ≤ vec_capacity l.fn.drain.spare → l.drain.operator.drained ≡ length l.drain.operator.seen)
-    × IfSome l.alone (λ i. i < length l.workers)
