@@ -89,6 +89,20 @@ fn computes(core: &mut OpenCore, job: JobId, op: Op) -> bool
     }
 }
 
+// As the core's call where the operation is known, and writes what it answers.
+#[inline(always)]
+fn answered(core: &mut OpenCore, job: JobId, op: Op, answer: &mut StepForm)
+    requires { job.tx.0 < length (board_of core.old).set.txns }
+    ensures fixed { ((board_of core.new).set ≡ (board_of core.old).set) × ((board_of core.new).journal.room ≡ (board_of core.old).journal.room) × ((board_of core.new).journal.first ≡ (board_of core.old).journal.first) }
+    ensures admitted { admitted_of core.new ≡ admitted_of core.old }
+    ensures answer { (story : List Noted) → Stands (board_of core.old) story → answer.new ≡ form_of_step (step_answer (board_of core.old).set story (length (board_of core.old).journal.kept) (board_of core.old).journal.room job op) }
+    ensures after { (story : List Noted) → Stands (board_of core.old) story → Stands (board_of core.new) (noted story (step_entry (now_of (board_of core.old).set story) job op (step_answer (board_of core.old).set story (length (board_of core.old).journal.kept) (board_of core.old).journal.room job op))) }
+    ensures blocked_once { (story : List Noted) → Stands (board_of core.old) story → IfBlocked (step_answer (board_of core.old).set story (length (board_of core.old).journal.kept) (board_of core.old).journal.room job op) (IsFirstRefusal (board_of core.old).set story job) }
+    ensures bounds { (story : List Noted) → Stands (board_of core.new) story → KeepsBoundsOf core.new story }
+{
+    put_reply(&core.asked(job, op), answer);
+}
+
 // As the core's call, and writes what it answers. Of a job that only computes the answer is known without a reply.
 #[inline(always)]
 fn asked(core: &mut OpenCore, job: JobId, op: Op, answer: &mut StepForm)
@@ -104,7 +118,13 @@ fn asked(core: &mut OpenCore, job: JobId, op: Op, answer: &mut StepForm)
         put_done(&Outcome::Computed, &None, answer);
         return;
     }
-    put_reply(&core.step(job, op), answer);
+    match op {
+        Op::Read(_) => answered(core, job, op, answer),
+        Op::Write(_, _) => answered(core, job, op, answer),
+        Op::Compute => answered(core, job, op, answer),
+        Op::Commit => answered(core, job, op, answer),
+        Op::Quit => answered(core, job, op, answer),
+    }
 }
 
 // The journal has room for no more entries.
@@ -237,12 +257,15 @@ impl CheckedCore {
         ensures bounds { (story : List Noted) → Stands (board_of self.new.core) story → KeepsBoundsOf self.new.core story }
     {
         self.core.keeps_bounds();
-        let Some(op) = op_of(code, item, value) else {
+        if code > 4 {
             return NO_OPERATION;
-        };
+        }
         if !self.has_txn(job.tx) {
             return NO_TRANSACTION;
         }
+        let Some(op) = op_of(code, item, value) else {
+            return NO_OPERATION;
+        };
         let job = JobId {
             tx: TxId(job.tx),
             serial: job.serial,

@@ -129,8 +129,9 @@ impl OpenCore {
         reply
     }
 
-    /// A job asks for an operation, as of the core.
-    pub fn step(&mut self, job: JobId, op: Op) -> StepReply
+    /// A job asks for an operation, as of the core. It is inlined where the operation is known.
+    #[inline(always)]
+    pub fn asked(&mut self, job: JobId, op: Op) -> StepReply
         requires { job.tx.0 < length (board_of self.old).set.txns }
         ensures fixed { ((board_of self.new).set ≡ (board_of self.old).set) × ((board_of self.new).journal.room ≡ (board_of self.old).journal.room) × ((board_of self.new).journal.first ≡ (board_of self.old).journal.first) }
         ensures admitted { admitted_of self.new ≡ admitted_of self.old }
@@ -139,7 +140,7 @@ impl OpenCore {
         ensures blocked_once { (story : List Noted) → Stands (board_of self.old) story → IfBlocked result (IsFirstRefusal (board_of self.old).set story job) }
         ensures bounds { (story : List Noted) → Stands (board_of self.new) story → KeepsBoundsOf self.new story }
     {
-        let reply = self.core.step(job, op);
+        let reply = self.core.asked(job, op);
         self.keeps_bounds();
         reply
     }

@@ -2,7 +2,7 @@
 use Rattle.std.proofs.Common.{◌≡◌, ℕ, zero, suc, ◌+◌, ◌*◌, ◌^◌, ◌<◌, ◌≤◌, ◌==◌, max, Bool, true, false, not, ◌&&◌, ◌||◌, cond, List, [], ◌∷◌, length, get_or, set, replicate, take, drop, ◌++◌, ◌-◌, Option, None, Some, refl, ap, sym, ◌∙◌, subst, inl, inr, arith}
 use Rattle.std.proofs.lemmas.Bool.{cases_eq, eqb-true, eqb-false, eq-eqb, ne_eqb, or_left, or_right, or_parts, and_parts, and_from, not-true, not_from_false}
 use Rattle.std.proofs.lemmas.Nat.{same_from_place, row_fits}
-use Rattle.std.proofs.lemmas.List.{get_or-set_same, get_or-set_other, length-set, get_or_read, length-replicate, length-append, length-take-le, length-drop, get_or-append-add, get_or_append_left, get_or-take, get_or-drop, get_or-replicate}
+use Rattle.std.proofs.lemmas.List.{get_or-set_same, get_or-set_other, length-set, set-get_or, get_or_read, length-replicate, length-append, length-take-le, length-drop, get_or-append-add, get_or_append_left, get_or-take, get_or-drop, get_or-replicate}
 use Rattle.std.proofs.lemmas.Bool.{cases_lt, lt-ltb, le-ltb, and_left, and_right}
 use Rattle.rt_base.specs.Shelf.{Shelf}
 use Rattle.std.specs.Prelude.{nat_lt}
@@ -13,7 +13,7 @@ use Rattle.ceiling_table.specs.declared.Above.{Above}
 use Rattle.ceiling_table.specs.declared.LockKind.{LockKind}
 use Rattle.ceiling_table.specs.declared.LockKind.TheVariants.{Free, Read, Write}
 use Rattle.ceiling_table.specs.Held.{Locks, prio_of, no_ceilings, kind_ceiling, is_lock, greatest_below, any_below, ceiling_of, is_holder, numbers_below, other_holders, above_of, refusal, with_lock, locked_at, released_at}
-use Rattle.ceiling_table.specs.Seated.{row_above, seat_of, ceiling_or_none, seat_ceiling, unseated, seated, AllBelow, InOrder, HoldersBelow, first_other, freed_from, IsSeated, IsTable, Changes}
+use Rattle.ceiling_table.specs.Seated.{row_above, seat_of, ceiling_or_none, seat_ceiling, unseated, seated, AllBelow, InOrder, HoldersBelow, first_other, freed_from, IsSeated, IsNoted, IsTable, Changes}
 use Rattle.ceiling_table.proofs.RowOrder.{order_unseated, unique_unseated, holders_unseated, seat_unseated, seat_unseated_other, differ, order_seated, unique_seated, holders_seated, seat_seated, fewer_rows}
 use Rattle.ceiling_table.proofs.Tops.{In, in_filter, filter_in, in_numbers, numbers_in, topmost_in, topmost_is}
 
@@ -118,6 +118,37 @@ seated_after_lock cs ps ls ls' rows a distinct s stays lt held c =
                 ∙ seat_unseated_other a.holder.0 t rows ne ∙ s.seats t lt' ∙ other_seat cs ps ls ls' a.holder.0 t stays ne)
           ];
     }
+
+-- ---- what is noted of a transaction
+
+-- what is noted of the transaction whose locks change
+pub noted_after : (cs : List CeilRow) (ps : List ℕ) (ls ls' : List LockKind) (noted noted' : List Bool) (tx : ℕ) (held : Bool) → IsNoted (table cs ps ls) noted → Stays cs ls ls' tx → tx < length ps → is_holder (table cs ps ls') tx ≡ held → noted' ≡ set noted tx held → IsNoted (table cs ps ls') noted'
+noted_after cs ps ls ls' noted noted' tx held n stays lt is e = record {
+  size = ap length e ∙ length-set noted tx held ∙ n.size;
+  holders = λ t lt'.
+      elim (cases_eq t tx) [
+        | inl same ↦ (
+            ap (λ (q : List Bool). get_or q t false) e ∙ ap (λ (k : ℕ). get_or (set noted tx held) k false) same
+            ∙ get_or-set_same noted tx held false (omega (arith, n.size, lt))
+            ∙ sym (ap (λ (k : ℕ). is_holder (table cs ps ls') k) same ∙ is))
+        | inr ne ↦ ap (λ (q : List Bool). get_or q t false) e ∙ get_or-set_other noted tx t held false ne ∙ n.holders t lt' ∙ sym (holder_stays cs ps ls ls' tx t stays ne)
+      ];
+}
+
+-- what is noted so already stays
+pub noted_already : (noted : List Bool) (tx : ℕ) (was held : Bool) → tx < length noted → was ≡ get_or noted tx was → was ≡ held → noted ≡ set noted tx held
+noted_already noted tx was held lt r e =
+    let is : held ≡ get_or noted tx false = sym e ∙ get_or_read noted tx was lt r false in
+    sym (ap (set noted tx) is ∙ set-get_or noted tx false)
+
+pub within_noted : (cs : List CeilRow) (ps : List ℕ) (ls : List LockKind) (rows : Shelf Above) (noted : List Bool) (tx : ℕ) → IsTable (table cs ps ls) rows noted → tx < length ps → tx < length noted
+within_noted cs ps ls rows noted tx t lt = omega (arith, t.holders_noted.size, lt)
+
+-- who is not noted has no row
+pub not_noted : (cs : List CeilRow) (ps : List ℕ) (ls : List LockKind) (rows : Shelf Above) (noted : List Bool) (tx : ℕ) (was : Bool) → IsTable (table cs ps ls) rows noted → tx < length ps → was ≡ get_or noted tx was → was ≡ false → seat_of tx rows.items ≡ None
+not_noted cs ps ls rows noted tx was t lt r e =
+    let free : is_holder (table cs ps ls) tx ≡ false = sym (t.holders_noted.holders tx lt) ∙ sym (get_or_read noted tx was (within_noted cs ps ls rows noted tx t lt) r false) ∙ e in
+    t.seated.seats tx lt ∙ ap (λ (b : Bool). cond b (Some (ceiling_of (table cs ps ls) tx)) None) free
 
 -- ---- the first row of another holder is the topmost
 
@@ -245,8 +276,8 @@ lock_is_lock false Read = refl
 lock_is_lock false Write = refl
 
 -- there is room for the row of a transaction
-pub room_for_row : (cs : List CeilRow) (ps : List ℕ) (ls : List LockKind) (rows : Shelf Above) (tx : ℕ) → IsTable (table cs ps ls) rows → tx < length ps → length (unseated tx rows.items) < rows.room
-room_for_row cs ps ls rows tx t lt =
+pub room_for_row : (cs : List CeilRow) (ps : List ℕ) (ls : List LockKind) (rows : Shelf Above) (noted : List Bool) (tx : ℕ) → IsTable (table cs ps ls) rows noted → tx < length ps → length (unseated tx rows.items) < rows.room
+room_for_row cs ps ls rows noted tx t lt =
     let few : length (unseated tx rows.items) < length ps = fewer_rows (length ps) tx (unseated tx rows.items) lt (holders_unseated _ tx rows.items t.seated.holders) (unique_unseated tx rows.items t.seated.unique) (seat_unseated tx rows.items t.seated.unique) in
     omega (arith, few, t.room)
 
@@ -290,6 +321,19 @@ pub record Sets (cs : List CeilRow) (ps : List ℕ) (ls ls' : List LockKind) (m 
   pub read : was ≡ get_or ls (tx * m + item) was
   pub joined : k ≡ with_lock writes was
   pub written : ls' ≡ set ls (tx * m + item) k
+
+-- the same, by the view of the table
+pub sets_of : (old : Locks) {cs : List CeilRow} {ps : List ℕ} {ls ls' : List LockKind} {m tx item : ℕ} {writes : Bool} {was k : LockKind} → table cs ps ls ≡ old → tx < length old.prios → item < length old.ceilings → m ≡ length cs → length ls ≡ length ps * length cs
+    → was ≡ get_or ls (tx * m + item) was → k ≡ with_lock writes was → ls' ≡ set ls (tx * m + item) k → Sets cs ps ls ls' m tx item writes was k
+sets_of old {tx = tx} {item = item} view lt li count size read joined written = record {
+  count = count;
+  in_txns = subst (λ (h : Locks). tx < length h.prios) (sym view) lt;
+  in_items = subst (λ (h : Locks). item < length h.ceilings) (sym view) li;
+  size = size;
+  read = read;
+  joined = joined;
+  written = written;
+}
 
 sets_is : (cs : List CeilRow) (ps : List ℕ) (ls ls' : List LockKind) (m tx item : ℕ) (writes : Bool) (was k : LockKind) → Sets cs ps ls ls' m tx item writes was k → IsSet cs ls ls' tx item k × (k ≡ with_lock writes (get_or ls (tx * length cs + item) Free))
 sets_is cs ps ls ls' m tx item writes was k s =
@@ -360,11 +404,11 @@ ceiling_raised cs ps ls ls' rows tx item writes k s lt li is e =
     ∙ ap (λ (q : LockKind). max (kind_ceiling (get_or cs item no_ceilings) q) (ceiling_of (table cs ps ls) tx)) (sym is.here)
     ∙ sym (raised (length cs) item (λ i. kind_ceiling (get_or cs i no_ceilings) (get_or ls (tx * length cs + i) Free)) (λ i. kind_ceiling (get_or cs i no_ceilings) (get_or ls' (tx * length cs + i) Free)) li others up)
 
-pub lock_keeps : (cs : List CeilRow) (ps : List ℕ) (ls ls' : List LockKind) (rows rows' : Shelf Above) (m tx item ceiling : ℕ) (row : CeilRow) (writes : Bool) (was k : LockKind) → IsTable (table cs ps ls) rows → Sets cs ps ls ls' m tx item writes was k
+pub lock_keeps : (cs : List CeilRow) (ps : List ℕ) (ls ls' : List LockKind) (rows rows' : Shelf Above) (noted noted' : List Bool) (m tx item ceiling : ℕ) (row : CeilRow) (writes : Bool) (was k : LockKind) → IsTable (table cs ps ls) rows noted → Sets cs ps ls ls' m tx item writes was k
     → row ≡ get_or cs item row → ceiling ≡ max (kind_ceiling row k) (seat_ceiling tx rows.items)
-    → rows'.items ≡ seated (λ t. get_or ps t 0) (record { holder = record { 0 = tx }; ceiling = ceiling }) (unseated tx rows.items) → rows'.room ≡ rows.room → IsTable (table cs ps ls') rows'
+    → rows'.items ≡ seated (λ t. get_or ps t 0) (record { holder = record { 0 = tx }; ceiling = ceiling }) (unseated tx rows.items) → rows'.room ≡ rows.room → noted' ≡ set noted tx true → IsTable (table cs ps ls') rows' noted'
 unfolding is_holder
-lock_keeps cs ps ls ls' rows rows' m tx item ceiling row writes was k t s re c e r =
+lock_keeps cs ps ls ls' rows rows' noted noted' m tx item ceiling row writes was k t s re c e r n =
     let is : IsSet cs ls ls' tx item k × (k ≡ with_lock writes (get_or ls (tx * length cs + item) Free)) = sets_is cs ps ls ls' m tx item writes was k s in
     let stays : Stays cs ls ls' tx = (λ t i ne l. is.0.others t i l (λ q. ne q.0)) in
     let size : length ls' ≡ length ls = ap length s.written ∙ length-set ls (tx * m + item) k in
@@ -379,6 +423,7 @@ lock_keeps cs ps ls ls' rows rows' m tx item ceiling row writes was k t s re c e
       small = omega (arith, size, t.small);
       room = omega (arith, t.room, r);
       seated = subst (IsSeated (table cs ps ls')) (sym e) (seated_after_lock cs ps ls ls' rows.items (record { holder = record { 0 = tx }; ceiling = ceiling }) t.distinct t.seated stays s.in_txns held level);
+      holders_noted = noted_after cs ps ls ls' noted noted' tx true t.holders_noted stays s.in_txns held n;
     }
 
 -- ---- a transaction's locks less
@@ -453,9 +498,9 @@ release_changes cs ps ls ls' m tx size lt e h = record {
   locks = λ t i l. ap (λ (q : List LockKind). get_or q (t * length cs + i) Free) (freed_is cs ls ls' m tx e h) ∙ released_is cs ps ls tx t i size lt l;
 }
 
-pub release_keeps : (cs : List CeilRow) (ps : List ℕ) (ls ls' : List LockKind) (rows rows' : Shelf Above) (m tx : ℕ) → IsTable (table cs ps ls) rows → tx < length ps → m ≡ length cs → ls' ≡ freed_from (tx * m) m ls → rows'.items ≡ unseated tx rows.items → rows'.room ≡ rows.room → IsTable (table cs ps ls') rows'
+pub release_keeps : (cs : List CeilRow) (ps : List ℕ) (ls ls' : List LockKind) (rows rows' : Shelf Above) (noted noted' : List Bool) (m tx : ℕ) → IsTable (table cs ps ls) rows noted → tx < length ps → m ≡ length cs → ls' ≡ freed_from (tx * m) m ls → rows'.items ≡ unseated tx rows.items → rows'.room ≡ rows.room → noted' ≡ set noted tx false → IsTable (table cs ps ls') rows' noted'
 unfolding is_holder
-release_keeps cs ps ls ls' rows rows' m tx t lt e h u r =
+release_keeps cs ps ls ls' rows rows' noted noted' m tx t lt e h u r n =
     let is : (u i : ℕ) → i < length cs → get_or ls' (u * length cs + i) Free ≡ cond (u == tx) Free (get_or ls (u * length cs + i) Free) = (release_changes cs ps ls ls' m tx t.size lt e h).locks in
     let stays : Stays cs ls ls' tx = (λ u i ne l. is u i l ∙ ap (λ (b : Bool). cond b Free (get_or ls (u * length cs + i) Free)) (ne_eqb _ _ ne)) in
     let gone : is_holder (table cs ps ls') tx ≡ false = any_none (length cs) (λ i. is_lock (get_or ls' (tx * length cs + i) Free)) (λ i l. ap is_lock (is tx i l ∙ ap (λ (b : Bool). cond b Free (get_or ls (tx * length cs + i) Free)) (eq-eqb tx tx refl))) in
@@ -467,6 +512,7 @@ release_keeps cs ps ls ls' rows rows' m tx t lt e h u r =
       small = omega (arith, size, t.small);
       room = omega (arith, t.room, r);
       seated = subst (IsSeated (table cs ps ls')) (sym u) (seated_after_release cs ps ls ls' rows.items tx t.seated stays gone);
+      holders_noted = noted_after cs ps ls ls' noted noted' tx false t.holders_noted stays lt gone n;
     }
 
 -- ---- no locks
@@ -479,9 +525,9 @@ all_free_at (suc n) (suc k) = all_free_at n k
 pub free_at : (n k : ℕ) (ls : List LockKind) → ls ≡ replicate n Free → get_or ls k Free ≡ Free
 free_at n k ls e = ap (λ (q : List LockKind). get_or q k Free) e ∙ all_free_at n k
 
-pub new_keeps : (cs : List CeilRow) (ps : List ℕ) (ls : List LockKind) (rows : Shelf Above) (count : ℕ) → length ps ≤ 64 → ((i j : ℕ) → i < length ps → j < length ps → get_or ps i 0 ≡ get_or ps j 0 → i ≡ j) → ls ≡ replicate count Free → count ≡ length ps * length cs → count < 2 ^ 64 → rows.items ≡ [] → rows.room ≡ length ps → IsTable (table cs ps ls) rows
+pub new_keeps : (cs : List CeilRow) (ps : List ℕ) (ls : List LockKind) (rows : Shelf Above) (noted : List Bool) (count : ℕ) → length ps ≤ 64 → ((i j : ℕ) → i < length ps → j < length ps → get_or ps i 0 ≡ get_or ps j 0 → i ≡ j) → ls ≡ replicate count Free → count ≡ length ps * length cs → count < 2 ^ 64 → rows.items ≡ [] → rows.room ≡ length ps → noted ≡ replicate (length ps) false → IsTable (table cs ps ls) rows noted
 unfolding is_holder
-new_keeps cs ps ls rows count few distinct e n small none room =
+new_keeps cs ps ls rows noted count few distinct e n small none room f =
     let size : length ls ≡ count = ap length e ∙ length-replicate count Free in
     let nobody : (t : ℕ) → is_holder (table cs ps ls) t ≡ false = (λ t. any_none (length cs) (λ i. is_lock (get_or ls (t * length cs + i) Free)) (λ i l. ap is_lock (free_at count (t * length cs + i) ls e))) in
     record {
@@ -496,4 +542,8 @@ new_keeps cs ps ls rows count few distinct e n small none room =
         holders = tt;
         seats = λ t lt. sym (ap (λ (b : Bool). cond b (Some (ceiling_of (table cs ps ls) t)) None) (nobody t));
       });
+      holders_noted = record {
+        size = ap length f ∙ length-replicate (length ps) false;
+        holders = λ t lt. ap (λ (q : List Bool). get_or q t false) f ∙ get_or-replicate (length ps) t false false lt ∙ sym (nobody t);
+      };
     }

@@ -7,7 +7,7 @@ ghost use Rattle.ceiling_table.specs.Seated.{Changes};
 
 use crate::holders::Holders;
 use crate::seats::{
-    added, all_free, ceiling_at, first_above, holds, raise, row_ceiling, unseat, writes,
+    added, all_free, ceiling_at, first_above, holds, raise, row_ceiling, seat, unseat, writes,
 };
 use crate::{Above, CeilRow, LockKind};
 use rt_base::{ItemId, Looked, Op, OutOfMemory, Prio, Steps, TxId};
@@ -16,13 +16,15 @@ use std::marker::{Brand, Model};
 use std::sync::ledger::{Blank, Ledger};
 
 /// The locks that were added, one for each transaction and item. `rows` has one row for each holder, with the greatest
-/// ceiling of its locks, in falling ceiling and then falling priority. No call after `new` takes memory.
+/// ceiling of its locks, in falling ceiling and then falling priority. `seated` tells of each transaction whether it holds
+/// a lock, so that a row is looked for only where there is one. No call after `new` takes memory.
 #[derive(Drop)]
 pub struct Held {
     ceilings: Looked<CeilRow>,
     prios: Looked<Prio>,
     locks: Looked<LockKind>,
     rows: Holders,
+    seated: Looked<bool>,
 }
 
 impl Model for Held {
@@ -33,7 +35,7 @@ impl Model for Held {
 
     ghost view = { λ h. record { ceilings = h.ceilings.items; prios = h.prios.items; locks = h.locks.items } };
 
-    ghost invariant = { λ h. IsTable (record { ceilings = h.ceilings.items; prios = h.prios.items; locks = h.locks.items }) h.rows };
+    ghost invariant = { λ h. IsTable (record { ceilings = h.ceilings.items; prios = h.prios.items; locks = h.locks.items }) h.rows h.seated.items };
 }
 
 impl Held {
@@ -50,11 +52,13 @@ impl Held {
         };
         let locks = all_free(alloc, count)?;
         let rows = Holders::with_room(alloc, prios.len())?;
+        let seated = Looked::filled(alloc, prios.len(), false)?;
         Ok(Held {
             ceilings: Looked::of(items),
             prios: Looked::of(prios),
             locks,
             rows,
+            seated,
         })
     }
 
@@ -77,6 +81,7 @@ impl Held {
     /// Whether a transaction gets a new lock (Sha, Rajkumar, Son, Chang 1991): exactly where its own priority is above the
     /// ceiling of every lock that another holds. Else the greatest such ceiling, and the highest holder of a lock with it. At
     /// most three looks: the first two rows, and the priority.
+    #[inline(always)]
     pub fn grantable<L: Ledger>(&self, tx: TxId, steps: &mut Steps<L>) -> Result<(), Above>
         requires { tx.0 < length self.now.prios }
         ensures rule { MatchResult result (λ _. refusal self.now tx.0 ≡ None) (λ above. refusal self.now tx.0 ≡ Some above) }
@@ -163,15 +168,16 @@ impl Held {
         let lock = added(self.locks.at(place, &mut steps), writes);
         self.locks.set(place, lock);
         let ceiling = ceiling_at(self.ceilings.at(item.0 as usize, &mut steps), lock);
-        raise(
-            &mut self.rows,
-            &self.prios,
-            Above {
-                holder: tx,
-                ceiling,
-            },
-            &mut steps,
-        );
+        let row = Above {
+            holder: tx,
+            ceiling,
+        };
+        if self.seated.at(tx.0 as usize, &mut steps) {
+            raise(&mut self.rows, &self.prios, row, &mut steps);
+        } else {
+            self.seated.set(tx.0 as usize, true);
+            seat(&mut self.rows, &self.prios, row, &mut steps);
+        }
     }
 
     fn release<L: Ledger>(&mut self, tx: TxId, blank: Blank)
@@ -185,7 +191,10 @@ impl Held {
         let count = self.ceilings.len();
         self.locks
             .fill(tx.0 as usize * count, count, LockKind::Free);
-        unseat(&mut self.rows, tx, &mut steps);
+        if self.seated.at(tx.0 as usize, &mut steps) {
+            self.seated.set(tx.0 as usize, false);
+            unseat(&mut self.rows, tx, &mut steps);
+        }
     }
 }
 

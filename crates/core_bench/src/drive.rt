@@ -1,5 +1,5 @@
 //! A run of the generated set on a board.
-use crate::script::{AT_START, Progress, after, op_at};
+use crate::script::{AT_START, Progress, go_on, op_at};
 use board::{Board, IdleReply, StepReply};
 use rt_base::{JobId, OutOfMemory, Tick, TxId};
 use std::alloc::Global;
@@ -9,12 +9,13 @@ use std::alloc::Global;
 pub struct Counts {
     pub entries: u64,
     pub now: Tick,
-    pub turns: u64,
+    pub turns: u32,
 }
 
-/// How many jobs each transaction has, and whether a job is planned when the one before it ended.
+/// How many transactions there are, how many jobs each has, and whether a job is planned when the one before it ended.
 #[derive(Clone, Copy)]
 pub struct Plan {
+    pub n: u32,
     pub jobs: u32,
     pub is_eager: bool,
 }
@@ -50,15 +51,11 @@ fn plan_all<B: Board>(board: &mut B, progress: &mut [Progress], plan: Plan) {
     }
 }
 
-// Where the job ended, the next one is planned if none is.
-fn note<B: Board>(board: &mut B, tx: TxId, progress: Progress, jobs: u32) -> Progress {
-    if progress.place == 0 && progress.planned < jobs && plan_more(board, tx) {
-        Progress {
-            planned: progress.planned.saturating_add(1),
-            ..progress
-        }
-    } else {
-        progress
+// The job ended: the transaction's next one begins, and is planned if not all are.
+fn begin<B: Board>(board: &mut B, tx: TxId, progress: &mut Progress, jobs: u32) {
+    progress.place = 0;
+    if progress.planned < jobs && plan_more(board, tx) {
+        progress.planned = progress.planned.saturating_add(1);
     }
 }
 
@@ -68,11 +65,16 @@ fn ask<B: Board>(board: &mut B, progress: &mut [Progress], job: JobId, plan: Pla
     if at >= progress.len() || at >= board.set().txns().len() {
         return false;
     }
-    let n = (progress.len() & 0xff) as u32;
-    match board.step(job, op_at(n, job, progress[at])) {
-        StepReply::Done { outcome, over } => {
-            let next = after(progress[at], outcome, over.is_some());
-            progress[at] = note(board, job.tx, next, plan.jobs);
+    match board.step(job, op_at(plan.n, job, progress[at])) {
+        StepReply::Done {
+            outcome,
+            over: None,
+        } => {
+            go_on(&mut progress[at], outcome);
+            true
+        }
+        StepReply::Done { .. } => {
+            begin(board, job.tx, &mut progress[at], plan.jobs);
             true
         }
         StepReply::Blocked { .. } => true,
@@ -90,6 +92,18 @@ fn turn<B: Board>(board: &mut B, progress: &mut [Progress], plan: Plan) -> bool 
     }
 }
 
+const MOST_TURNS: u32 = 1 << 20;
+
+// Takes turns while there are any, and answers how many.
+fn turns<B: Board>(board: &mut B, progress: &mut [Progress], plan: Plan) -> u32 {
+    for taken in 0..MOST_TURNS {
+        if !turn(board, progress, plan) {
+            return taken;
+        }
+    }
+    MOST_TURNS
+}
+
 /// Runs the scripts until nothing is pending and nothing is planned.
 pub fn drive<B: Board>(alloc: Global, board: &mut B, plan: Plan) -> Result<Counts, OutOfMemory> {
     let mut progress = Vec::new(alloc);
@@ -97,13 +111,7 @@ pub fn drive<B: Board>(alloc: Global, board: &mut B, plan: Plan) -> Result<Count
         progress.push(AT_START)?;
     }
     plan_all(board, &mut progress, plan);
-    let mut turns: u64 = 0;
-    for _ in 0..0x10_0000 {
-        if !turn(board, &mut progress, plan) {
-            break;
-        }
-        turns = turns.saturating_add(1);
-    }
+    let turns = turns(board, &mut progress, plan);
     Ok(Counts {
         entries: board.count(),
         now: board.now(),

@@ -42,7 +42,7 @@ fn task_of<R: Env + Alloc<A = Global>>(rt: &R) -> Option<Task> {
     Some(Task {
         is_plain,
         n,
-        plan: Plan { jobs, is_eager },
+        plan: Plan { n, jobs, is_eager },
     })
 }
 

@@ -5,15 +5,15 @@ use rt_base::{ItemId, JobId, Op, Outcome, Value};
 #[derive(Clone, Copy)]
 pub struct Progress {
     pub place: u32,
-    pub last: Value,
     pub planned: u32,
+    pub last: Value,
 }
 
 /// A transaction of which nothing is planned.
 pub const AT_START: Progress = Progress {
     place: 0,
-    last: 0,
     planned: 0,
+    last: 0,
 };
 
 /// What a job asks for at its place: one of an even transaction i writes item i, computes twice and commits; one of an odd
@@ -31,21 +31,10 @@ pub fn op_at(n: u32, job: JobId, progress: Progress) -> Op {
     }
 }
 
-/// The progress after a granted operation.
-pub fn after(progress: Progress, outcome: Outcome, is_over: bool) -> Progress {
-    if is_over {
-        return Progress {
-            place: 0,
-            ..progress
-        };
-    }
-    let place = progress.place.saturating_add(1);
-    match outcome {
-        Outcome::Got { value, stamp: _ } => Progress {
-            place,
-            last: value,
-            ..progress
-        },
-        _ => Progress { place, ..progress },
+/// The job goes on after a granted operation.
+pub fn go_on(progress: &mut Progress, outcome: Outcome) {
+    progress.place = progress.place.saturating_add(1);
+    if let Outcome::Got { value, .. } = outcome {
+        progress.last = value;
     }
 }

@@ -21,6 +21,7 @@ use Rattle.law_histories.proofs.Calendar.{named_from}
 use Rattle.law_histories.proofs.Never.{refusal_at}
 use Rattle.board.specs.Over.{over_of}
 use Rattle.pending_jobs.specs.Rows.{PendingSeen, AreFactsOf, Accesses, IsDeclared, accesses_at, accesses_of, rows_stepped, rows_waiting}
+use Rattle.pending_jobs.specs.declared.head.Head.{Head}
 use Rattle.pending_jobs.specs.Waiting.{MayWait}
 use Rattle.pending_jobs.proofs.Protocols.{may_wait}
 use Rattle.core_tables.specs.declared.tally.Tally.{Tally}
@@ -77,6 +78,14 @@ used_low set t s job op a legal g row here =
 
 pub clock_low : (set : Set) (t : TablesSeen) (s : State) (job : JobId) (op : Op) → AreTables set t s → IsLegalState set s → IsGranted set s job op → t.clock + 1 < 2 ^ 63
 clock_low set t s job op a legal g = omega (arith, a.now, (known set s legal).early g.row ((known set s legal).here g.row g.runs))
+
+-- what a step answers is the job that took it
+
+pub head_is : (told : Option Head) (head next : Head) → told ≡ Some head → told ≡ Some next → head ≡ next
+head_is told head next is told_is = let same : Some head ≡ Some next = sym is ∙ told_is in cc
+
+pub no_head : {A : Type 0} (told : Option Head) (next : Head) → told ≡ None → told ≡ Some next → A
+no_head told next is told_is = absurd (let same : None ≡ Some next = sym is ∙ told_is in cc)
 
 -- the tables after the step and the end
 
@@ -154,6 +163,16 @@ module _ (set : Set) (t : TablesSeen) (s : State) (job : JobId) (op : Op) (a : A
       let with_items = subst (λ (i : List Stored). AreTables set (record { clock = t.clock; items = i; calendar = t.calendar; pending = pending_settled next o' (stepped t s next); tallies = tallies_settled next.job.tx.0 o' t.tallies }) (settled set next (s.now + 1) o' s)) (sym items_are) base in
       let with_pending = subst (λ (p : PendingSeen). AreTables set (record { clock = t.clock; items = items; calendar = t.calendar; pending = p; tallies = tallies_settled next.job.tx.0 o' t.tallies }) (settled set next (s.now + 1) o' s)) (sym pending_is) with_items in
       subst (λ (l : List Tally). AreTables set (record { clock = t.clock; items = items; calendar = t.calendar; pending = two; tallies = l }) (settled set next (s.now + 1) o' s)) (sym tallies_are) with_pending
+
+-- the row of a job that goes on after it
+pub goes_on_here : (set : Set) (t : TablesSeen) (s : State) (job : JobId) (op : Op) → IsLegalState set s → (g : IsGranted set s job op) → AreTables set t (after_effect set s g.row op) → None ≡ end_by set (row_after s g.row op) (s.now + 1) op
+    → row_of t.pending.rows job.tx.0 ≡ Some (row_after s g.row op)
+unfolding after_effect
+goes_on_here set t s job op legal g a none =
+    let next : Row = row_after s g.row op in
+    ap (λ (l : List (Option Row)). row_of l job.tx.0) (a.rows.rows ∙ ap (λ (o : Option End). (settled set next (s.now + 1) o s).rows) (sym none))
+    ∙ (ap (λ (n : ℕ). row_of (with_item s.rows n (Some next)) job.tx.0) (own_tx set s job op g)
+    ∙ get_or-set_same s.rows job.tx.0 (Some next) None (in_range s.rows job.tx.0 g.row (granted_here set s job op legal g)))
 
 -- a wait
 

@@ -34,7 +34,7 @@ in_none : (x : Row) (l : List Row) → In x l → map (λ (r : Row). r.job) l �
 in_none x [] i e = i
 in_none x (y ∷ l) i e = cc
 
-not_late : (set : Set) (tick : ℕ) (rows : List (Option Row)) → late_jobs set tick rows ≡ [] → (n : ℕ) (x : Row) → row_of rows n ≡ Some x → x.release + (txn_of set x.job.tx.0).deadline ≢ tick
+pub not_late : (set : Set) (tick : ℕ) (rows : List (Option Row)) → late_jobs set tick rows ≡ [] → (n : ℕ) (x : Row) → row_of rows n ≡ Some x → x.release + (txn_of set x.job.tx.0).deadline ≢ tick
 not_late set tick rows none n x here e =
     let due : List Row = filter (is_due set tick) (pending rows) in
     in_none x (in_falling_priority set due) (in_sorted set x due (in_filter (is_due set tick) x (pending rows) (in_pending rows n x here) (eq-eqb _ _ e))) none

@@ -1,5 +1,5 @@
 //! What takes place: a wait, a granted step with its effect, and the arrival at a tick.
-ghost use Rattle.std.specs.Prelude.{◌≡◌, ℕ, ◌+◌, ◌<◌, ◌^◌, ◌==◌, length, Some, false, IsTrue};
+ghost use Rattle.std.specs.Prelude.{◌≡◌, ℕ, ◌+◌, ◌<◌, ◌^◌, ◌==◌, [], length, None, Some, false, IsTrue};
 ghost use Rattle.ceiling_table.specs.Held.{HasItem};
 ghost use Rattle.txn_set.specs.Set.{Set, txn_of};
 ghost use Rattle.item_model.specs.Work.{outcome_of};
@@ -8,18 +8,18 @@ ghost use Rattle.step_journal.specs.Instant.{arrived};
 ghost use Rattle.strict_commit.specs.Ends.{end_of as committed_end};
 ghost use Rattle.step_journal.specs.Step.{given, end_by, row_after, after_effect, with_step, with_wait, end_of};
 ghost use Rattle.board.specs.Over.{over_of};
-ghost use Rattle.pending_jobs.specs.Rows.{AreFactsOf};
+ghost use Rattle.pending_jobs.specs.Rows.{AreFactsOf, head_of};
 ghost use Rattle.core_tables.specs.Seen.{tally_of};
 ghost use Rattle.core_tables.specs.Tables.{AreTables};
 ghost use Rattle.core_tables.specs.Legal.{IsLegalState, IsGranted, IsBlocked, IsIdle, StandGranted, StandBlocked, StandIdle};
-ghost use Rattle.core_tables.specs.Changes.{items_settled, pending_settled, tallies_settled};
+ghost use Rattle.core_tables.specs.Changes.{items_settled, late_jobs, pending_settled, tallies_settled};
 ghost use Rattle.core_tables.specs.Arriving.{CanArrive, ArrivesSome, IsQuiet, Computes};
 
 use crate::arrive::{cancel, count_end, has_time, release};
 use crate::tables::CoreTables;
 use crate::tally::Tally;
 use item_model::Items;
-use pending_jobs::Pending;
+use pending_jobs::{Head, Pending};
 use rt_base::{End, JobId, Op, Outcome, Tick, TxId};
 use strict_commit::CommitRefused;
 use txn_set::CompiledSet;
@@ -83,18 +83,16 @@ fn settle(
     pending: &Pending,
     items: &mut Items,
     tx: TxId,
+    head: Head,
     op: Op,
     at: Tick,
 ) -> Option<End>
     requires in_set { tx.0 < length set.now.txns }
     requires row { tx.0 < length pending.now.rows }
     requires facts { AreFactsOf set.now pending.now.facts }
-    ensures end { (row : RowSeen) → row_of pending.now.rows tx.0 ≡ Some row → row.job.tx.0 ≡ tx.0 → result ≡ end_by set.now row at op }
-    ensures items { (row : RowSeen) → row_of pending.now.rows tx.0 ≡ Some row → row.job.tx.0 ≡ tx.0 → items.new ≡ items_settled set.now row (end_by set.now row at op) items.old }
+    ensures end { (row : RowSeen) → row_of pending.now.rows tx.0 ≡ Some row → row.job.tx.0 ≡ tx.0 → head ≡ head_of row → result ≡ end_by set.now row at op }
+    ensures items { (row : RowSeen) → row_of pending.now.rows tx.0 ≡ Some row → row.job.tx.0 ≡ tx.0 → head ≡ head_of row → items.new ≡ items_settled set.now row (end_by set.now row at op) items.old }
 {
-    let Some(head) = pending.head(tx) else {
-        return None;
-    };
     match op {
         Op::Commit => {
             let work = pending.work(tx);
@@ -182,10 +180,17 @@ impl CoreTables {
     {
         let at = self.clock + 1;
         let outcome = outcome(&self.pending, &self.items, job.tx, op);
+        if let Some(end) = self.effect(set, job, op) {
+            self.arrive(at);
+            return (outcome, Some(end));
+        }
+        if has_time(&self.pending, at) {
+            self.arrive_in_time(at);
+            return (outcome, None);
+        }
         let late = is_late(&self.pending, job.tx, set.txn(job.tx).deadline, at);
-        let own = self.effect(set, job, op);
-        self.arrive(at);
-        (outcome, over(own, late))
+        self.arrive_late(at);
+        (outcome, over(None, late))
     }
 
     /// The running job computes for a tick, if no job ends and none is released by that: whether it did. Else nothing changes.
@@ -236,8 +241,8 @@ impl CoreTables {
         ensures after { (s : State) → AreTables set.now self.old s → IsLegalState set.now s → (g : IsGranted set.now s job op) → AreTables set.now self.new (after_effect set.now s g.row op) }
     {
         let at = self.clock + 1;
-        self.pending.step(job.tx, op, &self.items);
-        let end = settle(set, &self.pending, &mut self.items, job.tx, op, at);
+        let head = self.pending.step(job.tx, op, &self.items)?;
+        let end = settle(set, &self.pending, &mut self.items, job.tx, head, op, at);
         close(&mut self.pending, &mut self.tallies, job.tx, end);
         end
     }
@@ -246,6 +251,30 @@ impl CoreTables {
     /// take place.
     #[inline(always)]
     fn arrive(&mut self, tick: Tick)
+        requires arrives { (set : Set) × ArrivesSome set tick self.old }
+        ensures { (set : Set) (s : State) → AreTables set self.old s → CanArrive set tick s → AreTables set self.new (arrived set tick s) }
+    {
+        if has_time(&self.pending, tick) {
+            self.arrive_in_time(tick);
+        } else {
+            self.arrive_late(tick);
+        }
+    }
+
+    // The same where each pending job has time beyond this tick, so that none ends.
+    #[inline(always)]
+    fn arrive_in_time(&mut self, tick: Tick)
+        requires arrives { (set : Set) × ArrivesSome set tick self.old }
+        requires in_time { (set : Set) → AreFactsOf set self.old.pending.facts → late_jobs set tick self.old.pending.rows ≡ [] }
+        ensures { (set : Set) (s : State) → AreTables set self.old s → CanArrive set tick s → AreTables set self.new (arrived set tick s) }
+    {
+        self.clock = tick;
+        release(&mut self.pending, &mut self.calendar, tick);
+    }
+
+    // The same where some may have none, which is seldom, so it is no part of what calls it.
+    #[inline(never)]
+    fn arrive_late(&mut self, tick: Tick)
         requires arrives { (set : Set) × ArrivesSome set tick self.old }
         ensures { (set : Set) (s : State) → AreTables set self.old s → CanArrive set tick s → AreTables set self.new (arrived set tick s) }
     {

@@ -153,6 +153,7 @@ impl CoreTables {
 
     /// Plans the transaction's next job for a tick, or refuses it as `plan_check` says. A job planned for the present tick is
     /// pending at once. A refusal changes nothing. It costs a few looks, however many are planned.
+    #[inline(always)]
     pub fn plan(
         &mut self,
         tx: TxId,

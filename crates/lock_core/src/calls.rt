@@ -21,6 +21,7 @@ impl Core {
     /// Plans the transaction's next job for a tick; a job planned for the present tick is pending at once. Errors: those of
     /// the calendar in their order, then Full exactly where as many entries are kept as there is room for. A refusal
     /// changes nothing. It costs a few look-ups, however many releases are planned.
+    #[inline(always)]
     pub fn plan(&mut self, tx: TxId, tick: Tick) -> Result<JobId, PlanRefused>
         requires { tx.0 < length self.old.set.txns }
         ensures fixed { (self.new.set ≡ self.old.set) × (self.new.journal.room ≡ self.old.journal.room) × (self.new.journal.first ≡ self.old.journal.first) }
@@ -33,6 +34,7 @@ impl Core {
 
     /// Plans the transaction's next job for the earliest tick at which it may be planned, and answers that tick too. Only
     /// TooFar, CalendarFull, NoSerial and Full can come.
+    #[inline(always)]
     pub fn plan_next(&mut self, tx: TxId) -> Result<(JobId, Tick), PlanRefused>
         requires { tx.0 < length self.old.set.txns }
         ensures fixed { (self.new.set ≡ self.old.set) × (self.new.journal.room ≡ self.old.journal.room) × (self.new.journal.first ≡ self.old.journal.first) }
@@ -60,6 +62,17 @@ impl Core {
         ensures lawful { IsLawfulStep Stands set_of kept_by self.old self.new job op result }
     {
         turns::step(&self.set, &mut self.journal, &mut self.tables, job, op)
+    }
+
+    /// The same as `step`, inlined, for a caller that knows which operation it is: no more than what that one needs is left.
+    #[inline(always)]
+    pub fn asked(&mut self, job: JobId, op: Op) -> StepReply
+        requires { job.tx.0 < length self.old.set.txns }
+        ensures fixed { (self.new.set ≡ self.old.set) × (self.new.journal.room ≡ self.old.journal.room) × (self.new.journal.first ≡ self.old.journal.first) }
+        ensures answer { (story : List Noted) → Stands self.old story → result ≡ step_answer self.old.set story (length self.old.journal.kept) self.old.journal.room job op }
+        ensures lawful { IsLawfulStep Stands set_of kept_by self.old self.new job op result }
+    {
+        turns::asked(&self.set, &mut self.journal, &mut self.tables, job, op)
     }
 
     /// The same as `step`, for a caller that knows that this job runs, that it may ask for the operation, and that there is

@@ -148,9 +148,9 @@ pub fn compute(
     counted(set, journal, tables, job)
 }
 
-// A job asks for an operation. Inlined where the operation is known, so that no more than what that one needs is left.
+/// A job asks for an operation. Inlined where the operation is known, so that no more than what that one needs is left.
 #[inline(always)]
-fn asked(
+pub fn asked(
     set: &CompiledSet,
     journal: &mut Journal,
     tables: &mut CoreTables,

@@ -86,6 +86,13 @@ used_now heads works on tx head here small =
     small (record { job = head.job; release = head.release; used = head.used; work = (get_or works tx no_job).work; waits_on = waited_job heads (on_of on tx) })
     (rows_at heads works on tx ∙ ap (λ (o : Option Head). row_by o (get_or works tx no_job).work (waited_job heads (on_of on tx))) here)
 
+pub head_seen : (heads : List (Option Head)) (works : List Job) (on : List (Option TxId)) (tx : ℕ) (head : Head) (row : Row) → head_at heads tx ≡ Some head → row_of (rows_by heads works on) tx ≡ Some row → head ≡ head_of row
+head_seen heads works on tx head row here h =
+    let f = fits heads works on tx row h in
+    let same : Some head ≡ Some f.0 = sym here ∙ f.1.here in
+    let one : head ≡ f.0 = cc in
+    one ∙ sym (ap head_of f.1.is)
+
 -- the least deadline
 
 pub next_is : (deadlines : List ℕ) (rows : List (Option Row)) (o : Option ℕ) → IsLeast deadlines rows o → MatchOption o (pending rows ≡ []) (IsLeastDeadline deadlines rows)

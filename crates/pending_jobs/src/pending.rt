@@ -1,5 +1,5 @@
 //! The pending jobs.
-ghost use Rattle.std.specs.Prelude.{◌≡◌, ◌<◌, ◌≤◌, ◌^◌, ℕ, [], length, map, is_some, slice_index_or, Some, None, IfOk, MatchOption};
+ghost use Rattle.std.specs.Prelude.{◌≡◌, ◌+◌, ◌<◌, ◌≤◌, ◌^◌, ℕ, [], length, map, is_some, slice_index_or, Some, None, IfOk, MatchOption};
 ghost use Rattle.std.specs.List.{filter};
 ghost use Rattle.std.specs.Option.{option_map};
 ghost use Rattle.ceiling_table.specs.Held.{HasItem};
@@ -171,26 +171,27 @@ impl Pending {
 
     /// The pending job of a transaction takes a granted step: it is counted, what it read or wrote is noted, and it holds the
     /// lock. A new lock goes over the holders' rows; else it touches the rows of its transaction and item alone, with a scan
-    /// of the job's own reads or writes.
+    /// of the job's own reads or writes. It answers the job, as it is pending then.
     #[inline(always)]
-    pub fn step(&mut self, tx: TxId, op: Op, items: &Items)
+    pub fn step(&mut self, tx: TxId, op: Op, items: &Items) -> Option<Head>
         requires tx { tx.0 < length self.old.rows }
         requires declared { IsDeclared (accesses_at self.old.facts tx.0) op }
         requires item { HasItem (length self.old.facts.ceilings) op }
         requires items { length items.now ≡ length self.old.facts.ceilings }
         requires used { (row : RowSeen) → row_of self.old.rows tx.0 ≡ Some row → row.used < 2 ^ 63 }
-        ensures { (row : RowSeen) → row_of self.old.rows tx.0 ≡ Some row → self.new ≡ record self.old { rows = rows_stepped self.old.rows items.now op row } }
+        ensures after { (row : RowSeen) → row_of self.old.rows tx.0 ≡ Some row → self.new ≡ record self.old { rows = rows_stepped self.old.rows items.now op row } }
+        ensures head { (row : RowSeen) → row_of self.old.rows tx.0 ≡ Some row → result ≡ Some (record (head_of row) { used = row.used + 1 }) }
     {
         let at = tx.0 as usize;
-        let Some(head) = self.heads[at] else {
-            return;
-        };
-        note(&mut self.works[at], op, items);
-        lock(&mut self.held, tx, op);
-        self.heads[at] = Some(Head {
+        let head = self.heads[at]?;
+        let stepped = Head {
             used: head.used + 1,
             ..head
-        });
+        };
+        self.heads[at] = Some(stepped);
+        note(&mut self.works[at], op, items);
+        lock(&mut self.held, tx, op);
+        Some(stepped)
     }
 
     /// The pending job of a transaction ends: it holds nothing and waits on nobody, and nobody waits on it. It goes over the

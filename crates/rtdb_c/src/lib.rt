@@ -5,7 +5,7 @@
 #![tactic(auto)]
 
 ghost use Rattle.std.specs.Prelude.{◌≡◌, ◌≢◌, None, MatchOption, IfOk, IfErr, IfSome, IsSomeAnd};
-ghost use Rattle.c_core.specs.Refusals.{WhyNotOpened, WhyNotTried};
+ghost use Rattle.c_core.specs.Refusals.{WhyNotOpened, WhyNotTried, form_of_refusal};
 ghost use Rattle.c_core.specs.declared.refusals.Refused.TheVariants.{OutOfMemory as WantOfMemory};
 ghost use Rattle.rtdb_c.specs.Called.{Called, ToldWhy, ToldWhyNotTried, OpenedTrial, Stepped, Planned, Idled, IsRunningOf, Peeked, IsNowOf, Opened, PlannedNext, IsPendingOf, IsEndedOf, IsResponseOf, IsBlockingOf, IsAgeOf, Drained, IsKeptOf, IsPlannedOf};
 
@@ -69,6 +69,14 @@ fn opened_trial(alloc: Global, tables: Tables, room: usize) -> Result<Box<Checke
     boxed(alloc, CheckedCore::open_trial(alloc, tables, room)?)
 }
 
+// The status and the record of a refusal, by one code for all calls that tell of one.
+#[inline(never)]
+fn told_why(refused: Refused) -> (u32, RefusalForm)
+    ensures { result ≡ form_of_refusal refused }
+{
+    refusal_form(refused)
+}
+
 /// Compiles and admits the set of these tables, and opens a database over it at the opening state, whose journal has room
 /// for so many entries. OPEN where the handle is open already. Else status and record are those of the first cause, and the
 /// handle stays closed; NO_MEMORY may come in place of each. All memory that the database needs is taken here.
@@ -104,7 +112,7 @@ pub extern "C" fn rtdb_open(
             OK
         }
         Err(refused) => {
-            let (status, form) = refusal_form(refused);
+            let (status, form) = told_why(refused);
             *refusal = form;
             status
         }
@@ -145,7 +153,7 @@ pub extern "C" fn rtdb_open_trial(
             OK
         }
         Err(refused) => {
-            let (status, form) = refusal_form(refused);
+            let (status, form) = told_why(refused);
             *refusal = form;
             status
         }

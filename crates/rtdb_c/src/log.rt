@@ -6,10 +6,8 @@ ghost use Rattle.c_log.specs.declared.refused.LogRefused.TheVariants.{OutOfMemor
 ghost use Rattle.rtdb_c.specs.Logged.{LogCalled, LogOpened, LogToldWhy, LogAppended, LogNext, LogAnswered, LogCounted, LogFound, append_status, told_log, form_of_call};
 
 use crate::log_handle::LogHandle;
-use crate::{CLOSED, OPEN};
-use c_core::{
-    EntryForm, NO_MEMORY, NO_ROOM, NOTHING, OK, RefusalForm, Refused, put_entry, refusal_form,
-};
+use crate::{CLOSED, OPEN, told_why};
+use c_core::{EntryForm, NO_MEMORY, NO_ROOM, NOTHING, OK, RefusalForm, Refused, put_entry};
 use c_log::{AppendRefused, Call, LogRefused, LogStation};
 use std::alloc::Global;
 
@@ -60,7 +58,7 @@ fn told(refused: LogRefused) -> (u32, RefusalForm)
         LogRefused::TooLong => (NO_ROOM, bare_refusal(0)),
         LogRefused::BadLine { line } => (BAD_TEXT, bare_refusal(line as u64)),
         LogRefused::Unfinished => (BAD_TEXT, bare_refusal(0)),
-        LogRefused::NotCompiled(error) => refusal_form(Refused::NotCompiled(error)),
+        LogRefused::NotCompiled(error) => told_why(Refused::NotCompiled(error)),
         LogRefused::BadRecord { number } => (BAD_RECORD, bare_refusal(number)),
         LogRefused::Full => (FULL, bare_refusal(0)),
         LogRefused::OutOfMemory => (NO_MEMORY, bare_refusal(0)),

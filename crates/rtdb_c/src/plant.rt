@@ -7,10 +7,10 @@ ghost use Rattle.rtdb_c.specs.Called.{ToldWhy};
 ghost use Rattle.rtdb_c.specs.SeatCalls.{SeatCalled, HandedTo, IsFrontOf};
 
 use crate::seat::SeatHandle;
-use crate::{CLOSED, OPEN};
+use crate::{CLOSED, OPEN, told_why};
 use c_core::{
     EntryForm, ItemRow, OK, RefusalForm, StepForm, StoredForm, Tables, TimeForm, TogetherRow,
-    TxnRow, refusal_form,
+    TxnRow,
 };
 use c_plant::{SeatStation, plant_over};
 use std::alloc::Global;
@@ -51,7 +51,7 @@ pub extern "C" fn rtdb_plant_open(
             OK
         }
         Err(refused) => {
-            let (status, form) = refusal_form(refused);
+            let (status, form) = told_why(refused);
             *refusal = form;
             status
         }

@@ -42,6 +42,9 @@ fn expired_read(decls: &[ItemDecl], tick: Tick, work: &Work) -> Option<OutsideRe
 fn apart_reads(together: &[TogetherDecl], work: &Work) -> Option<(OutsideRead, OutsideRead)>
     ensures { result ≡ first_apart work.now.work together.now }
 {
+    if together.is_empty() {
+        return None;
+    }
     first_apart(together, work.reads())
 }
 

@@ -76,6 +76,7 @@ impl Work {
     }
 
     /// Notes a write of a declared item, in place of an earlier one of that item. A scan of the writes.
+    #[inline(always)]
     pub fn put(&mut self, item: ItemId, value: Value)
         requires { IsTrue (list_any (λ i. i.0 == item.0) self.old.may_write) }
         ensures { self.new ≡ record self.old { work = record self.old.work { writes = with_write self.old.work.writes item value } } }
@@ -92,6 +93,7 @@ impl Work {
 
     /// The first sensor or derived item, in item order, among the declared writes that was not written, for which a commit is refused (the
     /// complete-writes rule); None exactly where there is none. A scan of the writes for each declared write.
+    #[inline(always)]
     pub fn unwritten(&self, decls: &[ItemDecl]) -> Option<ItemId>
         ensures which { result ≡ unwritten_of decls.now self.now.may_write self.now.work }
         ensures first { IfSome result (λ item. IsLeastOf (is_unwritten decls.now self.now.work) self.now.may_write item.0) }
@@ -101,6 +103,7 @@ impl Work {
     }
 
     // The first of these in the order of the declared writes.
+    #[inline(always)]
     fn first_unwritten(&self, decls: &[ItemDecl]) -> Option<ItemId>
         ensures { result ≡ unwritten_of decls.now self.now.may_write self.now.work }
     {
@@ -137,6 +140,7 @@ impl Work {
     }
 
     /// Notes a write, in place of an earlier one of that item.
+    #[inline(always)]
     fn note_write(&mut self, write: OwnWrite)
         requires { IsTrue (list_any (λ i. i.0 == write.item.0) self.old.may_write) }
         ensures { self.new ≡ record self.old { work = record self.old.work { writes = with_write self.old.work.writes write.item write.value } } }

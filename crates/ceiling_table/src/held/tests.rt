@@ -10,12 +10,14 @@ fn fields(rt: HostRuntime) -> Result<(), OutOfMemory> {
         prios,
         locks,
         rows,
+        seated,
     } = &held;
     let ceilings: &Looked<CeilRow> = ceilings;
     let prios: &Looked<Prio> = prios;
     let locks: &Looked<LockKind> = locks;
     let rows: &Looked<Above> = rows.only_field();
+    let seated: &Looked<bool> = seated;
     assert_eq!(rt; ceilings.len() + prios.len(), 0);
-    assert_eq!(rt; locks.len() + rows.len(), 0);
+    assert_eq!(rt; locks.len() + rows.len() + seated.len(), 0);
     Ok(())
 }

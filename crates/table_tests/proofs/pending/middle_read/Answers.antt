@@ -8,17 +8,17 @@ use Rattle.table_tests.proofs.pending.middle_read.Goals as goal
 
 pub release-requires-2-clause-tx : goal.release-requires-2-clause-tx
 release-requires-2-clause-tx c =
-    within_job c.step.new.self middle_rows c.first_of-2.result (first_job 0) (middle_done c.in_ok-pending.pending c.release.new.self c.step.new.self c.first_of.result c.in_ok-items.items c.in_ok-pending.ensures c.first_of.ensures c.in_ok-items.ensures c.release.ensures c.step.ensures)
+    within_job c.step.new.self middle_rows c.first_of-2.result (first_job 0) (middle_done c.in_ok-pending.pending c.release.new.self c.step.new.self c.first_of.result c.in_ok-items.items c.in_ok-pending.ensures c.first_of.ensures c.in_ok-items.ensures c.release.ensures c.step.ensures.after)
     c.first_of-2.ensures (omega arith)
 
 pub release-requires-2-clause-free : goal.release-requires-2-clause-free
 release-requires-2-clause-free c =
-    free_job c.step.new.self middle_rows c.first_of-2.result (first_job 0) (middle_done c.in_ok-pending.pending c.release.new.self c.step.new.self c.first_of.result c.in_ok-items.items c.in_ok-pending.ensures c.first_of.ensures c.in_ok-items.ensures c.release.ensures c.step.ensures)
+    free_job c.step.new.self middle_rows c.first_of-2.result (first_job 0) (middle_done c.in_ok-pending.pending c.release.new.self c.step.new.self c.first_of.result c.in_ok-items.items c.in_ok-pending.ensures c.first_of.ensures c.in_ok-items.ensures c.release.ensures c.step.ensures.after)
     c.first_of-2.ensures refl
 
 pub returns : goal.returns
 returns c =
-    high_after_middle c.step.new.self c.release-2.new.self c.first_of-2.result (middle_done c.in_ok-pending.pending c.release.new.self c.step.new.self c.first_of.result c.in_ok-items.items c.in_ok-pending.ensures c.first_of.ensures c.in_ok-items.ensures c.release.ensures c.step.ensures)
+    high_after_middle c.step.new.self c.release-2.new.self c.first_of-2.result (middle_done c.in_ok-pending.pending c.release.new.self c.step.new.self c.first_of.result c.in_ok-items.items c.in_ok-pending.ensures c.first_of.ensures c.in_ok-items.ensures c.release.ensures c.step.ensures.after)
     c.first_of-2.ensures c.release-2.ensures
 
 pub step-requires-clause-items : goal.step-requires-clause-items

@@ -49,4 +49,4 @@ returns-clause-done c = λ _ s now legal g.
     let are = at_view set _ _ s c.self.view_is now in
     computes set _ s c.args.job are legal g
     (subst (λ t. IsQuiet set t c.args.job.tx.0 (c.self.inside.clock + 1)) (sym c.self.view_is) (c.if-not-is_quiet.ensures refl))
-    c.step.new.self (c.step.ensures g.row (row_here set _ s c.args.job Compute are legal g))
+    c.step.new.self (c.step.ensures.after g.row (row_here set _ s c.args.job Compute are legal g))

@@ -7,7 +7,7 @@ use Rattle.core_tables.specs.Seen.{tally_of}
 use Rattle.core_tables.specs.Changes.{tallies_settled}
 use Rattle.core_tables.proofs.Places.{places}
 use Rattle.core_tables.proofs.Planned.{at_view}
-use Rattle.core_tables.proofs.Effected.{row_here, job_in_set, is_declared, has_its_item, used_low, clock_low, one_here, one_own, one_facts, one_many, end_at, effected, tally_low}
+use Rattle.core_tables.proofs.Effected.{row_here, job_in_set, is_declared, has_its_item, used_low, clock_low, one_here, one_own, one_facts, one_many, end_at, effected, tally_low, head_is, no_head}
 use Rattle.core_tables.proofs.tables.CoreTables.effect.Goals as goal
 
 pub overflow_add-at : goal.overflow_add-at
@@ -58,7 +58,7 @@ settle-end-requires-clause-row c =
     let set = c.args.set.now in
     let some = c.requires.granted in
     let are = at_view set _ _ some.state c.self.view_is some.are in
-    let one = c.step.ensures some.granted.row (row_here set _ some.state c.args.job c.args.op are some.legal some.granted) in
+    let one = c.step.ensures.after some.granted.row (row_here set _ some.state c.args.job c.args.op are some.legal some.granted) in
     omega (
       arith,
       job_in_set set some.state c.args.job c.args.op some.legal some.granted,
@@ -71,7 +71,7 @@ settle-end-requires-clause-facts c =
     let set = c.args.set.now in
     let some = c.requires.granted in
     let are = at_view set _ _ some.state c.self.view_is some.are in
-    let one = c.step.ensures some.granted.row (row_here set _ some.state c.args.job c.args.op are some.legal some.granted) in
+    let one = c.step.ensures.after some.granted.row (row_here set _ some.state c.args.job c.args.op are some.legal some.granted) in
     subst (AreFactsOf set) (sym (one_facts set _ some.state c.args.job c.args.op are some.legal some.granted c.step.new.self one)) are.rows.facts
 
 pub close-requires-clause-row : goal.close-requires-clause-row
@@ -79,7 +79,7 @@ close-requires-clause-row c =
     let set = c.args.set.now in
     let some = c.requires.granted in
     let are = at_view set _ _ some.state c.self.view_is some.are in
-    let one = c.step.ensures some.granted.row (row_here set _ some.state c.args.job c.args.op are some.legal some.granted) in
+    let one = c.step.ensures.after some.granted.row (row_here set _ some.state c.args.job c.args.op are some.legal some.granted) in
     omega (
       arith,
       job_in_set set some.state c.args.job c.args.op some.legal some.granted,
@@ -101,25 +101,41 @@ close-requires-clause-few c =
     let are = at_view set _ _ some.state c.self.view_is some.are in
     omega (arith, tally_low set _ some.state c.args.job.tx.0 are some.legal, ap (λ (l : List Tally). (tally_of l c.args.job.tx.0).number) c.deref_mut.ensures.value)
 
+pub returns-in_err-head-clause-end : goal.returns-in_err-head-clause-end
+returns-in_err-head-clause-end c = λ s now legal g.
+    let set = c.args.set.now in
+    let are = at_view set _ _ s c.self.view_is now in
+    no_head c.step.result _ c.in_err-head.was (c.step.ensures.head g.row (row_here set _ s c.args.job c.args.op are legal g))
+
+pub returns-in_err-head-clause-after : goal.returns-in_err-head-clause-after
+returns-in_err-head-clause-after c = λ s now legal g.
+    let set = c.args.set.now in
+    let are = at_view set _ _ s c.self.view_is now in
+    no_head c.step.result _ c.in_err-head.was (c.step.ensures.head g.row (row_here set _ s c.args.job c.args.op are legal g))
+
 pub returns-clause-end : goal.returns-clause-end
 returns-clause-end c = λ s now legal g.
     let set = c.args.set.now in
     let are = at_view set _ _ s c.self.view_is now in
-    let one = c.step.ensures g.row (row_here set _ s c.args.job c.args.op are legal g) in
+    let was = row_here set _ s c.args.job c.args.op are legal g in
+    let one = c.step.ensures.after g.row was in
     let here = one_here set _ s c.args.job c.args.op are legal g c.step.new.self one in
     let own = one_own set _ s c.args.job c.args.op are legal g c.step.new.self one in
-    end_at set _ s c.args.job c.args.op are legal g c.step.new.self one c.settle-end.result (c.settle-end.ensures.end (row_after s g.row c.args.op) here own)
+    let head = head_is c.step.result c.in_ok-head.head _ c.in_ok-head.was (c.step.ensures.head g.row was) in
+    end_at set _ s c.args.job c.args.op are legal g c.step.new.self one c.settle-end.result (c.settle-end.ensures.end (row_after s g.row c.args.op) here own head)
 
 pub returns-clause-after : goal.returns-clause-after
 returns-clause-after c = λ s now legal g.
     let set = c.args.set.now in
     let are = at_view set _ _ s c.self.view_is now in
-    let one = c.step.ensures g.row (row_here set _ s c.args.job c.args.op are legal g) in
+    let was = row_here set _ s c.args.job c.args.op are legal g in
+    let one = c.step.ensures.after g.row was in
     let here = one_here set _ s c.args.job c.args.op are legal g c.step.new.self one in
     let own = one_own set _ s c.args.job c.args.op are legal g c.step.new.self one in
+    let head = head_is c.step.result c.in_ok-head.head _ c.in_ok-head.was (c.step.ensures.head g.row was) in
     effected set _ s c.args.job c.args.op are legal g c.step.new.self one c.settle-end.result c.settle-end.new.items c.close.new.pending _
-    (c.settle-end.ensures.end (row_after s g.row c.args.op) here own)
-    (c.settle-end.ensures.items (row_after s g.row c.args.op) here own)
+    (c.settle-end.ensures.end (row_after s g.row c.args.op) here own head)
+    (c.settle-end.ensures.items (row_after s g.row c.args.op) here own head)
     (c.close.ensures.pending (row_after s g.row c.args.op) here)
     (with_items_is c.self.inside.tallies c.close.new.tallies (c.close.auto.tallies ∙ c.deref_mut.ensures.len)
     ∙ (c.close.ensures.tallies ∙ ap (tallies_settled c.args.job.tx.0 c.settle-end.result) c.deref_mut.ensures.value))

@@ -2,7 +2,7 @@ use Rattle.std.proofs.Common.{◌∙◌}
 use Rattle.std.proofs.lemmas.List.{with_items_is}
 use Rattle.core_tables.proofs.Arrived.{arrive_cancels, arrive_releases, arrives}
 use Rattle.core_tables.proofs.Planned.{at_view}
-use Rattle.core_tables.proofs.tables.CoreTables.arrive.Goals as goal
+use Rattle.core_tables.proofs.tables.CoreTables.arrive_late.Goals as goal
 
 pub cancel-requires : goal.cancel-requires
 cancel-requires c =
