@@ -1,17 +1,25 @@
 //! Tries the lowest crates as standard input says, and prints what comes of it: names and counted looks, sources and sinks of
-//! bytes, items, scripts, the journal, releases and outs of entries. Empty lines and lines that begin with `#` are passed
-//! over.
+//! bytes, items, scripts, the journal, releases and outs of entries; disks in memory and over files; and what lines of journals
+//! and heads of reports are read as, where `⏎` stands for a line end and `␍` for a carriage return. Empty lines and lines that
+//! begin with `#` are passed over.
 #![tactic(auto)]
 
+ghost use Rattle.std.specs.Prelude.{◌≡◌, length};
+
+mod disks;
 mod edge;
+mod heads;
 mod kept;
+mod lines;
 mod numbers;
 mod scripts;
 
+use disks::{Kept, follow_disk};
 use edge::{read_text, readers_text, sure_text, write_text, writers_text};
 use kept::{items, journal, kept as kept_by_out, releases};
+use name_table::NameTables;
 use numbers::{looked, name_text, ranks_text};
-use scripts::{many_items, operations, parts, value_text};
+use scripts::{many_items, operations, parts, serial_text, value_text};
 use std::alloc::Global;
 use std::io;
 
@@ -88,7 +96,7 @@ fn tried(alloc: Global, word: &str) -> Option<String> {
     }
 }
 
-// What comes of a line.
+// What comes of a line that is neither of a disk nor of a text.
 fn follow(alloc: Global, line: &str) -> Option<String> {
     let (word, rest) = line.split_once(' ').unwrap_or((line, ""));
     match word {
@@ -99,19 +107,48 @@ fn follow(alloc: Global, line: &str) -> Option<String> {
         "sure" | "text" | "writers" => with_room(alloc, word, rest),
         "readers" => readers_text(alloc, rest),
         "value" => value_text(alloc, rest),
+        "serial" => serial_text(alloc, rest),
         _ => tried(alloc, word),
     }
 }
 
-// Prints what comes of each line of standard input.
-fn follow_lines(rt: &HostRuntime, alloc: Global) -> io::Result<()> {
-    for line in rt.lines(alloc) {
-        let line = line?;
+// What comes of a line. Nothing is printed of a disk that is made, or given back.
+fn follow_any<'a>(
+    rt: &'a HostRuntime,
+    names: &NameTables,
+    disks: &mut Vec<Kept<'a>>,
+    line: &'a str,
+) -> Option<String>
+    requires items { length names.now.items ≡ 2 }
+    requires txns { length names.now.txns ≡ 3 }
+{
+    let (word, rest) = line.split_once(' ').unwrap_or((line, ""));
+    match word {
+        "disk" => follow_disk(rt, disks, rest),
+        "number" | "ids" | "entry" | "fields" | "head" | "written" | "numerals" => {
+            lines::read(rt.alloc(), names, word, rest)
+        }
+        _ => follow(rt.alloc(), line),
+    }
+}
+
+// Prints what comes of each line.
+fn follow_lines<'a>(
+    rt: &'a HostRuntime,
+    names: &NameTables,
+    disks: &mut Vec<Kept<'a>>,
+    lines: &'a [String],
+) -> io::Result<()>
+    requires items { length names.now.items ≡ 2 }
+    requires txns { length names.now.txns ≡ 3 }
+{
+    for line in lines {
         let line = line.as_str();
         if line.is_empty() || line.starts_with('#') {
             continue;
         }
-        match follow(alloc, line) {
+        match follow_any(rt, names, disks, line) {
+            Some(said) if said.is_empty() => {}
             Some(said) => println!(rt; "{line}: {said}")?,
             None => println!(rt; "{line}: failed")?,
         }
@@ -119,6 +156,33 @@ fn follow_lines(rt: &HostRuntime, alloc: Global) -> io::Result<()> {
     Ok(())
 }
 
+// The same, by names and disks of its own.
+fn follow_all(rt: &HostRuntime, lines: &[String]) -> io::Result<()> {
+    let Some(names) = lines::small(rt.alloc()) else {
+        return println!(rt; "out of memory");
+    };
+    let mut disks = Vec::new(rt.alloc());
+    let followed = follow_lines(rt, &names, &mut disks, lines);
+    drop(disks);
+    drop(names);
+    followed
+}
+
+// Puts the lines of standard input into a list.
+fn read_lines(rt: &HostRuntime, lines: &mut Vec<String>) -> io::Result<()> {
+    for line in rt.lines(rt.alloc()) {
+        lines.push(line?)?;
+    }
+    Ok(())
+}
+
 fn main(rt: HostRuntime) -> io::Result<()> {
-    follow_lines(&rt, rt.alloc())
+    let mut lines = Vec::new(rt.alloc());
+    let read = read_lines(&rt, &mut lines);
+    let followed = match read {
+        Ok(()) => follow_all(&rt, &lines),
+        Err(error) => Err(error),
+    };
+    drop(lines);
+    followed
 }

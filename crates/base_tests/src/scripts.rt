@@ -35,6 +35,21 @@ pub fn value_text(alloc: Global, text: &str) -> Option<String> {
     format!(in alloc; "{op:?}").ok()
 }
 
+/// What a script asks for in the job of a serial number that writes the value of an operator, this number and a constant.
+pub fn serial_text(alloc: Global, text: &str) -> Option<String> {
+    let (word, rest) = text.split_once(' ')?;
+    let (constant, serial) = rest.split_once(' ')?;
+    let expr = Expr::Bin(
+        operator(word)?,
+        Box::new(alloc, Expr::Serial).ok()?,
+        Box::new(alloc, Expr::Const(constant.parse::<i64>().ok()?)).ok()?,
+    );
+    let ops = vec![in alloc; ScriptOp::Write(ItemId(0), expr)].ok()?;
+    let mut script = Script::new(alloc, ops, Vec::new(alloc), 1).ok()?;
+    script.begin(serial.parse::<u32>().ok()?);
+    format!(in alloc; "{:?}", script.next()).ok()
+}
+
 // Asks for so many operations, and tells the value 9 of each read.
 fn asked(alloc: Global, script: &mut Script, count: usize) -> Result<Vec<Op>, OutOfMemory> {
     let mut ops = Vec::new(alloc);

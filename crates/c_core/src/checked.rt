@@ -14,7 +14,7 @@ ghost use Rattle.txn_compiler.specs.Refusal.{compile_refusal};
 ghost use Rattle.law_histories.specs.Protocol.{IsFirstRefusal};
 ghost use Rattle.lock_core.specs.Stands.{Stands};
 ghost use Rattle.board.specs.Stories.{IfBlocked};
-ghost use Rattle.c_core.specs.Open.{board_of, admitted_of, KeepsBoundsOf};
+ghost use Rattle.c_core.specs.Open.{board_of, admitted_of, AskedOf, KeepsBoundsOf};
 ghost use Rattle.c_core.specs.Rows.{set_of_tables, FitTables};
 ghost use Rattle.c_core.specs.Refusals.{WhyNotOpened, WhyNotTried};
 ghost use Rattle.c_core.specs.Forms.{op_named, job_of, form_of_step, form_of_plan, form_of_plan_next, form_of_idle, form_of_entry};
@@ -93,12 +93,7 @@ fn computes(core: &mut OpenCore, job: JobId, op: Op) -> bool
 #[inline(always)]
 fn answered(core: &mut OpenCore, job: JobId, op: Op, answer: &mut StepForm)
     requires { job.tx.0 < length (board_of core.old).set.txns }
-    ensures fixed { ((board_of core.new).set ≡ (board_of core.old).set) × ((board_of core.new).journal.room ≡ (board_of core.old).journal.room) × ((board_of core.new).journal.first ≡ (board_of core.old).journal.first) }
-    ensures admitted { admitted_of core.new ≡ admitted_of core.old }
-    ensures answer { (story : List Noted) → Stands (board_of core.old) story → answer.new ≡ form_of_step (step_answer (board_of core.old).set story (length (board_of core.old).journal.kept) (board_of core.old).journal.room job op) }
-    ensures after { (story : List Noted) → Stands (board_of core.old) story → Stands (board_of core.new) (noted story (step_entry (now_of (board_of core.old).set story) job op (step_answer (board_of core.old).set story (length (board_of core.old).journal.kept) (board_of core.old).journal.room job op))) }
-    ensures blocked_once { (story : List Noted) → Stands (board_of core.old) story → IfBlocked (step_answer (board_of core.old).set story (length (board_of core.old).journal.kept) (board_of core.old).journal.room job op) (IsFirstRefusal (board_of core.old).set story job) }
-    ensures bounds { (story : List Noted) → Stands (board_of core.new) story → KeepsBoundsOf core.new story }
+    ensures { AskedOf core.old core.new job op answer.new }
 {
     put_reply(&core.asked(job, op), answer);
 }
@@ -107,12 +102,7 @@ fn answered(core: &mut OpenCore, job: JobId, op: Op, answer: &mut StepForm)
 #[inline(always)]
 fn asked(core: &mut OpenCore, job: JobId, op: Op, answer: &mut StepForm)
     requires { job.tx.0 < length (board_of core.old).set.txns }
-    ensures fixed { ((board_of core.new).set ≡ (board_of core.old).set) × ((board_of core.new).journal.room ≡ (board_of core.old).journal.room) × ((board_of core.new).journal.first ≡ (board_of core.old).journal.first) }
-    ensures admitted { admitted_of core.new ≡ admitted_of core.old }
-    ensures answer { (story : List Noted) → Stands (board_of core.old) story → answer.new ≡ form_of_step (step_answer (board_of core.old).set story (length (board_of core.old).journal.kept) (board_of core.old).journal.room job op) }
-    ensures after { (story : List Noted) → Stands (board_of core.old) story → Stands (board_of core.new) (noted story (step_entry (now_of (board_of core.old).set story) job op (step_answer (board_of core.old).set story (length (board_of core.old).journal.kept) (board_of core.old).journal.room job op))) }
-    ensures blocked_once { (story : List Noted) → Stands (board_of core.old) story → IfBlocked (step_answer (board_of core.old).set story (length (board_of core.old).journal.kept) (board_of core.old).journal.room job op) (IsFirstRefusal (board_of core.old).set story job) }
-    ensures bounds { (story : List Noted) → Stands (board_of core.new) story → KeepsBoundsOf core.new story }
+    ensures { AskedOf core.old core.new job op answer.new }
 {
     if computes(core, job, op) {
         put_done(&Outcome::Computed, &None, answer);

@@ -90,7 +90,10 @@ impl OpenCore {
         let OpenCore { core, admitted } = self;
         match admitted {
             Some(set) => Some(AdmittedBoard::of(core, set)),
-            None => None,
+            None => {
+                drop(core);
+                None
+            }
         }
     }
 

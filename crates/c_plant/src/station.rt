@@ -49,14 +49,7 @@ impl Model for SeatStation {
 
 impl Drop for SeatStation {
     fn drop(self) {
-        let Self {
-            plant: _,
-            seat: _,
-            others: _,
-            spare: _,
-            txns: _,
-            items: _,
-        } = self;
+        drop(self.into_seat());
     }
 }
 

@@ -1,6 +1,7 @@
 //! Runs the cases of the files in `data/`, and prints a line for each: `ok` and its name, or what was answered in place of
 //! what is wanted. bench/INPUTS.md says what the lines of a case mean. Then it runs BASE over journals in memory: new ones,
-//! such as were there already, such as were stopped at a call of the disk once and twice, and such as are bad.
+//! such as were there already, such as were stopped at a call of the disk once and twice, and such as are bad. Last it prints
+//! summaries of reports, and what becomes of one whose entries are put in pieces.
 #![tactic(auto)]
 
 mod answer;
@@ -10,12 +11,16 @@ mod check;
 mod disk_cases;
 mod meeting;
 mod over_disk;
+mod pieces;
+mod reports;
+mod worked;
 
 use case::Case;
 use check::follow;
 use disk_cases::CASES;
 use meeting::meets;
 use over_disk::Base;
+use reports::print_reports;
 use std::alloc::Global;
 use std::rt::Files;
 use std::sync::Wait;
@@ -23,7 +28,7 @@ use std::thread::Threads;
 use std::{fs, io};
 
 // The files of cases, in the order in which they are run.
-const FILES: [&str; 10] = [
+const FILES: [&str; 11] = [
     "words.cases",
     "texts.cases",
     "sets.cases",
@@ -31,6 +36,7 @@ const FILES: [&str; 10] = [
     "reports.cases",
     "pictures.cases",
     "tools.cases",
+    "check.cases",
     "retold.cases",
     "faults.cases",
     "long.cases",
@@ -96,6 +102,9 @@ fn main(rt: HostRuntime) -> io::Result<()> {
     }
     if run_journals(&rt).is_none() {
         println!(rt; "the cases over a journal were not run to their end")?;
+    }
+    if print_reports(&rt).is_none() {
+        println!(rt; "not all reports were told")?;
     }
     Ok(())
 }

@@ -29,6 +29,20 @@ struct Page<'t> {
 }
 
 impl<'t> Page<'t> {
+    // Nothing is written yet.
+    fn of(sheet: Sheet<'t>) -> Result<Page<'t>, OutOfMemory>
+        ensures { IfOk result (λ page. page.out.items ≡ []) }
+    {
+        let repeats = repeated(sheet)?;
+        Ok(Page {
+            sheet,
+            repeats,
+            told: 0,
+            cursor: Cursor::start(),
+            out: Vec::new(sheet.alloc),
+        })
+    }
+
     // One line more.
     #[tactic(auto, using(crate::proofs::Adding::line_put))]
     fn put(
@@ -140,24 +154,36 @@ impl<'t> Page<'t> {
         let at = Places::of(self.sheet)?.at(refusal_place(refusal))?;
         self.put(at, What::Refused(refusal), &[], refusal_reason(refusal))
     }
+
+    // The faults of all parts, the refusal among them, and the repeated members.
+    #[tactic(auto, using(crate::proofs::Adding::whole))]
+    fn put_walk(&mut self, walk: &mut Walk<'_>, refusal: Refusal) -> Result<(), OutOfMemory>
+        requires { self.old.out.items ≡ [] }
+        ensures { OnOk result (AreLines (Some refusal) [] none self.new.out.items) }
+    {
+        let parts = walk.parts()?;
+        let is_told = self.put_parts(walk, &parts, refusal);
+        drop(parts);
+        self.put_rest(is_told?, refusal)
+    }
+
+    // The same of a walk over the whole text.
+    fn put_all(&mut self, refusal: Refusal) -> Result<(), OutOfMemory>
+        requires { self.old.out.items ≡ [] }
+        ensures { OnOk result (AreLines (Some refusal) [] none self.new.out.items) }
+    {
+        let mut walk = Walk::of(self.sheet)?;
+        let put = self.put_walk(&mut walk, refusal);
+        drop(walk);
+        put
+    }
 }
 
 /// The lines of all that is amiss in a text which this refuses, an error of form or of a name.
-#[tactic(auto, using(crate::proofs::Adding::whole))]
 pub(crate) fn fault_lines(sheet: Sheet<'_>, error: ScenarioError) -> Result<Vec<u8>, OutOfMemory>
     ensures { IfOk result (λ text. AreLines (Some (Why.Scenario error)) [] none text.items) }
 {
-    let refusal = Refusal::Scenario(error);
-    let mut walk = Walk::of(sheet)?;
-    let parts = walk.parts()?;
-    let mut page = Page {
-        sheet,
-        repeats: repeated(sheet)?,
-        told: 0,
-        cursor: Cursor::start(),
-        out: Vec::new(sheet.alloc),
-    };
-    let is_told = page.put_parts(&mut walk, &parts, refusal)?;
-    page.put_rest(is_told, refusal)?;
+    let mut page = Page::of(sheet)?;
+    page.put_all(Refusal::Scenario(error))?;
     Ok(page.out)
 }

@@ -101,10 +101,12 @@ pub fn priorities(alloc: Global, scenario: Scenario) -> Result<Reply, OutOfMemor
         items,
         txns,
         together,
-        scripts: _,
-        releases: _,
+        scripts,
+        releases,
         room: _,
     } = scenario;
+    drop(scripts);
+    drop(releases);
     let set = match compiled(alloc, items, txns, together)? {
         Ok(set) => set,
         Err(error) => return refused_set(alloc, &names, error),

@@ -39,16 +39,22 @@ pub fn slacks(alloc: Global, scenario: Scenario) -> Result<Reply, OutOfMemory>
         items,
         txns,
         together,
-        scripts: _,
-        releases: _,
+        scripts,
+        releases,
         room: _,
     } = scenario;
+    drop(scripts);
+    drop(releases);
     let set = match compiled(alloc, items, txns, together)? {
         Ok(set) => set,
         Err(error) => return refused_set(alloc, &names, error),
     };
     match admitted(alloc, set)? {
-        Ok(set) => Ok(written(text::<Brand>(alloc, &names, &set, Blank::new(1))?)),
+        Ok(set) => {
+            let text = text::<Brand>(alloc, &names, &set, Blank::new(1));
+            drop(set);
+            Ok(written(text?))
+        }
         Err(error) => refused_admission(alloc, &names, error),
     }
 }

@@ -47,7 +47,11 @@ fn ask_summary<S: Source>(alloc: Global, source: &mut S) -> Result<Reply, Unansw
     ensures read { HasSourceCause (S.faults source.old) (S.faults source.new) result }
 {
     match report_from(alloc, source)? {
-        Ok(report) => Ok(written(summary(alloc, &report)?)),
+        Ok(report) => {
+            let text = summary(alloc, &report);
+            drop(report);
+            Ok(written(text?))
+        }
         Err(reply) => Ok(reply),
     }
 }
@@ -57,7 +61,11 @@ fn ask_json<S: Source>(alloc: Global, source: &mut S) -> Result<Reply, Unanswere
     ensures read { HasSourceCause (S.faults source.old) (S.faults source.new) result }
 {
     match report_from(alloc, source)? {
-        Ok(report) => Ok(written(json(alloc, &report)?)),
+        Ok(report) => {
+            let text = json(alloc, &report);
+            drop(report);
+            Ok(written(text?))
+        }
         Err(reply) => Ok(reply),
     }
 }
@@ -67,7 +75,11 @@ fn ask_table<S: Source>(alloc: Global, source: &mut S) -> Result<Reply, Unanswer
     ensures read { HasSourceCause (S.faults source.old) (S.faults source.new) result }
 {
     match report_from(alloc, source)? {
-        Ok(report) => Ok(written(table(alloc, &report)?)),
+        Ok(report) => {
+            let text = table(alloc, &report);
+            drop(report);
+            Ok(written(text?))
+        }
         Err(reply) => Ok(reply),
     }
 }

@@ -1,9 +1,0 @@
-pub mod Lists
-pub mod Shown
-pub mod Goes
-pub mod Turns
-pub mod Steps
-pub mod Taken
-pub mod Parts
-pub mod Held
-pub mod Drawn

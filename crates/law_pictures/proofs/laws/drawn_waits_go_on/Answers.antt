@@ -1,8 +1,0 @@
-use Rattle.law_pictures.proofs.Drawn.{drawn_waits_go_on, no_wait_later}
-use Rattle.law_pictures.proofs.laws.drawn_waits_go_on.Goals as goal
-
-pub returns-clause-held : goal.returns-clause-held
-returns-clause-held c = drawn_waits_go_on
-
-pub returns-clause-later : goal.returns-clause-later
-returns-clause-later c = no_wait_later

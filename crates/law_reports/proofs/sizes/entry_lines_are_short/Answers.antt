@@ -1,9 +1,0 @@
-use Rattle.law_reports.proofs.Ends.{only_commits}
-use Rattle.law_reports.proofs.Laws.{entries_short}
-use Rattle.law_reports.proofs.sizes.entry_lines_are_short.Goals as goal
-
-pub returns-clause-short : goal.returns-clause-short
-returns-clause-short c = entries_short
-
-pub returns-clause-ends : goal.returns-clause-ends
-returns-clause-ends c = only_commits

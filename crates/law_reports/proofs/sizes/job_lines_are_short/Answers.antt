@@ -1,8 +1,0 @@
-use Rattle.law_reports.proofs.Laws.{jobs_nearly_short, jobs_short}
-use Rattle.law_reports.proofs.sizes.job_lines_are_short.Goals as goal
-
-pub returns-clause-any : goal.returns-clause-any
-returns-clause-any c = jobs_nearly_short
-
-pub returns-clause-few : goal.returns-clause-few
-returns-clause-few c = jobs_short

@@ -1,5 +1,0 @@
-use Rattle.law_reports.proofs.Laws.{run_whole}
-use Rattle.law_reports.proofs.sizes.run_is_read_whole.Goals as goal
-
-pub returns : goal.returns
-returns c = run_whole c.response.ensures.found

@@ -1,4 +1,0 @@
-pub mod Laws
-pub mod Lines
-pub mod Runs
-pub mod CommandLaws

@@ -1,5 +1,0 @@
-use Rattle.law_scenarios.proofs.Scenarios.{read_is_scenario}
-use Rattle.law_scenarios.proofs.read_back.read_is_scenario.Goals as goal
-
-pub returns : goal.returns
-returns c = read_is_scenario

@@ -1,5 +1,0 @@
-use Rattle.law_scenarios.proofs.Law.{text_read_back}
-use Rattle.law_scenarios.proofs.read_back.texts_read_back.Goals as goal
-
-pub returns : goal.returns
-returns c = text_read_back

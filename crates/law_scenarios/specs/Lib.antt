@@ -1,3 +1,0 @@
-pub mod ReadBack
-pub mod Texts
-pub mod Admission

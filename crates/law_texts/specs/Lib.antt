@@ -1,0 +1,10 @@
+pub mod ReadBack
+pub mod Texts
+pub mod Admission
+pub mod ReportLaws
+pub mod Lines
+pub mod RunLaws
+pub mod CommandLaws
+pub mod ShownMarks
+pub mod Ceilings
+pub mod Drawn
