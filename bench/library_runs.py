@@ -29,7 +29,7 @@ SETPOINT = 600
 JOBS = f"{SECONDS * 151 + 1} jobs, {SECONDS * 151 + 1} committed, 0 late by the model"
 
 # Stored reports that declare no set or have no entries.
-REFUSED = {"257-items", "65-sets", "65-transactions", "carriage-returns", "empty"}
+REFUSED = {"257-items", "65-sets", "65-transactions", "carriage-returns", "empty", "nothing-ran"}
 
 
 def reports():

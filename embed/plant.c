@@ -72,6 +72,7 @@ static int run_job(struct worker *w, uint32_t serial) {
             if (answer.count > serial) return 0;
             status = rtdb_seat_idle(&w->seat, &time);
             if (status != RTDB_OK && status != RTDB_BUSY) return 0;
+            sched_yield();
             break;
         }
         case RTDB_NOT_YET: /* another job runs */
