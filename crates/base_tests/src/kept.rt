@@ -3,10 +3,10 @@ ghost use Rattle.std.specs.Prelude.{◌≡◌};
 
 use item_model::{ItemDecl, ItemKind, Items};
 use rt_base::{ItemId, List, OutOfMemory, Tick, TxId, Value};
-use run_out::{EntryOut, KeptEntries, Stopped};
-use scenario::Releases;
+use sim_run::{EntryOut, KeptEntries, Stopped};
 use std::alloc::Global;
 use step_journal::{Entry, Journal};
+use step_script::Releases;
 use txn_set::TxnDecl;
 
 /// How many items of two there are, the second at the start, and both after an install of -3 with the stamp 25 in the second.

@@ -4,3 +4,6 @@ pub mod Ranges
 pub mod Over
 pub mod Told
 pub mod MarginsBack
+pub mod Handing
+pub mod Saying
+pub mod Trying

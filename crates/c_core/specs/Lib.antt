@@ -7,3 +7,5 @@ pub mod Calls
 pub mod Open
 pub mod Margins
 pub mod MarginLaws
+pub mod Seats
+pub mod Tries

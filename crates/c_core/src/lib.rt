@@ -1,5 +1,6 @@
 //! What a program in C is told: plain records and numbers for what the calls of a core take and answer, and for margins,
-//! the tables from which a set is made, and a core that tests each number that it is given.
+//! the tables from which a set is made, a core that tests each number that it is given, and a plant over tables, whose seats
+//! test each number too and make one try for each call.
 #![tactic(auto)]
 
 mod checked;
@@ -10,7 +11,10 @@ mod margin_forms;
 mod margin_laws;
 mod margins;
 mod open_core;
+mod plant_opening;
 mod refusals;
+mod seat_sends;
+mod seat_station;
 mod tables;
 
 pub use checked::{CheckedCore, NO_ITEM, NO_OPERATION, NO_TRANSACTION, NOTHING, OK, StoredForm};
@@ -24,7 +28,9 @@ pub use margin_forms::{MarginForm, margin_form};
 pub use margin_laws::margins_lose_nothing;
 pub use margins::told_margin;
 pub use open_core::OpenCore;
+pub use plant_opening::plant_over;
 pub use refusals::{
     BAD_TABLE, NO_MEMORY, NO_ROOM, NOT_ADMITTED, NOT_COMPILED, RefusalForm, Refused, refusal_form,
 };
+pub use seat_station::{BUSY, SeatStation, WRONG_SEAT};
 pub use tables::{ItemRow, Tables, TogetherRow, TxnRow, compiled};

@@ -17,7 +17,7 @@ use crate::lines::Lines;
 use crate::piece::add_piece;
 use crate::queue::Queue;
 use crate::refused::AppendRefused;
-use durable_records::{RecordFault, Records};
+use durable_disk::{RecordFault, Records};
 use rt_base::Names;
 use std::alloc::Global;
 use std::marker::Brand;

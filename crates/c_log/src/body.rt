@@ -5,7 +5,7 @@ ghost use Rattle.durable_journal.specs.Format.{IsText, body_of as body_of_text};
 ghost use Rattle.durable_journal.specs.Log.{Fits};
 
 use crate::lines::Lines;
-use durable_records::BODY;
+use durable_disk::BODY;
 use journal_text::write_entry;
 use rt_base::Names;
 use step_journal::Entry;

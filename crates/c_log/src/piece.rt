@@ -7,15 +7,14 @@ ghost use Rattle.step_journal.specs.declared.entry.Entry.{Entry as Noted};
 ghost use Rattle.step_journal.specs.History.{IsLegal};
 ghost use Rattle.journal_text.specs.Lines.{IsWritable, entry_line};
 ghost use Rattle.durable_disk.specs.Device.{LeavesOnly};
-ghost use Rattle.durable_records.specs.Records.{Reads};
-ghost use Rattle.durable_records.specs.Standing.{EachLeft, IsStaging};
+ghost use Rattle.durable_disk.specs.Records.{Reads};
+ghost use Rattle.durable_disk.specs.Standing.{EachLeft, IsStaging};
 ghost use Rattle.durable_journal.specs.Format.{body_of as body_of_text, entry_bodies};
 ghost use Rattle.durable_journal.specs.Log.{Fits, HasSome, StandsFor};
 
 use crate::body::body_in;
 use crate::lines::Lines;
-use durable_disk::Disk;
-use durable_records::{RecordFault, Records, found_as_read};
+use durable_disk::{Disk, RecordFault, Records, found_as_read};
 use journal_text::lines_both_ways;
 use rt_base::Names;
 use step_journal::Entry;

@@ -3,7 +3,7 @@ use Rattle.std.proofs.Common.{◌≡◌, false, ℕ, ◌+◌, List, Option, None
 use Rattle.txn_set.specs.Set.{Set}
 use Rattle.txn_compiler.specs.Refusal.{compile_refusal}
 use Rattle.txn_compiler.specs.declared.error.CompileError.{CompileError}
-use Rattle.scenario.specs.Shown.{Shown, set_of}
+use Rattle.step_script.specs.Shown.{Shown, set_of}
 use Rattle.update_rates.specs.declared.error.RateError.{RateError}
 use Rattle.update_rates.specs.declared.error.RateError.TheVariants.{Compile, NotAnUpdater, TooTight, OutOfMemory}
 use Rattle.update_rates.specs.RatedSet.{rated_set}
@@ -12,8 +12,8 @@ use Rattle.scale_margin.specs.declared.barrier.Barrier.{Barrier}
 use Rattle.scale_margin.specs.declared.barrier.Margin.{Margin}
 use Rattle.scale_margin.specs.Margins.{IsMargin, barrier_within}
 use Rattle.refusal_lines.specs.Lines.{rates_of, margin_of}
-use Rattle.process_edge.specs.declared.status.Status.{Status}
-use Rattle.process_edge.specs.declared.status.Status.TheVariants as statuses
+use Rattle.io_edge.specs.declared.status.Status.{Status}
+use Rattle.io_edge.specs.declared.status.Status.TheVariants as statuses
 use Rattle.command_replies.specs.Replies.{Written, Compiling}
 use Rattle.command_replies.specs.Analysis.{is_want, Rating, RatesReply, margin_at, MarginReply}
 

@@ -10,8 +10,8 @@ use Rattle.txn_compiler.specs.Kept.{AreLists, IsInRange, kept}
 use Rattle.txn_compiler.specs.Refusal.{compile_refusal, Refuses}
 use Rattle.txn_compiler.proofs.Keeping.{kept-as-declared}
 use Rattle.txn_compiler.proofs.Verdict.{compiled-unless-refused}
-use Rattle.scenario.specs.Shown.{Shown, set_of}
-use Rattle.scenario.specs.Scenarios.{IsScenario}
+use Rattle.step_script.specs.Shown.{Shown, set_of}
+use Rattle.step_script.specs.Scenarios.{IsScenario}
 use Rattle.command_replies.specs.Replies.{is_memory}
 
 pub lists : (s : Shown) → IsScenario s → AreLists (set_of s)

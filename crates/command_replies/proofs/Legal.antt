@@ -4,7 +4,7 @@ use Rattle.run_report.specs.declared.verdict.Verdict.{Verdict}
 use Rattle.run_report.specs.declared.verdict.Verdict.TheVariants.{Legal, BadLine, Unfinished, BadSet, NotALegalStep, WrongLine, WrongItem}
 use Rattle.run_report.specs.Verdict.{names_of}
 use Rattle.run_report.specs.Judged.{is_legal, IsOther}
-use Rattle.process_edge.specs.declared.status.Status.{Status}
+use Rattle.io_edge.specs.declared.status.Status.{Status}
 use Rattle.command_replies.specs.Verdicts.{status_of, verdict_text}
 use Rattle.command_replies.specs.Reports.{is_ok, IsNotLegal}
 

@@ -1,8 +1,8 @@
 -- When a command may tell of a fault.
 use Rattle.std.specs.Prelude.{◌≡◌, ℕ, Result, IsErrOf}
 use Rattle.io_edge.specs.Causes.{Rose}
-use Rattle.process_edge.specs.declared.status.Status.{Status}
-use Rattle.process_edge.specs.declared.status.Status.TheVariants.{ReadFault, WriteFault}
+use Rattle.io_edge.specs.declared.status.Status.{Status}
+use Rattle.io_edge.specs.declared.status.Status.TheVariants.{ReadFault, WriteFault}
 use Rattle.command_replies.specs.declared.unanswered.Unanswered.{Unanswered}
 use Rattle.command_replies.specs.declared.unanswered.Unanswered.TheVariants.{Reading}
 

@@ -6,14 +6,14 @@ use Rattle.txn_compiler.specs.declared.error.CompileError.{CompileError}
 use Rattle.txn_compiler.specs.declared.error.CompileError.TheVariants as compiling
 use Rattle.set_admission.specs.Admission.{refusal}
 use Rattle.set_admission.specs.declared.error.AdmitError.{AdmitError}
-use Rattle.scenario.specs.Shown.{Shown, set_of}
+use Rattle.step_script.specs.Shown.{Shown, set_of}
 use Rattle.report_text.specs.Texts.{ceilings_of}
 use Rattle.run_report.specs.Bounds.{admitted_of}
 use Rattle.refusal_lines.specs.Causes.{compile_cause, admit_cause}
 use Rattle.run_report.specs.declared.verdict.Verdict.{Verdict}
 use Rattle.run_report.specs.Verdict.{IsVerdict, names_of}
-use Rattle.process_edge.specs.declared.status.Status.{Status}
-use Rattle.process_edge.specs.declared.status.Status.TheVariants as statuses
+use Rattle.io_edge.specs.declared.status.Status.{Status}
+use Rattle.io_edge.specs.declared.status.Status.TheVariants as statuses
 use Rattle.command_replies.specs.Texts.{refused_line}
 use Rattle.command_replies.specs.Verdicts.{verdict_text, status_of}
 

@@ -2,8 +2,8 @@
 use Rattle.std.specs.Prelude.{◌≡◌, ℕ, Bool, true, false, List, length, nat_lt, Option}
 use Rattle.run_report.specs.declared.judged.LegalReport.{LegalReport}
 use Rattle.run_report.specs.Judged.{IsLegalReport}
-use Rattle.process_edge.specs.declared.status.Status.{Status}
-use Rattle.process_edge.specs.declared.status.Status.TheVariants as statuses
+use Rattle.io_edge.specs.declared.status.Status.{Status}
+use Rattle.io_edge.specs.declared.status.Status.TheVariants as statuses
 use Rattle.command_replies.specs.Replies.{Reply, VerdictReply}
 use Rattle.command_replies.specs.Taken.{report_limit, TakesAll, InputReply}
 

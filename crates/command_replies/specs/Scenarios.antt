@@ -4,12 +4,12 @@ use Rattle.rt_base.specs.declared.name.Names.{Names}
 use Rattle.serde_json.specs.Data.{Data}
 use Rattle.scenario_forms.specs.declared.error.FormError.{FormError}
 use Rattle.scenario_forms.specs.Root.{Formed, forms_at}
-use Rattle.scenario.specs.Shown.{Shown}
-use Rattle.scenario.specs.Scenarios.{IsScenario}
+use Rattle.step_script.specs.Shown.{Shown}
+use Rattle.step_script.specs.Scenarios.{IsScenario}
 use Rattle.scenario_reader.specs.declared.error.ScenarioError.{ScenarioError}
 use Rattle.scenario_reader.specs.Reading.{data_of, scenario_in}
 use Rattle.refusal_lines.specs.Causes.{scenario_cause}
-use Rattle.process_edge.specs.declared.status.Status.{Status}
+use Rattle.io_edge.specs.declared.status.Status.{Status}
 use Rattle.command_replies.specs.Replies.{Reply, Refused}
 use Rattle.command_replies.specs.Taken.{scenario_limit, TakesAll, InputReply}
 

@@ -7,8 +7,8 @@ use Rattle.run_report.specs.declared.verdict.Verdict.TheVariants.{Legal, BadLine
 use Rattle.run_report.specs.declared.verdict.SetError.{SetError}
 use Rattle.run_report.specs.declared.verdict.SetError.TheVariants.{Compile, Admit}
 use Rattle.refusal_lines.specs.Causes.{compile_cause, admit_cause}
-use Rattle.process_edge.specs.declared.status.Status.{Status}
-use Rattle.process_edge.specs.declared.status.Status.TheVariants as statuses
+use Rattle.io_edge.specs.declared.status.Status.{Status}
+use Rattle.io_edge.specs.declared.status.Status.TheVariants as statuses
 
 abbrev pub set_cause : Names → SetError → List ℕ
 set_cause names (Compile e) = compile_cause names e

@@ -1,8 +1,8 @@
 //! The rates of a scenario's updaters, and the margin of its set.
 ghost use Rattle.std.specs.Prelude.{◌≡◌, IfOk, IfErr, None, Some};
 ghost use Rattle.txn_compiler.specs.Kept.{AreLists};
-ghost use Rattle.scenario.specs.Shown.{shown};
-ghost use Rattle.scenario.specs.Scenarios.{IsScenario};
+ghost use Rattle.step_script.specs.Shown.{shown};
+ghost use Rattle.step_script.specs.Scenarios.{IsScenario};
 ghost use Rattle.update_rates.specs.RatedSet.{rated_set};
 ghost use Rattle.update_rates.specs.Refusal.{rate_refusal};
 ghost use Rattle.scale_margin.specs.Margins.{IsMargin};
@@ -14,11 +14,11 @@ use item_model::ItemDecl;
 use refusal_lines::{margin_text, rates_text};
 use rt_base::{List, OutOfMemory, Steps, TogetherDecl};
 use scale_margin::{Margin, margin};
-use scenario::Scenario;
 use set_admission::AdmittedSet;
 use std::alloc::Global;
 use std::marker::Brand;
 use std::sync::ledger::{Blank, Ledger};
+use step_script::Scenario;
 use txn_compiler::{CompiledSet, TxnDecl, kept_as_declared};
 use update_rates::{RateError, plan_rates};
 
@@ -71,10 +71,12 @@ pub fn rates(alloc: Global, scenario: Scenario) -> Result<Reply, OutOfMemory>
         items,
         txns,
         together,
-        scripts: _,
-        releases: _,
+        scripts,
+        releases,
         room: _,
     } = scenario;
+    drop(scripts);
+    drop(releases);
     match rated(alloc, items, txns, together)? {
         Ok(set) => Ok(written(rates_text(alloc, &names, &set)?)),
         Err(error) => refused_rates(alloc, &names, error),
@@ -106,10 +108,12 @@ pub fn margins(alloc: Global, scenario: Scenario) -> Result<Reply, OutOfMemory>
         items,
         txns,
         together,
-        scripts: _,
-        releases: _,
+        scripts,
+        releases,
         room: _,
     } = scenario;
+    drop(scripts);
+    drop(releases);
     let set = match compiled(alloc, items, txns, together)? {
         Ok(set) => set,
         Err(error) => return refused_set(alloc, &names, error),

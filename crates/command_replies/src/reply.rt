@@ -5,7 +5,7 @@ ghost use Rattle.refusal_lines.specs.Causes.{scenario_cause, compile_cause, admi
 ghost use Rattle.refusal_lines.specs.Lines.{rate_cause};
 ghost use Rattle.command_replies.specs.Texts.{refused_line};
 
-use process_edge::Status;
+use io_edge::Status;
 use refusal_lines::{put_admit_cause, put_compile_cause, put_rate_cause, put_scenario_cause};
 use rt_base::{List, Names, OutOfMemory};
 use scenario_reader::ScenarioError;

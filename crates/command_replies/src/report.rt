@@ -7,8 +7,7 @@ ghost use Rattle.command_replies.specs.Reports.{IsReportFrom, IsNotLegal, IsNone
 use crate::reply::{Reply, refused};
 use crate::unanswered::Unanswered;
 use crate::verdict::{REPORT_LIMIT, verdict_reply};
-use io_edge::{ReadError, Source, read_all};
-use process_edge::Status;
+use io_edge::{ReadError, Source, Status, read_all};
 use rt_base::OutOfMemory;
 use run_report::{Judged, LegalReport, judge_document};
 use std::alloc::Global;

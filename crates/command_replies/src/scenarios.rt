@@ -1,7 +1,7 @@
 //! A scenario that is read of a source.
 ghost use Rattle.std.specs.Prelude.{◌≡◌, ◌≤◌, length, Ok, IfOk, IfErr};
-ghost use Rattle.scenario.specs.Shown.{shown};
-ghost use Rattle.scenario.specs.Scenarios.{IsScenario};
+ghost use Rattle.step_script.specs.Shown.{shown};
+ghost use Rattle.step_script.specs.Scenarios.{IsScenario};
 ghost use Rattle.scenario_forms.specs.Root.{forms_view};
 ghost use Rattle.scenario_reader.specs.Reading.{data_of, scenario_in};
 ghost use Rattle.command_replies.specs.Causes.{HasSourceCause};
@@ -9,13 +9,12 @@ ghost use Rattle.command_replies.specs.Scenarios.{names_in, names_of_forms, IsRe
 
 use crate::reply::{Reply, no_names, refused, refused_scenario};
 use crate::unanswered::Unanswered;
-use io_edge::{ReadError, Source, read_all};
-use process_edge::Status;
+use io_edge::{ReadError, Source, Status, read_all};
 use rt_base::{List, Names, OutOfMemory};
-use scenario::Scenario;
 use scenario_forms::{FormError, Forms, ItemTable, TextError, TxnTable, read_forms, read_value};
 use scenario_reader::{ScenarioError, read_scenario};
 use std::alloc::Global;
+use step_script::Scenario;
 
 /// The most bytes of a scenario.
 pub const SCENARIO_LIMIT: usize = 4_194_304;

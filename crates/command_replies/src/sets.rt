@@ -3,17 +3,17 @@ ghost use Rattle.std.specs.Prelude.{◌≡◌, IfOk, IfErr, None, Some};
 ghost use Rattle.txn_compiler.specs.Kept.{AreLists};
 ghost use Rattle.txn_compiler.specs.Refusal.{compile_refusal};
 ghost use Rattle.set_admission.specs.Admission.{refusal};
-ghost use Rattle.scenario.specs.Shown.{shown};
-ghost use Rattle.scenario.specs.Scenarios.{IsScenario};
+ghost use Rattle.step_script.specs.Shown.{shown};
+ghost use Rattle.step_script.specs.Scenarios.{IsScenario};
 ghost use Rattle.command_replies.specs.Replies.{CeilingsReply, AdmitReply, is_memory};
 
 use crate::reply::{Reply, refused_admission, refused_set, written};
 use item_model::ItemDecl;
 use rt_base::{List, OutOfMemory, TogetherDecl};
 use run_report::{admit_text, ceilings_text};
-use scenario::Scenario;
 use set_admission::{AdmitError, AdmittedSet, admit};
 use std::alloc::Global;
+use step_script::Scenario;
 use txn_compiler::{CompileError, CompiledSet, TxnDecl, compile, kept_as_declared};
 
 /// The set of declarations, or the first rule that they break.
@@ -82,10 +82,12 @@ pub fn ceilings(alloc: Global, scenario: Scenario) -> Result<Reply, OutOfMemory>
         items,
         txns,
         together,
-        scripts: _,
-        releases: _,
+        scripts,
+        releases,
         room: _,
     } = scenario;
+    drop(scripts);
+    drop(releases);
     match compiled(alloc, items, txns, together)? {
         Ok(set) => Ok(written(ceilings_text(alloc, &names, &set)?)),
         Err(error) => refused_set(alloc, &names, error),
@@ -102,10 +104,12 @@ pub fn bounds(alloc: Global, scenario: Scenario) -> Result<Reply, OutOfMemory>
         items,
         txns,
         together,
-        scripts: _,
-        releases: _,
+        scripts,
+        releases,
         room: _,
     } = scenario;
+    drop(scripts);
+    drop(releases);
     let set = match compiled(alloc, items, txns, together)? {
         Ok(set) => set,
         Err(error) => return refused_set(alloc, &names, error),

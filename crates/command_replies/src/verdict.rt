@@ -6,8 +6,8 @@ ghost use Rattle.command_replies.specs.Replies.{VerdictReply};
 ghost use Rattle.command_replies.specs.Verdicts.{set_cause, verdict_words, verdict_text, status_of};
 
 use crate::reply::{Reply, no_names};
+use io_edge::Status;
 use itoa::Buffer;
-use process_edge::Status;
 use refusal_lines::{put_admit_cause, put_compile_cause};
 use report_text::{HeadError, read_head};
 use rt_base::{Names, OutOfMemory};

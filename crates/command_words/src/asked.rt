@@ -9,8 +9,8 @@ use crate::command::{Command, PlainCommand};
 use crate::line::parsed;
 use clap::ArgMatches;
 use clap::error::ErrorKind;
+use io_edge::Word;
 use journal_text::unsigned;
-use process_edge::Word;
 use rt_base::OutOfMemory;
 use std::alloc::Global;
 

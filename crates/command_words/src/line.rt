@@ -6,7 +6,7 @@ ghost use Rattle.clap.specs.Faults.{fault_of};
 ghost use Rattle.command_words.specs.Shape.{IsLine, generating, loading, rtdb, running};
 
 use clap::{Arg, ArgAction, ArgMatches, Command, Error};
-use process_edge::Word;
+use io_edge::Word;
 use std::alloc::{AllocError, Global};
 
 fn run_line<'a>(alloc: Global) -> Result<Command<'a>, AllocError>

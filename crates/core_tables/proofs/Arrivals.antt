@@ -7,7 +7,7 @@ use Rattle.rt_base.specs.declared.release.Release.{Release}
 use Rattle.release_calendar.specs.Agenda.{Agenda, Holds, NothingDue, IsDue, SamePlans, without, left}
 use Rattle.step_journal.specs.State.{Row}
 use Rattle.step_journal.specs.Instant.{with_row}
-use Rattle.pending_jobs.specs.Rows.{PendingSeen}
+use Rattle.core_tables.specs.Rows.{PendingSeen}
 use Rattle.core_tables.specs.Changes.{due_jobs, later}
 use Rattle.core_tables.specs.Arriving.{CanRelease, CanReleaseSome}
 use Rattle.core_tables.proofs.Releases.{one, release_rows, release_can, later_without, none_due}

@@ -18,7 +18,7 @@ use Rattle.step_journal.specs.Instant.{freed, is_due, with_row, with_end, with_l
 use Rattle.law_histories.proofs.Members.{In, in_filter, in_pending}
 use Rattle.law_histories.proofs.Calendar.{Frame, in_sorted, row_none}
 use Rattle.board.specs.Answers.{ended_jobs, ended_number}
-use Rattle.pending_jobs.specs.Rows.{PendingSeen, AreFactsOf}
+use Rattle.core_tables.specs.Rows.{PendingSeen, AreFactsOf}
 use Rattle.core_tables.specs.declared.tally.Tally.{Tally}
 use Rattle.core_tables.specs.Seen.{TablesSeen, no_tally, tally_of, tallies_after, counted}
 use Rattle.core_tables.specs.Tables.{AreTables, AreTallies}

@@ -16,8 +16,8 @@ use Rattle.step_journal.specs.Instant.{is_due}
 use Rattle.law_histories.proofs.Members.{In, filter_in, pending_in, highest_none}
 use Rattle.law_histories.proofs.Invariant.{in_range}
 use Rattle.law_histories.proofs.Calendar.{Frame, frame_without}
-use Rattle.pending_jobs.specs.Rows.{Facts, PendingSeen, AreFactsOf, rows_ended}
-use Rattle.pending_jobs.specs.Deadlines.{IsLeastDeadline, deadline_of}
+use Rattle.core_tables.specs.Rows.{Facts, PendingSeen, AreFactsOf, rows_ended}
+use Rattle.core_tables.specs.Deadlines.{IsLeastDeadline, deadline_of}
 use Rattle.core_tables.specs.declared.tally.Tally.{Tally}
 use Rattle.core_tables.specs.Seen.{tally_of, tallies_after, counted}
 use Rattle.core_tables.specs.Changes.{rows_without, late_jobs, rows_cancelled, tallies_cancelled, tally_late}

@@ -20,10 +20,10 @@ use Rattle.law_histories.proofs.Invariant.{in_range}
 use Rattle.law_histories.proofs.Calendar.{named_from}
 use Rattle.law_histories.proofs.Never.{refusal_at}
 use Rattle.board.specs.Over.{over_of}
-use Rattle.pending_jobs.specs.Rows.{PendingSeen, AreFactsOf, Accesses, IsDeclared, accesses_at, accesses_of, rows_stepped, rows_waiting}
-use Rattle.pending_jobs.specs.declared.head.Head.{Head}
-use Rattle.pending_jobs.specs.Waiting.{MayWait}
-use Rattle.pending_jobs.proofs.Protocols.{may_wait}
+use Rattle.core_tables.specs.Rows.{PendingSeen, AreFactsOf, Accesses, IsDeclared, accesses_at, accesses_of, rows_stepped, rows_waiting}
+use Rattle.core_tables.specs.declared.head.Head.{Head}
+use Rattle.core_tables.specs.Waiting.{MayWait}
+use Rattle.core_tables.proofs.Protocols.{may_wait}
 use Rattle.core_tables.specs.declared.tally.Tally.{Tally}
 use Rattle.core_tables.specs.Seen.{TablesSeen, tally_of}
 use Rattle.core_tables.specs.Tables.{AreTables}

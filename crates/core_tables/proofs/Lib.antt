@@ -14,3 +14,16 @@ pub mod Arrived
 pub mod Effected
 pub mod Quiet
 pub mod Jobs
+pub mod RowsBy
+pub mod RankSets
+pub mod Agrees
+pub mod Dues
+pub mod WorkLocks
+pub mod Changed
+pub mod Highs
+pub mod Blockers
+pub mod LockRefusals
+pub mod Protocols
+pub mod PendingOpens
+pub mod Calls
+pub mod Questions

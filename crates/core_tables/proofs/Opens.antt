@@ -14,7 +14,7 @@ use Rattle.txn_set.specs.declared.decl.TxnDecl.{TxnDecl}
 use Rattle.step_journal.specs.State.{opening}
 use Rattle.law_histories.proofs.Calendar.{times_at}
 use Rattle.board.specs.Answers.{most_planned}
-use Rattle.pending_jobs.specs.Rows.{PendingSeen, AreRows}
+use Rattle.core_tables.specs.Rows.{PendingSeen, AreRows}
 use Rattle.core_tables.specs.declared.tally.Tally.{Tally}
 use Rattle.core_tables.specs.Seen.{no_tally, tally_of}
 use Rattle.core_tables.specs.Tables.{AreTables}

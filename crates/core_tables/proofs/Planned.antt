@@ -19,7 +19,7 @@ use Rattle.law_histories.proofs.Invariant.{IsPending}
 use Rattle.law_histories.proofs.Calendar.{row_none, times_at}
 use Rattle.board.specs.Answers.{most_planned, plan_reply, unless_refused}
 use Rattle.board.proofs.More.{Passes, passes}
-use Rattle.pending_jobs.specs.Rows.{PendingSeen}
+use Rattle.core_tables.specs.Rows.{PendingSeen}
 use Rattle.core_tables.specs.Seen.{TablesSeen}
 use Rattle.core_tables.specs.Tables.{AreTables}
 use Rattle.core_tables.specs.Legal.{IsLegalState}

@@ -16,7 +16,7 @@ use Rattle.law_histories.proofs.Members.{In, in_filter, in_pending}
 use Rattle.law_histories.proofs.Calendar.{in_sorted}
 use Rattle.law_histories.proofs.Invariant.{in_range}
 use Rattle.board.specs.Over.{over_of}
-use Rattle.pending_jobs.specs.Rows.{PendingSeen, rows_stepped}
+use Rattle.core_tables.specs.Rows.{PendingSeen, rows_stepped}
 use Rattle.core_tables.specs.Seen.{TablesSeen}
 use Rattle.core_tables.specs.Tables.{AreTables}
 use Rattle.core_tables.specs.Legal.{IsLegalState, IsGranted}

@@ -23,9 +23,9 @@ use Rattle.board.specs.declared.replies.StepReply.TheVariants as reply
 use Rattle.board.specs.Answers.{IsAsking, step_reply, running_reply, asked_reply, checked, unwritten_or, unwritten, lock_reply, ended_number, last_end}
 use Rattle.board.proofs.Asks.{complete_is, job_row_here}
 use Rattle.board.proofs.Tests.{le_not_lt, lt_not_le, lt_false}
-use Rattle.pending_jobs.specs.Rows.{Facts, AreFactsOf, Accesses, accesses_at, accesses_of, head_of, above_of}
-use Rattle.pending_jobs.specs.declared.head.Blocker.{Blocker}
-use Rattle.pending_jobs.specs.declared.head.Head.{Head}
+use Rattle.core_tables.specs.Rows.{Facts, AreFactsOf, Accesses, accesses_at, accesses_of, head_of, above_of}
+use Rattle.core_tables.specs.declared.head.Blocker.{Blocker}
+use Rattle.core_tables.specs.declared.head.Head.{Head}
 use Rattle.core_tables.specs.Seen.{TablesSeen}
 use Rattle.core_tables.specs.Tables.{AreTables}
 use Rattle.core_tables.specs.Legal.{IsLegalState, IsGranted, IsBlocked, Refuses}

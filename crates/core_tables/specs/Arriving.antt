@@ -11,7 +11,7 @@ use Rattle.step_journal.specs.Step.{with_step, end_of}
 use Rattle.board.specs.Answers.{ended_number}
 use Rattle.law_histories.proofs.Members.{In}
 use Rattle.law_histories.proofs.Calendar.{Frame, AreApart}
-use Rattle.pending_jobs.specs.Rows.{PendingSeen, AreFactsOf}
+use Rattle.core_tables.specs.Rows.{PendingSeen, AreFactsOf}
 use Rattle.core_tables.specs.declared.tally.Tally.{Tally}
 use Rattle.core_tables.specs.Seen.{TablesSeen, tally_of}
 use Rattle.core_tables.specs.Tables.{AreTables}

@@ -18,7 +18,7 @@ use Rattle.step_journal.specs.Instant.{freed, is_due}
 use Rattle.board.specs.declared.replies.StepReply.{StepReply}
 use Rattle.board.specs.declared.replies.StepReply.TheVariants as reply
 use Rattle.board.specs.Answers.{unwritten}
-use Rattle.pending_jobs.specs.Rows.{PendingSeen}
+use Rattle.core_tables.specs.Rows.{PendingSeen}
 use Rattle.core_tables.specs.declared.tally.Tally.{Tally}
 use Rattle.core_tables.specs.Seen.{tallies_after}
 

@@ -4,3 +4,7 @@ pub mod Legal
 pub mod Changes
 pub mod Asks
 pub mod Arriving
+pub mod Rows
+pub mod Waiting
+pub mod Deadlines
+pub mod PendingTables

@@ -3,7 +3,7 @@ use Rattle.std.specs.Prelude.{ℕ, ◌+◌, List, None, Some, slice_index_or, sl
 use Rattle.rt_base.specs.declared.operation.End.{End}
 use Rattle.item_model.specs.declared.stored.Stored.{Stored}
 use Rattle.release_calendar.specs.Agenda.{Agenda}
-use Rattle.pending_jobs.specs.Rows.{PendingSeen}
+use Rattle.core_tables.specs.Rows.{PendingSeen}
 use Rattle.core_tables.specs.declared.tally.Tally.{Tally}
 
 -- the present tick, the items, the plans and planned releases, the pending jobs, and by transaction what is kept of the ended ones

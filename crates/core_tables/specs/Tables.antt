@@ -5,7 +5,7 @@ use Rattle.txn_set.specs.Set.{Set}
 use Rattle.step_journal.specs.declared.entry.EndedJob.{EndedJob}
 use Rattle.step_journal.specs.State.{State}
 use Rattle.board.specs.Answers.{most_planned, ended_number, last_end}
-use Rattle.pending_jobs.specs.Rows.{AreRows}
+use Rattle.core_tables.specs.Rows.{AreRows}
 use Rattle.core_tables.specs.declared.tally.Tally.{Tally}
 use Rattle.core_tables.specs.Seen.{TablesSeen, tally_of}
 

@@ -5,13 +5,13 @@ ghost use Rattle.std.specs.List.{fold};
 ghost use Rattle.txn_set.specs.Set.{Set};
 ghost use Rattle.release_calendar.specs.Agenda.{Holds, SamePlans};
 ghost use Rattle.step_journal.specs.Instant.{with_row};
-ghost use Rattle.pending_jobs.specs.Rows.{AreFactsOf};
+ghost use Rattle.core_tables.specs.Rows.{AreFactsOf};
 ghost use Rattle.core_tables.specs.Seen.{tally_of, tallies_after};
 ghost use Rattle.core_tables.specs.Changes.{late_jobs, rows_cancelled, tallies_cancelled, due_jobs, later};
 ghost use Rattle.core_tables.specs.Arriving.{CanCancel, CanCancelSome, CanRelease, CanReleaseSome};
 
+use crate::pending::Pending;
 use crate::tally::Tally;
-use pending_jobs::Pending;
 use release_calendar::Calendar;
 use rt_base::{End, Tick, TxId};
 

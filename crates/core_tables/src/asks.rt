@@ -6,16 +6,17 @@ ghost use Rattle.txn_set.specs.Set.{Set, names_item};
 ghost use Rattle.step_journal.specs.State.{Row as RowSeen, State, row_of, same_job as same};
 ghost use Rattle.step_journal.specs.Running.{running as running_row};
 ghost use Rattle.board.specs.Answers.{IsAsking, step_reply, idle_reply};
-ghost use Rattle.pending_jobs.specs.Rows.{AreFactsOf, head_of, above_of};
+ghost use Rattle.core_tables.specs.Rows.{AreFactsOf, head_of, above_of};
 ghost use Rattle.core_tables.specs.Tables.{AreTables};
 ghost use Rattle.core_tables.specs.Legal.{IsLegalState, Stand, StandAsking, IsGranted, IsBlocked, Refuses};
 ghost use Rattle.core_tables.specs.Changes.{denied as denied_by, access_by};
 ghost use Rattle.core_tables.specs.Asks.{blocked_by, asked_by, runs_now, waiting_for, waits_by, refused_by, idle_by};
 
+use crate::head::{Blocker, Head};
+use crate::pending::Pending;
 use crate::tables::CoreTables;
 use crate::tally::Tally;
 use board::{IdleReply, StepReply};
-use pending_jobs::{Blocker, Head, Pending};
 use rt_base::{ItemId, JobId, Op, Tick};
 use txn_set::CompiledSet;
 

@@ -8,7 +8,7 @@ ghost use Rattle.step_journal.specs.Instant.{arrived};
 ghost use Rattle.strict_commit.specs.Ends.{end_of as committed_end};
 ghost use Rattle.step_journal.specs.Step.{given, end_by, row_after, after_effect, with_step, with_wait, end_of};
 ghost use Rattle.board.specs.Over.{over_of};
-ghost use Rattle.pending_jobs.specs.Rows.{AreFactsOf, head_of};
+ghost use Rattle.core_tables.specs.Rows.{AreFactsOf, head_of};
 ghost use Rattle.core_tables.specs.Seen.{tally_of};
 ghost use Rattle.core_tables.specs.Tables.{AreTables};
 ghost use Rattle.core_tables.specs.Legal.{IsLegalState, IsGranted, IsBlocked, IsIdle, StandGranted, StandBlocked, StandIdle};
@@ -16,10 +16,11 @@ ghost use Rattle.core_tables.specs.Changes.{items_settled, late_jobs, pending_se
 ghost use Rattle.core_tables.specs.Arriving.{CanArrive, ArrivesSome, IsQuiet, Computes};
 
 use crate::arrive::{cancel, count_end, has_time, release};
+use crate::head::Head;
+use crate::pending::Pending;
 use crate::tables::CoreTables;
 use crate::tally::Tally;
 use item_model::Items;
-use pending_jobs::{Head, Pending};
 use rt_base::{End, JobId, Op, Outcome, Tick, TxId};
 use strict_commit::CommitRefused;
 use txn_set::CompiledSet;

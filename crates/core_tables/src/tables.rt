@@ -11,9 +11,9 @@ ghost use Rattle.core_tables.specs.Tables.{AreTables};
 ghost use Rattle.core_tables.specs.Legal.{IsLegalState, Stand};
 
 use crate::openings::{calendar_of, no_tallies};
+use crate::pending::Pending;
 use crate::tally::Tally;
 use item_model::Items;
-use pending_jobs::Pending;
 use release_calendar::Calendar;
 use rt_base::{ItemId, JobId, OutOfMemory, PlanRefused, Tick, TxId, Value};
 use std::alloc::Global;

@@ -11,10 +11,10 @@ use Rattle.step_journal.specs.History.{IsLegal, IsLegalFrom, state_after}
 use Rattle.journal_text.specs.Lines.{entry_line}
 use Rattle.journal_text.specs.EntryLaws.{LinesBothWays}
 use Rattle.durable_disk.specs.Device.{LeavesOnly}
-use Rattle.durable_records.specs.Records.{Reads}
-use Rattle.durable_records.specs.Records as places
-use Rattle.durable_records.specs.Laws.{FoundAsRead}
-use Rattle.durable_records.specs.Standing.{Stands, EachLeft}
+use Rattle.durable_disk.specs.Records.{Reads}
+use Rattle.durable_disk.specs.Records as places
+use Rattle.durable_disk.specs.Laws.{FoundAsRead}
+use Rattle.durable_disk.specs.Standing.{Stands, EachLeft}
 use Rattle.durable_journal.specs.Format.{body_of, bodies_of, header}
 use Rattle.durable_journal.specs.Log.{Fits, OpensAs, Stood, IsBeforeOrAfter, IsLeft}
 use Rattle.durable_journal.proofs.Reading.{reads_as}

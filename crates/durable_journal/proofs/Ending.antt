@@ -11,9 +11,9 @@ use Rattle.journal_text.specs.Lines.{entry_line, HasLine}
 use Rattle.journal_text.specs.Reading.{entry_of}
 use Rattle.durable_disk.specs.Images.{Written, Torn}
 use Rattle.durable_disk.specs.Device.{LeavesOnly, Only, WritesWithin, BothTold}
-use Rattle.durable_records.specs.Records.{missing, closed, short, whole, slot_of, slot_at}
-use Rattle.durable_records.specs.Laws.{WholeIsWide}
-use Rattle.durable_records.proofs.Slots.{whole_is}
+use Rattle.durable_disk.specs.Records.{missing, closed, short, whole, slot_of, slot_at}
+use Rattle.durable_disk.specs.Laws.{WholeIsWide}
+use Rattle.durable_disk.proofs.Slots.{whole_is}
 use Rattle.durable_journal.specs.Format.{body_of, bodies_of}
 use Rattle.durable_journal.specs.declared.scan.Stop.{Stop}
 use Rattle.durable_journal.specs.declared.scan.Stop.TheVariants.{Ended, Unended, Broken, More}

@@ -11,8 +11,8 @@ use Rattle.journal_text.specs.Lines.{entry_line}
 use Rattle.journal_text.specs.EntryLaws.{LinesBothWays}
 use Rattle.durable_disk.specs.Images.{Written}
 use Rattle.durable_disk.specs.Device.{AfterWrite, BothTold, Only}
-use Rattle.durable_records.specs.Records.{Reads}
-use Rattle.durable_records.specs.Laws.{FoundAsRead, WholeIsWide, ClosedAsRead}
+use Rattle.durable_disk.specs.Records.{Reads}
+use Rattle.durable_disk.specs.Laws.{FoundAsRead, WholeIsWide, ClosedAsRead}
 use Rattle.durable_journal.specs.declared.scan.Stop.{Stop}
 use Rattle.durable_journal.specs.declared.scan.Stop.TheVariants.{Ended, Unended, Broken, More}
 use Rattle.durable_journal.specs.Format.{body_of, bodies_of}

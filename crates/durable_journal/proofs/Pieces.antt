@@ -9,11 +9,11 @@ use Rattle.step_journal.specs.declared.entry.Entry.{Entry}
 use Rattle.step_journal.specs.History.{IsLegal}
 use Rattle.journal_text.specs.Lines.{entry_line}
 use Rattle.journal_text.specs.EntryLaws.{LinesBothWays}
-use Rattle.durable_records.specs.Records.{Reads, HasBodies, HasFirst}
-use Rattle.durable_records.specs.Laws.{FoundAsRead}
-use Rattle.durable_records.specs.Standing.{IsSettled, IsStaging}
-use Rattle.durable_records.proofs.Pieces.{bodies_read}
-use Rattle.durable_records.proofs.Calls.{settled_each}
+use Rattle.durable_disk.specs.Records.{Reads, HasBodies, HasFirst}
+use Rattle.durable_disk.specs.Laws.{FoundAsRead}
+use Rattle.durable_disk.specs.Standing.{IsSettled, IsStaging}
+use Rattle.durable_disk.proofs.Pieces.{bodies_read}
+use Rattle.durable_disk.proofs.Calls.{settled_each}
 use Rattle.durable_journal.specs.Format.{body_of, bodies_of, entry_bodies, header}
 use Rattle.durable_journal.specs.declared.log.LogError.{LogError}
 use Rattle.durable_journal.specs.declared.log.LogError.TheVariants.{Stopped}

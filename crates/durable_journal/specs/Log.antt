@@ -7,8 +7,8 @@ use Rattle.txn_set.specs.Set.{Set}
 use Rattle.step_journal.specs.declared.entry.Entry.{Entry}
 use Rattle.step_journal.specs.History.{IsLegal}
 use Rattle.journal_text.specs.Lines.{entry_line, HasLine}
-use Rattle.durable_records.specs.Records.{slot_at}
-use Rattle.durable_records.specs.Standing.{RecordsSeen, Stands}
+use Rattle.durable_disk.specs.Records.{slot_at}
+use Rattle.durable_disk.specs.Standing.{RecordsSeen, Stands}
 use Rattle.durable_journal.specs.declared.log.LogError.{LogError}
 use Rattle.durable_journal.specs.declared.log.LogError.TheVariants.{DiskFault, BadRecord, Full, Stopped, OutOfMemory}
 use Rattle.durable_journal.specs.declared.place.Place.{Place}

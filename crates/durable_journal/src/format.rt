@@ -3,7 +3,7 @@ ghost use Rattle.std.specs.Prelude.{◌≡◌, ◌-◌, ◌++◌, replicate, ◌
 ghost use Rattle.std.specs.List.{list_all};
 ghost use Rattle.durable_journal.specs.Format.{IsText, body_of as body_of_text, is_zero, text_behind, text_of as text_of_body};
 
-use durable_records::BODY;
+use durable_disk::BODY;
 
 // A text, and zeros behind it.
 fn filled(line: &[u8]) -> [u8; 254]

@@ -10,8 +10,8 @@ ghost use Rattle.step_journal.specs.History.{IsLegal};
 ghost use Rattle.journal_text.specs.Lines.{IsWritable, entry_line};
 ghost use Rattle.report_text.specs.Texts.{NamesSet};
 ghost use Rattle.durable_disk.specs.Device.{LeavesOnly, WritesWithin};
-ghost use Rattle.durable_records.specs.Records.{HasFirst, Reads};
-ghost use Rattle.durable_records.specs.Standing.{EachLeft, IsStaging, Stands};
+ghost use Rattle.durable_disk.specs.Records.{HasFirst, Reads};
+ghost use Rattle.durable_disk.specs.Standing.{EachLeft, IsStaging, Stands};
 ghost use Rattle.durable_journal.specs.Format.{body_of as body_of_text, entry_bodies};
 ghost use Rattle.durable_journal.specs.Log.{Fits, GoesOn, HasSome, IsBeforeOrAfter, IsLeft, IsMemoryOrFault, IsOkOrFault, StandsFor};
 ghost use Rattle.durable_journal.specs.Opened.{ClosesAt, IfFull, IsEnd, IsJudged, IsOpened, IsRefused, Touches, TouchesAt, with_gate};
@@ -20,8 +20,7 @@ ghost use Rattle.durable_journal.specs.Texts.{ended, unended, texts_from};
 use crate::format::body_of;
 use crate::place::HEADER;
 use crate::scan::{ScanFault, Stop, scan_disk};
-use durable_disk::Disk;
-use durable_records::{RecordFault, Records, WIDTH, found_as_read};
+use durable_disk::{Disk, RecordFault, Records, WIDTH, found_as_read};
 use io_edge::Failed;
 use journal_text::{Numerals, lines_both_ways, write_entry};
 use law_histories::counting;
@@ -62,7 +61,7 @@ pub struct Log<D: Disk> {
 
 impl<D: Disk> Model for Log<D> {
     ghost use Rattle.std.specs.Prelude.{◌≤◌, vec_capacity};
-    ghost use Rattle.durable_records.specs.Standing.{RecordsSeen};
+    ghost use Rattle.durable_disk.specs.Standing.{RecordsSeen};
 
     ghost Value = { RecordsSeen D };
 

@@ -2,16 +2,15 @@
 ghost use Rattle.std.specs.Prelude.{◌≡◌, ◌+◌, ◌<◌, ◌≤◌, ◌^◌, ◌↔◌, length, Some, IfOk, IfSome, IsTrue};
 ghost use Rattle.io_edge.specs.Causes.{HasCause};
 ghost use Rattle.durable_disk.specs.Device.{Elapses, NoMore};
-ghost use Rattle.durable_records.specs.Records.{slot_at};
-ghost use Rattle.durable_records.specs.Found.{Finds};
-ghost use Rattle.durable_records.specs.Records.{Slot as Found};
+ghost use Rattle.durable_disk.specs.Records.{slot_at};
+ghost use Rattle.durable_disk.specs.Found.{Finds};
+ghost use Rattle.durable_disk.specs.Records.{Slot as Found};
 ghost use Rattle.durable_journal.specs.Format.{header, text_of as text_of_body};
 ghost use Rattle.durable_journal.specs.Log.{Fits, FitsThere};
 ghost use Rattle.durable_journal.specs.Texts.{IsHeader, entry_in, place_of};
 
 use crate::format::text_of;
-use durable_disk::Disk;
-use durable_records::{Slot, WIDTH, read_slot};
+use durable_disk::{Disk, Slot, WIDTH, read_slot};
 use io_edge::Failed;
 use journal_text::read_entry;
 use name_table::NameTables;

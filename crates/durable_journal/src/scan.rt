@@ -4,7 +4,7 @@ ghost use Rattle.std.specs.List.{AllByRecursion};
 ghost use Rattle.io_edge.specs.Causes.{Rose};
 ghost use Rattle.rt_base.specs.Names.{AreNames};
 ghost use Rattle.durable_disk.specs.Device.{LeavesOnly, NoMore, Only};
-ghost use Rattle.durable_records.specs.Records.{slot_at};
+ghost use Rattle.durable_disk.specs.Records.{slot_at};
 ghost use Rattle.durable_journal.specs.Log.{Fits};
 ghost use Rattle.durable_journal.specs.Texts.{IsHeader, texts_from};
 ghost use Rattle.durable_journal.specs.Opened.{Passes, Scanned, texts_by};

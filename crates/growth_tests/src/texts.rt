@@ -1,14 +1,14 @@
 //! Reading the scenario.
 ghost use Rattle.std.specs.Prelude.{IfOk};
-ghost use Rattle.scenario.specs.Shown.{shown};
-ghost use Rattle.scenario.specs.Scenarios.{IsScenario};
+ghost use Rattle.step_script.specs.Shown.{shown};
+ghost use Rattle.step_script.specs.Scenarios.{IsScenario};
 
 use crate::fault::Fault;
 use crate::said::{Before, failed, judged, refused};
-use scenario::Scenario;
 use scenario_reader::{ScenarioError, read_scenario};
 use scenario_writer::write_scenario;
 use std::alloc::Global;
+use step_script::Scenario;
 
 const NAME: &str = "read_scenario";
 

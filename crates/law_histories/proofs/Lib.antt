@@ -36,3 +36,14 @@ pub mod TimedSteps
 pub mod KnownAll
 pub mod Commits
 pub mod Once
+pub mod Compiled
+pub mod Base
+pub mod SharedReaders
+pub mod Bystander
+pub mod BackToBack
+pub mod Late
+pub mod Overrun
+pub mod Stale
+pub mod Quiet
+pub mod Together
+pub mod DerivedStamp

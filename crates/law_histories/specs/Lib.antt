@@ -2,3 +2,14 @@ pub mod Protocol
 pub mod Counting
 pub mod Commits
 pub mod Sim
+pub mod Ids
+pub mod Base
+pub mod SharedReaders
+pub mod Bystander
+pub mod BackToBack
+pub mod Late
+pub mod Overrun
+pub mod Stale
+pub mod Quiet
+pub mod Together
+pub mod DerivedStamp

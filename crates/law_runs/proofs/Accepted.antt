@@ -13,11 +13,11 @@ use Rattle.txn_set.specs.Set.{no_txn, txn_of}
 use Rattle.law_histories.specs.Counting.{room_of_jobs}
 use Rattle.sim_run.specs.Workloads.{AreSpaced, AreAccepted}
 use Rattle.sim_run.specs.Workloads as runs
-use Rattle.scenario.specs.declared.releases.Releases.{Releases}
-use Rattle.scenario.specs.declared.releases.Releases.TheVariants.{At, Jobs, Eager}
-use Rattle.scenario.specs.Shown.{Shown, set_of}
-use Rattle.scenario.specs.Releases.{jobs_of, ticks_of, total_jobs, fixed_ticks, refused_tick, refused_from, entries_of, entries_in}
-use Rattle.scenario.specs.Scenarios.{IsScenario}
+use Rattle.step_script.specs.declared.releases.Releases.{Releases}
+use Rattle.step_script.specs.declared.releases.Releases.TheVariants.{At, Jobs, Eager}
+use Rattle.step_script.specs.Shown.{Shown, set_of}
+use Rattle.step_script.specs.Releases.{jobs_of, ticks_of, total_jobs, fixed_ticks, refused_tick, refused_from, entries_of, entries_in}
+use Rattle.step_script.specs.Scenarios.{IsScenario}
 
 -- where no tick is refused, they are spaced
 

@@ -6,9 +6,9 @@ use Rattle.law_histories.specs.Counting.{plan_count, room_of_jobs}
 use Rattle.law_histories.proofs.CountingAll.{entries_few}
 use Rattle.law_histories.specs.Sim.{plans}
 use Rattle.sim_run.specs.Workloads.{ticks_of}
-use Rattle.scenario.specs.declared.releases.Releases.{Releases}
-use Rattle.scenario.specs.declared.releases.Releases.TheVariants.{At}
-use Rattle.scenario.specs.Releases.{jobs_of, entries_of, entries_in}
+use Rattle.step_script.specs.declared.releases.Releases.{Releases}
+use Rattle.step_script.specs.declared.releases.Releases.TheVariants.{At}
+use Rattle.step_script.specs.Releases.{jobs_of, entries_of, entries_in}
 use Rattle.law_runs.specs.Runs.{workload_of}
 use Rattle.law_runs.proofs.Counts.{count_append, count_plans}
 use Rattle.law_runs.specs.Plannable.{own_of}

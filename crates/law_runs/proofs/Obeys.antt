@@ -30,9 +30,9 @@ use Rattle.law_histories.proofs.SerialAll.{legal_serial}
 use Rattle.law_histories.proofs.JobCounts.{legal_jobs}
 use Rattle.law_histories.specs.Sim.{Body, Workload, IsScriptRun}
 use Rattle.sim_run.specs.Workloads.{body_of, IsObedient}
-use Rattle.scenario.specs.Shown.{Shown, set_of}
-use Rattle.scenario.specs.Scripts.{steps_of, is_write_of, writes_all, may_stand, bad_op, bad_script_from}
-use Rattle.scenario.specs.Scenarios.{IsScenario}
+use Rattle.step_script.specs.Shown.{Shown, set_of}
+use Rattle.step_script.specs.Bodies.{steps_of, is_write_of, writes_all, may_stand, bad_op, bad_script_from}
+use Rattle.step_script.specs.Scenarios.{IsScenario}
 use Rattle.law_runs.specs.Runs.{workload_of}
 use Rattle.law_runs.proofs.Scripts.{StandsAt, stands_at, WritesAt, writes_at}
 use Rattle.law_runs.proofs.Operations.{as_many, IsGiven, ops_given, wrote}

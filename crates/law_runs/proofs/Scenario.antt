@@ -11,11 +11,11 @@ use Rattle.step_journal.specs.declared.entry.Entry.TheVariants.{Planned}
 use Rattle.law_histories.specs.Counting.{greatest_planned, greatest_period}
 use Rattle.law_histories.proofs.Sums.{sum_below, sum_of, sum_places}
 use Rattle.law_histories.specs.Sim.{plans_from}
-use Rattle.scenario.specs.declared.releases.Releases.{Releases}
-use Rattle.scenario.specs.declared.releases.Releases.TheVariants.{At, Jobs, Eager}
-use Rattle.scenario.specs.Shown.{Shown, set_of}
-use Rattle.scenario.specs.Releases.{jobs_of, is_eager, eager_of, ticks_of, total_jobs, eager_jobs, fixed_ticks}
-use Rattle.scenario.specs.Scenarios.{IsScenario}
+use Rattle.step_script.specs.declared.releases.Releases.{Releases}
+use Rattle.step_script.specs.declared.releases.Releases.TheVariants.{At, Jobs, Eager}
+use Rattle.step_script.specs.Shown.{Shown, set_of}
+use Rattle.step_script.specs.Releases.{jobs_of, is_eager, eager_of, ticks_of, total_jobs, eager_jobs, fixed_ticks}
+use Rattle.step_script.specs.Scenarios.{IsScenario}
 use Rattle.law_runs.specs.Plannable.{own_jobs, own_of}
 use Rattle.law_runs.specs.EagerLaws.{ScenarioIsPlannable, EagerHaveNoReleases, AllJobsAre, NoneEager}
 use Rattle.law_runs.proofs.Plans.{own_sum}

@@ -8,7 +8,7 @@ use Rattle.item_model.specs.declared.decl.ItemDecl.{ItemDecl}
 use Rattle.txn_set.specs.declared.decl.TxnDecl.{TxnDecl}
 use Rattle.step_script.specs.Values.{Tree}
 use Rattle.step_script.specs.Scripts.{Operation, read, write, compute, commit, quit, width, op_at}
-use Rattle.scenario.specs.Scripts.{steps_of, is_write_of, may_stand, bad_op_after, bad_op}
+use Rattle.step_script.specs.Bodies.{steps_of, is_write_of, may_stand, bad_op_after, bad_op}
 
 -- an operation of a script at a place, with those before it
 pub record StandsAt (decls : List ItemDecl) (t : TxnDecl) (pre ops : List Operation) (n : ℕ) (op : Operation) : Type 0 where

@@ -21,9 +21,9 @@ use Rattle.law_histories.specs.Sim.{Workload, plans}
 use Rattle.sim_run.specs.Workloads.{ticks_of}
 use Rattle.law_runs.specs.Histories.{IsRunSoFar}
 use Rattle.law_runs.specs.Seats.{HaveRun}
-use Rattle.scenario.specs.Shown.{Shown, set_of}
-use Rattle.scenario.specs.Releases.{is_eager, jobs_of, releases_of}
-use Rattle.scenario.specs.Scenarios.{IsScenario}
+use Rattle.step_script.specs.Shown.{Shown, set_of}
+use Rattle.step_script.specs.Releases.{is_eager, jobs_of, releases_of}
+use Rattle.step_script.specs.Scenarios.{IsScenario}
 use Rattle.law_runs.specs.Runs.{workload_of}
 use Rattle.law_runs.specs.Plannable.{ArePlannable, own_of}
 

@@ -4,8 +4,8 @@ use Rattle.std.specs.List.{sum, range_with_len}
 use Rattle.txn_set.specs.Set.{Set}
 use Rattle.law_histories.specs.Counting.{greatest_planned, greatest_period}
 use Rattle.law_histories.specs.Sim.{Workload, plans}
-use Rattle.scenario.specs.Shown.{Shown}
-use Rattle.scenario.specs.Releases.{eager_of, releases_of}
+use Rattle.step_script.specs.Shown.{Shown}
+use Rattle.step_script.specs.Releases.{eager_of, releases_of}
 
 -- how many jobs the transactions of a set plan themselves
 abbrev pub own_jobs : Set → (ℕ → ℕ) → ℕ

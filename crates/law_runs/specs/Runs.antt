@@ -5,9 +5,9 @@ use Rattle.step_script.specs.Scripts.{next_of}
 use Rattle.law_histories.specs.Counting.{room_of_jobs}
 use Rattle.law_histories.specs.Sim.{Workload}
 use Rattle.sim_run.specs.Workloads.{workload, ticks_of, AreAccepted, IsObedient}
-use Rattle.scenario.specs.Shown.{Shown, set_of}
-use Rattle.scenario.specs.Releases.{fixed_ticks}
-use Rattle.scenario.specs.Scenarios.{IsScenario}
+use Rattle.step_script.specs.Shown.{Shown, set_of}
+use Rattle.step_script.specs.Releases.{fixed_ticks}
+use Rattle.step_script.specs.Scenarios.{IsScenario}
 
 -- its set, the functions of its scripts, and its fixed releases
 abbrev pub workload_of : Shown → Workload

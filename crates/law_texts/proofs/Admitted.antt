@@ -16,7 +16,7 @@ use Rattle.set_admission.specs.Admission.{refusal}
 use Rattle.set_admission.specs.Bounds.{response_of, age_of, MeetsAdmission}
 use Rattle.set_admission.proofs.Found.{response_of-is, response_of-le}
 use Rattle.set_admission.proofs.Admitted.{decided}
-use Rattle.scenario.specs.Shown.{set_of}
+use Rattle.step_script.specs.Shown.{set_of}
 use Rattle.scenario_writer.specs.Generated.{is_even, period_of, dated_item, txn_decl, generated_of}
 use Rattle.scenario_writer.proofs.GeneratedNames.{length_each}
 use Rattle.scenario_writer.proofs.GeneratedSet as generated

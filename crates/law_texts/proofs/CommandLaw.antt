@@ -12,7 +12,7 @@ use Rattle.law_times.specs.Ages.{IsAdmitted}
 use Rattle.set_admission.specs.declared.error.AdmitError.{AdmitError}
 use Rattle.set_admission.specs.Admission.{refusal}
 use Rattle.set_admission.specs.Laws.{AdmittedUnlessRefused}
-use Rattle.scenario.specs.Shown.{Shown, set_of}
+use Rattle.step_script.specs.Shown.{Shown, set_of}
 use Rattle.scenario_reader.specs.declared.error.ScenarioError.{ScenarioError}
 use Rattle.scenario_reader.specs.Reading.{data_of, scenario_in}
 use Rattle.law_texts.specs.Texts.{ReadIsScenario, ReadHasIntegers}
@@ -22,8 +22,8 @@ use Rattle.run_report.specs.Verdict.{IsVerdict, names_of}
 use Rattle.run_report.specs.Laws.{OneVerdict}
 use Rattle.law_texts.specs.ReportLaws.{RunReportIsLegal}
 use Rattle.law_texts.specs.RunLaws.{RunIsReadWhole}
-use Rattle.process_edge.specs.declared.status.Status.{Status}
-use Rattle.process_edge.specs.declared.status.Status.TheVariants as statuses
+use Rattle.io_edge.specs.declared.status.Status.{Status}
+use Rattle.io_edge.specs.declared.status.Status.TheVariants as statuses
 use Rattle.command_replies.specs.Replies.{Reply, Compiling, Admitting, VerdictReply}
 use Rattle.command_replies.specs.Verdicts.{status_of, verdict_text}
 use Rattle.scenario_run.specs.Runs.{IsRunText}

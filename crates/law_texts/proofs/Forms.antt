@@ -5,8 +5,8 @@ use Rattle.std.specs.List.{All}
 use Rattle.rt_base.specs.Names.{AreNames}
 use Rattle.name_table.specs.Places.{place_in}
 use Rattle.rt_base.specs.declared.ids.TogetherDecl.{TogetherDecl}
-use Rattle.scenario.specs.Shown.{Shown}
-use Rattle.scenario.specs.Scenarios.{HasValidity}
+use Rattle.step_script.specs.Shown.{Shown}
+use Rattle.step_script.specs.Scenarios.{HasValidity}
 use Rattle.serde_json.specs.Data.{no_items}
 use Rattle.serde_json.specs.Find.{as_array}
 use Rattle.serde_json.specs.View.{items_of}

@@ -9,7 +9,7 @@ use Rattle.std.proofs.lemmas.List.Elements.{All-nil, All-push, All-map}
 use Rattle.rt_base.specs.declared.ids.ItemId.{ItemId}
 use Rattle.item_model.specs.declared.decl.ItemDecl.{ItemDecl}
 use Rattle.step_script.specs.declared.expr.BinOp.{BinOp}
-use Rattle.scenario.specs.Shown.{Shown}
+use Rattle.step_script.specs.Shown.{Shown}
 use Rattle.serde_json.specs.Data.{Data, null, boolean, number, string, array, object, Items, no_items, item, Members, no_members, member}
 use Rattle.serde_json.specs.Find.{get_member, get, as_number, as_str, as_array, as_i64}
 use Rattle.serde_json.specs.Read.{read}

@@ -10,7 +10,7 @@ use Rattle.rt_base.specs.Names.{is_name, name_of}
 use Rattle.name_table.specs.Places.{place_in}
 use Rattle.serde_json.specs.Find.{get}
 use Rattle.serde_json.specs.View.{items_of}
-use Rattle.scenario.specs.Scenarios.{HasValidity}
+use Rattle.step_script.specs.Scenarios.{HasValidity}
 use Rattle.scenario_forms.specs.declared.error.Place.TheVariants as places
 use Rattle.scenario_forms.specs.declared.error.ItemMember.TheVariants as members
 use Rattle.scenario_forms.specs.declared.error.FormError.{FormError}

@@ -18,11 +18,11 @@ use Rattle.law_histories.proofs.Never.{legal_sound}
 use Rattle.law_histories.proofs.SerialAll.{legal_serial}
 use Rattle.job_rows.specs.Rows.{ended_row, pending_row, job_rows}
 use Rattle.law_runs.specs.Histories.{IsRunOf}
-use Rattle.scenario.specs.Shown.{Shown, set_of}
-use Rattle.scenario.specs.Scenarios.{IsScenario}
-use Rattle.scenario.specs.declared.releases.Releases.{Releases}
-use Rattle.scenario.specs.declared.releases.Releases.TheVariants.{At}
-use Rattle.scenario.specs.Releases.{jobs_of, releases_of, total_jobs}
+use Rattle.step_script.specs.Shown.{Shown, set_of}
+use Rattle.step_script.specs.Scenarios.{IsScenario}
+use Rattle.step_script.specs.declared.releases.Releases.{Releases}
+use Rattle.step_script.specs.declared.releases.Releases.TheVariants.{At}
+use Rattle.step_script.specs.Releases.{jobs_of, releases_of, total_jobs}
 use Rattle.law_runs.specs.Runs.{workload_of}
 use Rattle.law_runs.specs.Plannable.{own_of}
 use Rattle.law_runs.proofs.Scenario.{jobs_of_each}

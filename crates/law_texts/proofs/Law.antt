@@ -11,11 +11,11 @@ use Rattle.rt_base.specs.declared.release.PlanRefused.{PlanRefused}
 use Rattle.item_model.specs.declared.decl.ItemDecl.{ItemDecl}
 use Rattle.txn_set.specs.declared.decl.TxnDecl.{TxnDecl}
 use Rattle.step_script.specs.Scripts.{Operation, Program}
-use Rattle.scenario.specs.declared.releases.Releases.{Releases}
-use Rattle.scenario.specs.Shown.{Shown}
-use Rattle.scenario.specs.Releases.{total_jobs, bad_release, room_of, eager_end}
-use Rattle.scenario.specs.Scripts.{bad_script, long_script}
-use Rattle.scenario.specs.Scenarios.{IsScenario}
+use Rattle.step_script.specs.declared.releases.Releases.{Releases}
+use Rattle.step_script.specs.Shown.{Shown}
+use Rattle.step_script.specs.Releases.{total_jobs, bad_release, room_of, eager_end}
+use Rattle.step_script.specs.Bodies.{bad_script, long_script}
+use Rattle.step_script.specs.Scenarios.{IsScenario}
 use Rattle.scenario_forms.specs.declared.error.Place.{Place}
 use Rattle.scenario_forms.specs.declared.error.FormError.{FormError}
 use Rattle.scenario_forms.specs.Root.{Formed}

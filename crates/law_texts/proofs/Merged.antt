@@ -8,8 +8,8 @@ use Rattle.item_model.specs.Kinds.{is_dated}
 use Rattle.txn_set.specs.Set.{may_read, may_write}
 use Rattle.txn_set.specs.declared.decl.TxnDecl.{TxnDecl}
 use Rattle.step_script.specs.Scripts.{Operation, read, write, compute, commit, quit, width}
-use Rattle.scenario.specs.Scripts.{steps_of, closes, is_write_of, writes_all, may_stand, bad_op_after}
-use Rattle.scenario.specs.Scenarios.{IsTextOp}
+use Rattle.step_script.specs.Bodies.{steps_of, closes, is_write_of, writes_all, may_stand, bad_op_after}
+use Rattle.step_script.specs.Scenarios.{IsTextOp}
 use Rattle.scenario_writer.specs.Canonical.{joined, merged_ops}
 use Rattle.scenario_writer.proofs.Merging.{head, tail, merge_all}
 

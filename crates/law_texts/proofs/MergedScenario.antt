@@ -8,9 +8,9 @@ use Rattle.std.proofs.lemmas.List.Sums.{AllPass-from_list_all, list_all-from_All
 use Rattle.item_model.specs.declared.decl.ItemDecl.{ItemDecl}
 use Rattle.txn_set.specs.declared.decl.TxnDecl.{TxnDecl}
 use Rattle.step_script.specs.Scripts.{Operation, read, write, compute, commit, quit, Program, is_good}
-use Rattle.scenario.specs.Shown.{Shown}
-use Rattle.scenario.specs.Scripts.{steps_of, bad_op, bad_script_from}
-use Rattle.scenario.specs.Scenarios.{IsProgramOver, IsScenario}
+use Rattle.step_script.specs.Shown.{Shown}
+use Rattle.step_script.specs.Bodies.{steps_of, bad_op, bad_script_from}
+use Rattle.step_script.specs.Scenarios.{IsProgramOver, IsScenario}
 use Rattle.scenario_writer.specs.Canonical.{merged_ops, merged_program, merged}
 use Rattle.scenario_writer.proofs.Ranges.{none_long}
 use Rattle.scenario_writer.proofs.GeneratedScripts as writing

@@ -3,7 +3,7 @@ use Rattle.std.proofs.Common.{◌≡◌, ℕ, List, [], length, get_or, true, Op
 use Rattle.std.proofs.lemmas.Bool.{and_parts, ltb-true, leb-true}
 use Rattle.rt_base.specs.declared.ids.ItemId.{ItemId}
 use Rattle.step_script.specs.Scripts.{Operation, read, write, compute, commit, quit, is_good}
-use Rattle.scenario.specs.Scenarios.{IsTextOp}
+use Rattle.step_script.specs.Scenarios.{IsTextOp}
 use Rattle.scenario_forms.specs.Fields.{Places, item_in}
 use Rattle.scenario_forms.specs.Exprs.{Known}
 use Rattle.scenario_forms.specs.Ops.{computes, op_of, op_in, read_of, write_of}

@@ -14,7 +14,7 @@ use Rattle.law_histories.proofs.CountingAll.{entries_few, time_bounded}
 use Rattle.law_times.specs.Deadlines.{ResponseIsFound}
 use Rattle.board.proofs.Counts.{items_count}
 use Rattle.job_rows.specs.Rows.{job_rows}
-use Rattle.scenario.specs.Shown.{Shown, set_of}
+use Rattle.step_script.specs.Shown.{Shown, set_of}
 use Rattle.law_runs.specs.Runs.{workload_of}
 use Rattle.law_runs.specs.Plannable.{own_of}
 use Rattle.law_runs.proofs.Fits.{run_fits, scenario_room}

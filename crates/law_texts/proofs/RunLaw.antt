@@ -8,7 +8,7 @@ use Rattle.report_text.specs.Laws.{HeadIsReadBack}
 use Rattle.run_report.specs.Legal.{LegalHasLines, LegalHasRows}
 use Rattle.run_report.specs.Report.{report_of}
 use Rattle.run_report.specs.Laws.{IsReport}
-use Rattle.scenario.specs.Shown.{set_of}
+use Rattle.step_script.specs.Shown.{set_of}
 use Rattle.run_report.proofs.Law.{legal_by}
 use Rattle.law_texts.specs.ReportLaws.{RunReportIsLegal}
 use Rattle.law_texts.proofs.RunTexts.{items_fit, within_fits, run_values}

@@ -12,8 +12,8 @@ use Rattle.step_journal.specs.Serial.{outcome_in, outcomes_of}
 use Rattle.law_histories.specs.Sim.{IsScriptRun}
 use Rattle.sim_run.specs.Workloads.{body_of}
 use Rattle.step_script.specs.Scripts.{Program, next_of}
-use Rattle.scenario.specs.Shown.{Shown, set_of}
-use Rattle.scenario.specs.Scenarios.{HasValidity, IsScenario}
+use Rattle.step_script.specs.Shown.{Shown, set_of}
+use Rattle.step_script.specs.Scenarios.{HasValidity, IsScenario}
 use Rattle.scenario_writer.specs.Integers.{ProgramHasIntegers, HasIntegers}
 use Rattle.law_runs.specs.Runs.{workload_of}
 use Rattle.journal_text.proofs.IdLaws.{in_i64}

@@ -6,10 +6,10 @@ use Rattle.std.proofs.lemmas.List.{length-map}
 use Rattle.std.proofs.lemmas.List.Elements.{All-map}
 use Rattle.txn_set.specs.Set.{AreItemsOf}
 use Rattle.serde_json.specs.Data.{Data}
-use Rattle.scenario.specs.Shown.{Shown, set_of}
-use Rattle.scenario.specs.Releases.{total_jobs, bad_release, room_of, eager_end}
-use Rattle.scenario.specs.Scripts.{bad_script, long_script}
-use Rattle.scenario.specs.Scenarios.{IsScenario}
+use Rattle.step_script.specs.Shown.{Shown, set_of}
+use Rattle.step_script.specs.Releases.{total_jobs, bad_release, room_of, eager_end}
+use Rattle.step_script.specs.Bodies.{bad_script, long_script}
+use Rattle.step_script.specs.Scenarios.{IsScenario}
 use Rattle.scenario_forms.specs.Root.{Formed, forms_at}
 use Rattle.scenario_reader.specs.declared.error.ScenarioError.{ScenarioError}
 use Rattle.scenario_reader.specs.declared.error.ScenarioError.TheVariants.{TooManyJobs, RoomTooLarge, EagerTooFar, UnknownName}

@@ -11,11 +11,11 @@ use Rattle.rt_base.specs.declared.release.PlanRefused.TheVariants.{TooSoon, TooF
 use Rattle.txn_set.specs.declared.decl.TxnDecl.{TxnDecl}
 use Rattle.txn_set.specs.Set.{no_txn}
 use Rattle.step_script.specs.Scripts.{compute, Program, is_good}
-use Rattle.scenario.specs.declared.releases.Releases.{Releases}
-use Rattle.scenario.specs.declared.releases.Releases.TheVariants.{At, Jobs, Eager}
-use Rattle.scenario.specs.Shown.{Shown}
-use Rattle.scenario.specs.Releases.{jobs_of, total_jobs, ticks_of, refused_tick, refused_from}
-use Rattle.scenario.specs.Scenarios.{IsScenario}
+use Rattle.step_script.specs.declared.releases.Releases.{Releases}
+use Rattle.step_script.specs.declared.releases.Releases.TheVariants.{At, Jobs, Eager}
+use Rattle.step_script.specs.Shown.{Shown}
+use Rattle.step_script.specs.Releases.{jobs_of, total_jobs, ticks_of, refused_tick, refused_from}
+use Rattle.step_script.specs.Scenarios.{IsScenario}
 use Rattle.scenario_forms.specs.Root.{forms_at}
 use Rattle.scenario_writer.specs.Canonical.{Written, written, is_second, canonical, merged_ops}
 use Rattle.scenario_writer.specs.Integers.{OpHasConstants, HasIntegers}

@@ -7,9 +7,9 @@ use Rattle.rt_base.specs.declared.ids.ItemId.{ItemId}
 use Rattle.rt_base.specs.Names.{is_name}
 use Rattle.txn_set.specs.declared.decl.TxnDecl.{TxnDecl}
 use Rattle.step_script.specs.Scripts.{Program, is_good}
-use Rattle.scenario.specs.Scenarios.{HasTextTimes, IsTextOp}
-use Rattle.scenario.specs.declared.releases.Releases.{Releases}
-use Rattle.scenario.specs.declared.releases.Releases.TheVariants.{At, Jobs, Eager}
+use Rattle.step_script.specs.Scenarios.{HasTextTimes, IsTextOp}
+use Rattle.step_script.specs.declared.releases.Releases.{Releases}
+use Rattle.step_script.specs.declared.releases.Releases.TheVariants.{At, Jobs, Eager}
 use Rattle.serde_json.specs.Data.{Data}
 use Rattle.serde_json.specs.Find.{get, as_array}
 use Rattle.serde_json.specs.View.{items_of}

@@ -2,7 +2,7 @@
 use Rattle.std.specs.Prelude.{◌≡◌, ℕ, ◌+◌, ◌*◌, ◌<◌, ◌≤◌, None, false}
 use Rattle.item_model.specs.Kinds.{is_derived}
 use Rattle.txn_set.specs.Set.{Set}
-use Rattle.scenario.specs.Shown.{set_of}
+use Rattle.step_script.specs.Shown.{set_of}
 use Rattle.set_admission.specs.Admission.{refusal}
 use Rattle.set_admission.specs.Bounds.{response_of, age_of}
 use Rattle.scenario_writer.specs.Generated.{period_of, generated_of}

@@ -1,12 +1,12 @@
 -- What `replay` answers to the text of a run.
 use Rattle.std.specs.Prelude.{◌≡◌, ℕ, List, Bool, Some, codes}
-use Rattle.scenario.specs.Shown.{Shown}
-use Rattle.scenario.specs.Scenarios.{IsScenario}
+use Rattle.step_script.specs.Shown.{Shown}
+use Rattle.step_script.specs.Scenarios.{IsScenario}
 use Rattle.scenario_writer.specs.Integers.{HasIntegers}
 use Rattle.command_words.specs.declared.command.Command.TheVariants.{Plain, Run}
 use Rattle.command_words.specs.declared.command.PlainCommand.TheVariants.{Replay}
-use Rattle.process_edge.specs.declared.status.Status.{Status}
-use Rattle.process_edge.specs.declared.status.Status.TheVariants as statuses
+use Rattle.io_edge.specs.declared.status.Status.{Status}
+use Rattle.io_edge.specs.declared.status.Status.TheVariants as statuses
 use Rattle.command_replies.specs.Replies.{Reply}
 use Rattle.scenario_run.specs.Replies.{RunText}
 use Rattle.rtdb_command.specs.Replies.{JudgedReply, Replies}

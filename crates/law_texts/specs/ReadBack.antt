@@ -5,8 +5,8 @@ use Rattle.rt_base.specs.declared.ids.TogetherDecl.{TogetherDecl}
 use Rattle.item_model.specs.declared.decl.ItemDecl.{ItemDecl}
 use Rattle.txn_set.specs.declared.decl.TxnDecl.{TxnDecl}
 use Rattle.step_script.specs.Scripts.{Operation}
-use Rattle.scenario.specs.Shown.{Shown}
-use Rattle.scenario.specs.Scenarios.{IsScenario}
+use Rattle.step_script.specs.Shown.{Shown}
+use Rattle.step_script.specs.Scenarios.{IsScenario}
 use Rattle.serde_json.specs.Read.{read}
 use Rattle.scenario_forms.specs.declared.txn.Times.{Times}
 use Rattle.scenario_forms.specs.Ops.{KnownOp}

@@ -5,8 +5,8 @@ use Rattle.step_journal.specs.declared.entry.Entry.{Entry}
 use Rattle.step_journal.specs.History.{IsLegal}
 use Rattle.law_times.specs.Ages.{IsAdmitted}
 use Rattle.law_histories.specs.Sim.{IsScriptRun}
-use Rattle.scenario.specs.Shown.{Shown, set_of}
-use Rattle.scenario.specs.Scenarios.{IsScenario}
+use Rattle.step_script.specs.Shown.{Shown, set_of}
+use Rattle.step_script.specs.Scenarios.{IsScenario}
 use Rattle.scenario_writer.specs.Integers.{HasIntegers}
 use Rattle.scenario_reader.specs.Reading.{data_of, scenario_in}
 use Rattle.law_runs.specs.Runs.{workload_of}

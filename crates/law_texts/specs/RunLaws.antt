@@ -5,8 +5,8 @@ use Rattle.txn_set.specs.Set.{IsCompiled}
 use Rattle.step_journal.specs.declared.entry.Entry.{Entry}
 use Rattle.job_rows.specs.Rows.{job_rows}
 use Rattle.law_runs.specs.Histories.{IsRunOf}
-use Rattle.scenario.specs.Shown.{Shown, set_of}
-use Rattle.scenario.specs.Scenarios.{IsScenario}
+use Rattle.step_script.specs.Shown.{Shown, set_of}
+use Rattle.step_script.specs.Scenarios.{IsScenario}
 use Rattle.scenario_writer.specs.Integers.{HasIntegers}
 use Rattle.law_runs.specs.Runs.{workload_of}
 use Rattle.law_runs.specs.Plannable.{own_of}

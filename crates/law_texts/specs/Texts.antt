@@ -1,7 +1,7 @@
 -- What is read of a text as a scenario, by definition.
 use Rattle.std.specs.Prelude.{◌≡◌, ℕ, ◌≤◌, List, Ok}
-use Rattle.scenario.specs.Shown.{Shown}
-use Rattle.scenario.specs.Scenarios.{IsScenario}
+use Rattle.step_script.specs.Shown.{Shown}
+use Rattle.step_script.specs.Scenarios.{IsScenario}
 use Rattle.scenario_reader.specs.Reading.{data_of, scenario_in}
 use Rattle.scenario_writer.specs.Generated.{generated_of}
 use Rattle.scenario_writer.specs.Integers.{HasIntegers}

@@ -6,8 +6,8 @@ use Rattle.run_report.specs.declared.verdict.Verdict.{Verdict}
 use Rattle.run_report.specs.declared.verdict.Verdict.TheVariants.{Legal}
 use Rattle.run_report.specs.Verdict.{IsVerdict}
 use Rattle.run_report.proofs.OneOnly.{one_verdict}
-use Rattle.process_edge.specs.declared.status.Status.{Status}
-use Rattle.process_edge.specs.declared.status.Status.TheVariants as statuses
+use Rattle.io_edge.specs.declared.status.Status.{Status}
+use Rattle.io_edge.specs.declared.status.Status.TheVariants as statuses
 use Rattle.command_replies.specs.Verdicts.{status_of}
 use Rattle.picture_command.specs.declared.wanted.Wanted.{Wanted}
 use Rattle.picture_command.specs.Answers.{is_ok, DrawnReply, PictureReply, InputReply, report_limit, TakesAll, IsAnswer, Answers, IsDueFor, IsDue}

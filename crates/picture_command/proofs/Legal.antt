@@ -26,12 +26,12 @@ use Rattle.rt_base.specs.declared.name.Names.{Names}
 use Rattle.job_rows.specs.declared.row.JobRow.{JobRow}
 use Rattle.job_rows.specs.Rows.{job_rows}
 use Rattle.schedule_marks.specs.declared.part.Part.{Part}
-use Rattle.schedule_marks.specs.declared.shown.Limits.{Limits}
-use Rattle.schedule_marks.specs.declared.shown.Shown.{Shown}
+use Rattle.schedule_marks.specs.declared.showing.Limits.{Limits}
+use Rattle.schedule_marks.specs.declared.showing.Shown.{Shown}
 use Rattle.schedule_marks.specs.Shown.{shown_of}
 use Rattle.picture_command.specs.Parts.{part_of}
-use Rattle.process_edge.specs.declared.status.Status.{Status}
-use Rattle.process_edge.specs.declared.status.Status.TheVariants as statuses
+use Rattle.io_edge.specs.declared.status.Status.{Status}
+use Rattle.io_edge.specs.declared.status.Status.TheVariants as statuses
 use Rattle.command_replies.specs.Verdicts.{status_of}
 use Rattle.command_replies.specs.Replies.{VerdictReply}
 use Rattle.picture_command.specs.declared.wanted.Wanted.{Wanted}

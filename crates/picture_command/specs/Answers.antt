@@ -12,14 +12,14 @@ use Rattle.report_text.specs.IsHead.{set_of}
 use Rattle.report_text.specs.declared.document.Document.{Document}
 use Rattle.run_report.specs.declared.verdict.Verdict.{Verdict}
 use Rattle.run_report.specs.Verdict.{Tells, report_for, IsVerdict}
-use Rattle.process_edge.specs.declared.status.Status.{Status}
-use Rattle.process_edge.specs.declared.status.Status.TheVariants as statuses
+use Rattle.io_edge.specs.declared.status.Status.{Status}
+use Rattle.io_edge.specs.declared.status.Status.TheVariants as statuses
 use Rattle.command_replies.specs.Texts.{refused_line}
 use Rattle.command_replies.specs.Replies.{Reply, VerdictReply}
 use Rattle.command_replies.specs.Verdicts.{status_of}
 use Rattle.schedule_marks.specs.declared.part.Part.{Part}
-use Rattle.schedule_marks.specs.declared.shown.Limits.{Limits}
-use Rattle.schedule_marks.specs.declared.shown.Shown.{Shown}
+use Rattle.schedule_marks.specs.declared.showing.Limits.{Limits}
+use Rattle.schedule_marks.specs.declared.showing.Shown.{Shown}
 use Rattle.schedule_marks.specs.Shown.{shown_of}
 use Rattle.picture_text.specs.Texts.{text_of}
 use Rattle.picture_command.specs.Page.{page_text}

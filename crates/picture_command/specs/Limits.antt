@@ -3,7 +3,7 @@ use Rattle.std.specs.Prelude.{ℕ, zero, suc, Bool, true, false, if◌then◌els
 use Rattle.item_model.specs.Kinds.{is_dated}
 use Rattle.txn_set.specs.Set.{Set}
 use Rattle.set_admission.specs.Bounds.{response_of, age_of}
-use Rattle.schedule_marks.specs.declared.shown.Limits.{Limits}
+use Rattle.schedule_marks.specs.declared.showing.Limits.{Limits}
 
 -- the values of a function at the numbers below one
 abbrev pub firsts : (ℕ → ℕ) → ℕ → List ℕ

@@ -6,11 +6,11 @@ use Rattle.txn_set.specs.Set.{Set}
 use Rattle.job_rows.specs.declared.row.JobRow.{JobRow}
 use Rattle.journal_text.specs.Lines.{◌⊕◌}
 use Rattle.schedule_marks.specs.declared.part.Part.{Part}
-use Rattle.schedule_marks.specs.declared.shown.Limits.{Limits}
-use Rattle.schedule_marks.specs.declared.shown.Shown.{Shown}
-use Rattle.picture_places.specs.declared.view.View.{View}
-use Rattle.picture_places.specs.Svg.{counted, rect}
-use Rattle.picture_places.specs.Places.{view_of}
+use Rattle.schedule_marks.specs.declared.showing.Limits.{Limits}
+use Rattle.schedule_marks.specs.declared.showing.Shown.{Shown}
+use Rattle.schedule_marks.specs.declared.view.View.{View}
+use Rattle.schedule_marks.specs.Svg.{counted, rect}
+use Rattle.schedule_marks.specs.Places.{view_of}
 use Rattle.picture_text.specs.Legend.{style, arrows, legend}
 use Rattle.picture_text.specs.Texts.{right, whole_height, about, body_text, titles_text}
 use Rattle.picture_command.specs.Tables.{txn_table, item_table}

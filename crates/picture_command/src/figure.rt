@@ -3,12 +3,11 @@ ghost use Rattle.std.specs.Prelude.{◌≡◌, ◌<◌, ◌^◌, ◌-◌, ◌++�
 ghost use Rattle.picture_text.specs.Texts.{whole_height};
 ghost use Rattle.picture_command.specs.Page.{cut as cut_of, lower, opening, closing, legend_part, names_part, rest_width, body_part, figure};
 
-use picture_places::{View, add, add_number, add_rect};
 use picture_text::{
     add_about, add_arrows, add_body, add_legend, add_style, add_titles, full_height, right,
 };
 use rt_base::{Names, OutOfMemory, Tick};
-use schedule_marks::Shown;
+use schedule_marks::{Shown, View, add, add_number, add_rect};
 use txn_set::CompiledSet;
 
 const LOWER: u64 = 88;

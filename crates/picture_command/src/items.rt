@@ -6,8 +6,8 @@ ghost use Rattle.picture_command.specs.Tables.{kind_word, kind_of, age_bound_of,
 use crate::jobs::add_end;
 use crate::text::{add_cell, add_maybe_cell, add_number_cell, add_signed_cell, number_at};
 use item_model::{ItemKind, Stored, is_dated, validity};
-use picture_places::{add, name};
 use rt_base::{ItemId, Names, OutOfMemory, Tick};
+use schedule_marks::{add, name};
 use txn_set::CompiledSet;
 
 fn word_of_kind(kind: ItemKind) -> &'static [u8]

@@ -5,9 +5,8 @@ ghost use Rattle.picture_command.specs.Tables.{if_ended, if_committed, time_of, 
 
 use crate::text::{add_cell, add_maybe_cell, add_number_cell, number_at};
 use job_rows::JobRow;
-use picture_places::{add, deadline, name, priority};
 use rt_base::{End, Names, OutOfMemory, Tick, TxId};
-use schedule_marks::commits;
+use schedule_marks::{add, commits, deadline, name, priority};
 use txn_set::CompiledSet;
 
 fn one_if_ended(end: Option<(End, Tick)>) -> u64

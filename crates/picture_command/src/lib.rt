@@ -11,7 +11,7 @@ mod top;
 mod wanted;
 mod whole;
 
-pub use process_edge::{Status, Word};
+pub use io_edge::{Status, Word};
 pub use top::draw_report;
 pub use wanted::{Ticks, Wanted};
 pub use whole::page;

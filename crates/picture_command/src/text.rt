@@ -4,8 +4,8 @@ ghost use Rattle.std.specs.Fmt.{signed_decimal};
 ghost use Rattle.picture_command.specs.Tables.{cell, number_cell, maybe_cell};
 
 use itoa::Buffer;
-use picture_places::add;
 use rt_base::{OutOfMemory, Value};
+use schedule_marks::add;
 
 /// A cell with a word.
 pub(crate) fn add_cell(into: &mut Vec<u8>, word: &[u8]) -> Result<(), OutOfMemory>

@@ -8,8 +8,7 @@ ghost use Rattle.picture_command.specs.Answers.{IsAnswer, Answers, IsDue};
 use crate::drawn::drawn;
 use crate::wanted::{Wanted, read_wanted};
 use command_replies::{REPORT_LIMIT, Reply, Unanswered, refused};
-use io_edge::{ReadError, Sink, Source, read_all, write_all};
-use process_edge::{Status, Word};
+use io_edge::{ReadError, Sink, Source, Status, Word, read_all, write_all};
 use std::alloc::Global;
 
 const USAGE: &[u8] = b"usage: rtdb-picture [--page] [--from TICK --to TICK]\n";

@@ -7,9 +7,8 @@ use crate::items::add_items;
 use crate::jobs::add_txns;
 use item_model::Stored;
 use job_rows::JobRow;
-use picture_places::{View, add, add_number, view_for};
 use rt_base::{Names, OutOfMemory};
-use schedule_marks::{Limits, Part, Shown};
+use schedule_marks::{Limits, Part, Shown, View, add, add_number, view_for};
 use std::alloc::Global;
 use txn_set::CompiledSet;
 

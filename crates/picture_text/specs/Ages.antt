@@ -9,9 +9,9 @@ use Rattle.journal_text.specs.Lines.{◌⊕◌}
 use Rattle.schedule_marks.specs.declared.lanes.AgeSpan.{AgeSpan}
 use Rattle.schedule_marks.specs.declared.lanes.AgeRead.{AgeRead}
 use Rattle.schedule_marks.specs.declared.lanes.Bound.{Bound}
-use Rattle.picture_places.specs.declared.view.View.{View}
-use Rattle.picture_places.specs.Svg.{rect, line, words, fitting}
-use Rattle.picture_places.specs.Places.{x_of, y_of, validity_in, item_y, age_y, top_tick}
+use Rattle.schedule_marks.specs.declared.view.View.{View}
+use Rattle.schedule_marks.specs.Svg.{rect, line, words, fitting}
+use Rattle.schedule_marks.specs.Places.{x_of, y_of, validity_in, item_y, age_y, top_tick}
 
 -- ---- bounds
 

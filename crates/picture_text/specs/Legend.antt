@@ -1,7 +1,7 @@
 -- What stands in each picture alike.
 use Rattle.std.specs.Prelude.{ℕ, ◌+◌, List, [], codes}
 use Rattle.journal_text.specs.Lines.{◌⊕◌}
-use Rattle.picture_places.specs.Svg.{rect, line, circle, words, some_word}
+use Rattle.schedule_marks.specs.Svg.{rect, line, circle, words, some_word}
 
 -- the classes of texts, lines, steps, spans and ends
 abbrev pub light_style : List ℕ

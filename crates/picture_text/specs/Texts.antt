@@ -14,12 +14,12 @@ use Rattle.journal_text.specs.Ids.{name_at}
 use Rattle.journal_text.specs.Lines.{◌⊕◌}
 use Rattle.schedule_marks.specs.declared.part.Part.{Part}
 use Rattle.schedule_marks.specs.declared.mark.Mark.{Mark}
-use Rattle.schedule_marks.specs.declared.shown.Limits.{Limits}
-use Rattle.schedule_marks.specs.declared.shown.Shown.{Shown}
+use Rattle.schedule_marks.specs.declared.showing.Limits.{Limits}
+use Rattle.schedule_marks.specs.declared.showing.Shown.{Shown}
 use Rattle.schedule_marks.specs.declared.mark.Mark.TheVariants.{Pending, Lock, Ceiling, Wait, Step, Refusal, Release, Deadline, Ended}
-use Rattle.picture_places.specs.declared.view.View.{View}
-use Rattle.picture_places.specs.Svg.{counted, rect, line, circle, words, some_word, fitting}
-use Rattle.picture_places.specs.Places.{view_of, letters_in, ticks_shown, width_of, number_step, x_of, middle_of, level_y, rows_top, row_y, y_of, lane_y, lanes_named, is_read_lane, lane_item, item_y}
+use Rattle.schedule_marks.specs.declared.view.View.{View}
+use Rattle.schedule_marks.specs.Svg.{counted, rect, line, circle, words, some_word, fitting}
+use Rattle.schedule_marks.specs.Places.{view_of, letters_in, ticks_shown, width_of, number_step, x_of, middle_of, level_y, rows_top, row_y, y_of, lane_y, lanes_named, is_read_lane, lane_item, item_y}
 use Rattle.picture_text.specs.Legend.{style, arrows, legend}
 use Rattle.picture_text.specs.Ages.{bounds_text, ages_text, dated_text, lane_text}
 use Rattle.picture_text.specs.Ages.{lane_title as age_title}

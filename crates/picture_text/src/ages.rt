@@ -1,17 +1,16 @@
 //! The lanes of items with a validity, and the bounds of jobs.
 ghost use Rattle.std.specs.Prelude.{◌≡◌, ◌≤◌, ◌+◌, ◌-◌, ◌++◌, codes, decimal, length, slice_get, OnOk};
 ghost use Rattle.std.specs.List.{flat_map};
-ghost use Rattle.picture_places.specs.Svg.{fitting};
+ghost use Rattle.schedule_marks.specs.Svg.{fitting};
 ghost use Rattle.picture_text.specs.Ages.{bound_text, bound_of, bounds_text, age_line, age_lines, age_between, age_text, square, read_text, ages_text, if_dated, dated_text, bound_rule, lane_text, bound_word, lane_title};
 
 use item_model::is_dated;
 use itoa::Buffer;
-use picture_places::{
-    View, add_fitting, add_line, add_rect, add_words, age_y, item_y, name, top_tick,
-    validity_or_none, x, y,
-};
 use rt_base::{ItemId, Names, OutOfMemory, Tick};
-use schedule_marks::{AgeRead, AgeSpan, Bound};
+use schedule_marks::{
+    AgeRead, AgeSpan, Bound, View, add_fitting, add_line, add_rect, add_words, age_y, item_y, name,
+    top_tick, validity_or_none, x, y,
+};
 use txn_set::CompiledSet;
 
 // Half a bracket, behind which the job does not end.

@@ -3,12 +3,11 @@ ghost use Rattle.std.specs.Prelude.{◌≡◌, ◌<◌, ◌≤◌, ◌^◌, ◌+
 ghost use Rattle.picture_text.specs.Texts.{right as right_of, whole_width, whole_height, below, row_text, row_of, rows_text, tick_of, number_text, number_of, numbers_shown, numbers_text, head, about_text, about, backdrop, sheet};
 
 use crate::legend::{add_arrows, add_legend, add_style};
-use picture_places::{
-    View, add, add_count, add_line, add_number, add_rect, item_y, own_ceiling_y, shown, step, top,
-    x, y,
-};
 use rt_base::{ItemId, OutOfMemory, Tick, TxId};
-use schedule_marks::Part;
+use schedule_marks::{
+    Part, View, add, add_count, add_line, add_number, add_rect, item_y, own_ceiling_y, shown, step,
+    top, x, y,
+};
 use txn_set::CompiledSet;
 
 /// Where the part ends.

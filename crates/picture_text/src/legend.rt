@@ -2,8 +2,8 @@
 ghost use Rattle.std.specs.Prelude.{◌≡◌, ◌++◌, ◌≤◌, OnOk};
 ghost use Rattle.picture_text.specs.Legend.{light_style, dark_style, style, arrows, key, step_key, end_key, steps_legend, jobs_legend, arrows_legend, ends_legend, ages_legend, legend};
 
-use picture_places::{add, add_circle, add_line, add_rect, add_word, add_words};
 use rt_base::OutOfMemory;
+use schedule_marks::{add, add_circle, add_line, add_rect, add_word, add_words};
 
 // The classes of texts, lines and steps, and those of spans and ends.
 fn add_light(into: &mut Vec<u8>) -> Result<(), OutOfMemory>

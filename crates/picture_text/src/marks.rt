@@ -3,12 +3,11 @@ ghost use Rattle.std.specs.Prelude.{◌≡◌, ◌++◌, ◌≤◌, OnOk};
 ghost use Rattle.picture_text.specs.Texts.{span, op_class, op_letter, letter_class, letter as letter_text, step_width, block, step_text, end_class, end_letter, disc, ended_text, lock_class, lock_text, ceiling_text, cut_by, label_end as end_of_label, wait_bars, wait_label, wait_text, refusal_text, release_text, deadline_text, mark_text, marks_text, link_text, link_of, links_text};
 
 use itoa::Buffer;
-use picture_places::{
-    View, add_circle, add_fitting, add_line, add_rect, add_word, ceiling_y, deadline, lock_y,
+use rt_base::{End, Names, Op, OutOfMemory, Tick, TxId};
+use schedule_marks::{
+    Mark, View, add_circle, add_fitting, add_line, add_rect, add_word, ceiling_y, deadline, lock_y,
     middle, name, width, x, y,
 };
-use rt_base::{End, Names, Op, OutOfMemory, Tick, TxId};
-use schedule_marks::Mark;
 use txn_set::CompiledSet;
 
 // A field over the ticks from one up to another.

@@ -1,15 +1,15 @@
 //! The names at the left of a picture: of its rows, of their lanes, and of the levels of ceilings.
 ghost use Rattle.std.specs.Prelude.{◌≡◌, ◌<◌, ◌≤◌, ◌-◌, ◌++◌, length, OnOk};
 ghost use Rattle.txn_set.specs.Set.{txn_of};
-ghost use Rattle.picture_places.specs.Places.{lanes_named};
+ghost use Rattle.schedule_marks.specs.Places.{lanes_named};
 ghost use Rattle.picture_text.specs.Texts.{below, row_title, lane_kind, lane_title, shared_title, lane_titles, title_of, caption, row_titles, titles_text};
 
 use crate::ages::add_age_titles;
-use picture_places::{
+use rt_base::{Names, OutOfMemory, Prio, Tick, TxId};
+use schedule_marks::{
     add_count, add_line, add_words, ceiling_y, is_read, item_of_lane, name, named_lanes,
     own_ceiling_y, priority, y,
 };
-use rt_base::{Names, OutOfMemory, Prio, Tick, TxId};
 use txn_set::{CompiledSet, TxnDecl};
 
 fn add_title(

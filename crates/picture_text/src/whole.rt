@@ -6,9 +6,8 @@ use crate::ages::{add_ages, add_bounds, add_lanes};
 use crate::frame::{add_numbers, add_rows, add_sheet, full_height, full_width, right};
 use crate::marks::{add_links, add_marks};
 use crate::titles::add_titles;
-use picture_places::{View, add, view_for};
 use rt_base::{Names, OutOfMemory, Tick};
-use schedule_marks::{Limits, Part, Shown};
+use schedule_marks::{Limits, Part, Shown, View, add, view_for};
 use std::alloc::Global;
 use txn_set::CompiledSet;
 

@@ -21,11 +21,11 @@ use Rattle.board.specs.Stories.{step_entry}
 use Rattle.board.proofs.Asks.{running_here}
 use Rattle.board.proofs.Rooms.{appends_are_steps, steps_full}
 use Rattle.board.proofs.More.{story_more}
-use Rattle.plain_tables.specs.Seen.{TablesSeen, tables_of, cut}
+use Rattle.plain_core.specs.TablesSeen.{TablesSeen, tables_of, cut}
 use Rattle.step_journal.specs.Journal.{JournalSeen}
 use Rattle.plain_core.specs.Seen.{PlainIs}
 use Rattle.plain_core.specs.Stands.{Stands, IsCore}
-use Rattle.plain_tables.specs.Waits.{waiting, waited}
+use Rattle.plain_core.specs.Waits.{waiting, waited}
 
 -- the row that waits, and the step that it takes
 pub record Waits (set : Set) (s : State) (job by : JobId) (op : Op) (ceiling : ℕ) : Type 0 where

@@ -29,12 +29,12 @@ use Rattle.board.specs.Stories.{step_entry}
 use Rattle.board.proofs.Asks.{running_here}
 use Rattle.board.proofs.Rooms.{appends_are_steps, steps_full}
 use Rattle.board.proofs.More.{story_more}
-use Rattle.plain_tables.specs.Seen.{TablesSeen, tables_of, tally_of, counted}
-use Rattle.plain_tables.specs.declared.tally.Tally.{Tally}
-use Rattle.plain_tables.specs.Arrivals.{arrived_tables}
-use Rattle.plain_tables.specs.Effects.{IsLow, stepped_tables, settled_by}
-use Rattle.plain_tables.proofs.Arrives.{arrive_is}
-use Rattle.plain_tables.proofs.Effects.{effect_is}
+use Rattle.plain_core.specs.TablesSeen.{TablesSeen, tables_of, tally_of, counted}
+use Rattle.plain_core.specs.declared.tally.Tally.{Tally}
+use Rattle.plain_core.specs.Arrivals.{arrived_tables}
+use Rattle.plain_core.specs.Effects.{IsLow, stepped_tables, settled_by}
+use Rattle.plain_core.proofs.Arrives.{arrive_is}
+use Rattle.plain_core.proofs.Effects.{effect_is}
 use Rattle.plain_core.specs.Seen.{PlainIs}
 use Rattle.plain_core.specs.Grants.{slot_end_by, effect_by}
 use Rattle.plain_core.specs.Stands.{Stands, IsCore}

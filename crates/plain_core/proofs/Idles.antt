@@ -19,13 +19,13 @@ use Rattle.std.specs.Prelude.{nat_le}
 use Rattle.law_histories.proofs.CountingAll.{entries_few}
 use Rattle.board.proofs.Ended.{ended_few}
 use Rattle.board.proofs.More.{story_more, not_le}
-use Rattle.plain_tables.specs.declared.tally.Tally.{Tally}
-use Rattle.plain_tables.specs.Seen.{TablesSeen, tables_of, tally_of}
+use Rattle.plain_core.specs.declared.tally.Tally.{Tally}
+use Rattle.plain_core.specs.TablesSeen.{TablesSeen, tables_of, tally_of}
 use Rattle.step_journal.specs.Journal.{JournalSeen}
 use Rattle.plain_core.specs.Seen.{PlainIs}
 use Rattle.plain_core.specs.Stands.{Stands, IsCore}
-use Rattle.plain_tables.specs.Arrivals.{arrived_tables}
-use Rattle.plain_tables.proofs.Arrives.{arrive_is}
+use Rattle.plain_core.specs.Arrivals.{arrived_tables}
+use Rattle.plain_core.proofs.Arrives.{arrive_is}
 use Rattle.plain_core.proofs.Tallies.{tally_says, tally_beyond}
 use Rattle.plain_core.proofs.Stood.{fit}
 

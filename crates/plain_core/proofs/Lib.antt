@@ -8,3 +8,6 @@ pub mod Blocks
 pub mod Goes
 pub mod SlotReads
 pub mod Opens
+pub mod Fews
+pub mod Arrives
+pub mod Effects

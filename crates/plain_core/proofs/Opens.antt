@@ -2,7 +2,7 @@
 use Rattle.std.proofs.Common.{◌≡◌, ℕ, ◌≤◌, ◌^◌, [], refl, sym, subst, arith}
 use Rattle.txn_set.specs.Set.{Set, IsCompiled}
 use Rattle.step_journal.specs.State.{opening}
-use Rattle.plain_tables.specs.Seen.{TablesSeen, tables_of}
+use Rattle.plain_core.specs.TablesSeen.{TablesSeen, tables_of}
 use Rattle.step_journal.specs.Journal.{JournalSeen}
 use Rattle.plain_core.specs.Stands.{Stands, IsCore}
 

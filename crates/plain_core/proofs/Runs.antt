@@ -7,8 +7,8 @@ use Rattle.txn_set.specs.Set.{Set}
 use Rattle.step_journal.specs.State.{Row, pending, prio}
 use Rattle.step_journal.specs.LockRule.{placed, in_falling_priority, highest}
 use Rattle.step_journal.specs.Running.{job_row, followed, running}
-use Rattle.plain_tables.specs.declared.slot.Head.{Head}
-use Rattle.plain_tables.specs.Slots.{head_of}
+use Rattle.plain_core.specs.declared.slot.Head.{Head}
+use Rattle.plain_core.specs.Slots.{head_of}
 use Rattle.plain_core.specs.Rules.{higher_by, highest_by, followed_by, running_by}
 
 first_at : (b : Bool) (r x : Row) (xs ys : List Row) → slice_get (cond b (r ∷ xs) (x ∷ ys)) 0 ≡ cond b (Some r) (Some x)

@@ -16,17 +16,17 @@ use Rattle.step_journal.specs.Instant.{is_due}
 use Rattle.rt_base.specs.declared.operation.End.{End}
 use Rattle.board.specs.Over.{over_of}
 use Rattle.board.proofs.Overs.{over_after}
-use Rattle.plain_tables.specs.Slots.{head_of}
-use Rattle.plain_tables.specs.Effects.{end_here}
-use Rattle.plain_tables.proofs.Effects.{end_here_is}
+use Rattle.plain_core.specs.Slots.{head_of}
+use Rattle.plain_core.specs.Effects.{end_here}
+use Rattle.plain_core.proofs.Effects.{end_here_is}
 use Rattle.step_journal.specs.History.{state_of}
 use Rattle.law_histories.proofs.Invariant.{same_job_is}
 use Rattle.board.specs.declared.replies.StepReply.{StepReply}
 use Rattle.board.specs.declared.replies.StepReply.TheVariants as reply
 use Rattle.board.specs.Answers.{step_reply, running_reply, asked_reply, checked, lock_reply, ended_number, last_end}
 use Rattle.board.proofs.Asks.{running_here}
-use Rattle.plain_tables.specs.declared.tally.Tally.{Tally}
-use Rattle.plain_tables.specs.Seen.{TablesSeen, tables_of}
+use Rattle.plain_core.specs.declared.tally.Tally.{Tally}
+use Rattle.plain_core.specs.TablesSeen.{TablesSeen, tables_of}
 use Rattle.plain_core.specs.Seen.{PlainIs}
 use Rattle.plain_core.specs.Stands.{Stands}
 use Rattle.plain_core.specs.Grants.{granted_by}

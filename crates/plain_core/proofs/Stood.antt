@@ -25,8 +25,8 @@ use Rattle.board.specs.Answers.{plan_reply}
 use Rattle.board.proofs.More.{story_more, plan_steps, passes}
 use Rattle.board.proofs.Bounds.{plans_early}
 use Rattle.board.proofs.Counts.{items_count}
-use Rattle.plain_tables.specs.declared.tally.Tally.{Tally}
-use Rattle.plain_tables.specs.Seen.{TablesSeen, cut, tables_of, with_ended, no_tally}
+use Rattle.plain_core.specs.declared.tally.Tally.{Tally}
+use Rattle.plain_core.specs.TablesSeen.{TablesSeen, cut, tables_of, with_ended, no_tally}
 use Rattle.step_journal.specs.Journal.{JournalSeen}
 use Rattle.plain_core.specs.Seen.{PlainIs}
 use Rattle.plain_core.specs.Stands.{Stands, IsCore}

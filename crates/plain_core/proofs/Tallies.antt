@@ -9,8 +9,8 @@ use Rattle.txn_set.specs.Set.{Set}
 use Rattle.step_journal.specs.History.{state_of}
 use Rattle.step_journal.specs.declared.entry.Entry.{Entry}
 use Rattle.board.specs.Answers.{ended_jobs, ended_number, last_end}
-use Rattle.plain_tables.specs.declared.tally.Tally.{Tally}
-use Rattle.plain_tables.specs.Seen.{TablesSeen, tallies_of, tally_of, with_ended, counted, no_tally}
+use Rattle.plain_core.specs.declared.tally.Tally.{Tally}
+use Rattle.plain_core.specs.TablesSeen.{TablesSeen, tallies_of, tally_of, with_ended, counted, no_tally}
 use Rattle.plain_core.specs.Seen.{PlainIs}
 use Rattle.plain_core.specs.Stands.{Stands}
 

@@ -11,10 +11,10 @@ use Rattle.step_journal.specs.State.{Row, row_of}
 use Rattle.board.specs.Over.{over_of}
 use Rattle.board.specs.declared.replies.StepReply.{StepReply}
 use Rattle.board.specs.declared.replies.StepReply.TheVariants as reply
-use Rattle.plain_tables.specs.Slots.{head_of}
-use Rattle.plain_tables.specs.Seen.{TablesSeen}
-use Rattle.plain_tables.specs.Effects.{end_here, stepped_tables, settled_by}
-use Rattle.plain_tables.specs.declared.slot.Head.{Head}
+use Rattle.plain_core.specs.Slots.{head_of}
+use Rattle.plain_core.specs.TablesSeen.{TablesSeen}
+use Rattle.plain_core.specs.Effects.{end_here, stepped_tables, settled_by}
+use Rattle.plain_core.specs.declared.slot.Head.{Head}
 
 -- the end by the step's effect alone
 abbrev pub own_end_by : Set → TxnDecl → ℕ → Head → Work → Op → Option End

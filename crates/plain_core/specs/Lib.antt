@@ -5,3 +5,10 @@ pub mod Checks
 pub mod Locks
 pub mod Grants
 pub mod Steps
+pub mod Places
+pub mod TablesSeen
+pub mod Slots
+pub mod Prios
+pub mod Waits
+pub mod Arrivals
+pub mod Effects

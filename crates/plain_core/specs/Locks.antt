@@ -13,7 +13,7 @@ use Rattle.step_journal.specs.State.{Row}
 use Rattle.board.specs.declared.replies.StepReply.{StepReply}
 use Rattle.board.specs.declared.replies.StepReply.TheVariants as reply
 use Rattle.plain_core.specs.declared.locks.Rival.{Rival}
-use Rattle.plain_tables.specs.Prios.{prio_by}
+use Rattle.plain_core.specs.Prios.{prio_by}
 
 abbrev pub write_by : List TxnDecl → ℕ → ℕ
 write_by txns item = greatest (prios (filter (λ t. may_write t item) txns))

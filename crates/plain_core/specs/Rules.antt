@@ -5,9 +5,9 @@ use Rattle.txn_set.specs.declared.decl.TxnDecl.{TxnDecl}
 use Rattle.rt_base.specs.declared.ids.JobId.{JobId}
 use Rattle.step_journal.specs.State.{Row}
 use Rattle.step_journal.specs.Running.{job_row}
-use Rattle.plain_tables.specs.declared.slot.Head.{Head}
-use Rattle.plain_tables.specs.Slots.{head_of}
-use Rattle.plain_tables.specs.Prios.{prio_by}
+use Rattle.plain_core.specs.declared.slot.Head.{Head}
+use Rattle.plain_core.specs.Slots.{head_of}
+use Rattle.plain_core.specs.Prios.{prio_by}
 use Rattle.plain_core.specs.Seen.{PlainIs}
 use Rattle.step_journal.specs.Step.{next_tick}
 use Rattle.board.specs.declared.replies.IdleReply.{IdleReply}

@@ -3,7 +3,7 @@ use Rattle.std.specs.Prelude.{◌≡◌, List}
 use Rattle.step_journal.specs.declared.entry.Entry.{Entry}
 use Rattle.step_journal.specs.History.{state_of}
 use Rattle.board.specs.Stories.{IsStory}
-use Rattle.plain_tables.specs.Seen.{tables_of}
+use Rattle.plain_core.specs.TablesSeen.{tables_of}
 use Rattle.plain_core.specs.Seen.{PlainIs}
 
 -- the journal keeps the end of the history, and the tables are those of the state after it

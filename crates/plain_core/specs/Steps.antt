@@ -9,8 +9,8 @@ use Rattle.step_journal.specs.LockRule.{needs_lock}
 use Rattle.step_journal.specs.Running.{job_row}
 use Rattle.board.specs.declared.replies.StepReply.{StepReply}
 use Rattle.board.specs.declared.replies.StepReply.TheVariants as reply
-use Rattle.plain_tables.specs.Slots.{head_of}
-use Rattle.plain_tables.specs.Seen.{TablesSeen, tally_of}
+use Rattle.plain_core.specs.Slots.{head_of}
+use Rattle.plain_core.specs.TablesSeen.{TablesSeen, tally_of}
 use Rattle.plain_core.specs.Seen.{PlainIs}
 use Rattle.plain_core.specs.Rules.{running_by}
 use Rattle.plain_core.specs.Checks.{checked_by}

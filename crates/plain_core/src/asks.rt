@@ -7,15 +7,21 @@ ghost use Rattle.board.specs.Over.{over_of};
 ghost use Rattle.plain_core.specs.Rules.{running_by};
 ghost use Rattle.plain_core.specs.Grants.{own_end_by, granted_by, slot_end_by, effect_by};
 ghost use Rattle.plain_core.specs.Steps.{ask_by, turn_by};
-ghost use Rattle.plain_tables.specs.Seen.{tally_of};
-ghost use Rattle.plain_tables.specs.Effects.{IsLow, settled_by};
+ghost use Rattle.plain_core.specs.TablesSeen.{tally_of};
+ghost use Rattle.plain_core.specs.Effects.{IsLow, settled_by};
 
+use crate::arrive::is_due;
 use crate::checks::checked;
+use crate::install::outcome;
 use crate::locks::refused;
 use crate::running::{head_at, running};
+use crate::slot::{Head, Slot};
+use crate::tables::Tables;
+use crate::tally::Tally;
+use crate::verdict::end_of_step;
+use crate::work::Work;
 use board::StepReply;
 use item_model::{ItemDecl, Stored};
-use plain_tables::{Head, Slot, Tables, Tally, Work, end_of_step, is_due, outcome};
 use rt_base::{End, JobId, Op, Tick};
 use txn_set::{CompiledSet, TxnDecl};
 

@@ -4,9 +4,9 @@ ghost use Rattle.plain_core.specs.Stands.{Stands};
 
 use crate::plain::PlainCore;
 use crate::running::running;
+use crate::tables::{job_at, tally_at};
 use board::{Board, IdleReply, StepReply};
 use item_model::Items;
-use plain_tables::{job_at, tally_at};
 use rt_base::{ItemId, JobId, Op, Outcome, PlanRefused, Tick, TxId, Value};
 use step_journal::Entry;
 use txn_set::CompiledSet;

@@ -5,9 +5,9 @@ ghost use Rattle.item_model.specs.Work.{has_written};
 ghost use Rattle.board.specs.Answers.{unwritten, unwritten_or, is_missed};
 ghost use Rattle.plain_core.specs.Checks.{early_by, checked_by};
 
+use crate::work::Work;
 use board::StepReply;
 use item_model::is_dated;
-use plain_tables::Work;
 use rt_base::{ItemId, Op};
 use txn_set::{CompiledSet, TxnDecl, names_item};
 

@@ -6,9 +6,11 @@ ghost use Rattle.rt_base.specs.LockRule.{stands_above as stands_above_by, upper 
 ghost use Rattle.txn_set.specs.Set.{may_read, may_write};
 ghost use Rattle.plain_core.specs.Locks.{write_by, absolute_by, writes_by, reads_by, ceiling_by, rival_by, upper_by, topmost_by, blocked_or, refused_by};
 
+use crate::arrive::prio_of;
+use crate::slot::Slot;
+use crate::work::Work;
 use board::StepReply;
 use item_model::{OutsideRead, OwnWrite};
-use plain_tables::{Slot, Work, prio_of};
 use rt_base::{ItemId, JobId, Prio, TxId};
 use txn_set::{TxnDecl, names_item};
 

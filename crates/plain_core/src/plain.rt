@@ -8,15 +8,16 @@ ghost use Rattle.board.specs.Answers.{plan_reply};
 ghost use Rattle.plain_core.specs.Stands.{Stands};
 ghost use Rattle.plain_core.specs.Steps.{step_by};
 ghost use Rattle.step_journal.specs.State.{Row as RowSeen, opening};
-ghost use Rattle.plain_tables.specs.Seen.{tables_of};
+ghost use Rattle.plain_core.specs.TablesSeen.{tables_of};
 ghost use Rattle.step_journal.specs.Running.{running};
 ghost use Rattle.step_journal.specs.History.{state_of};
 
+use crate::arrive::next_tick;
 use crate::asks::{effect, is_pending, no_job, turn};
 use crate::plans::{earliest, judged};
 use crate::running::{idle_answer, running};
+use crate::tables::{Tables, plans_at, tally_at};
 use board::{IdleReply, StepReply};
-use plain_tables::{Tables, next_tick, plans_at, tally_at};
 use rt_base::{End, JobId, Op, OutOfMemory, Outcome, PlanRefused, Prio, Tick, TxId};
 use std::alloc::Global;
 use std::marker::Model;

@@ -4,12 +4,13 @@ ghost use Rattle.std.specs.Option.{option_map};
 ghost use Rattle.txn_set.specs.Set.{Set, no_txn};
 ghost use Rattle.step_journal.specs.State.{row_of, pending};
 ghost use Rattle.step_journal.specs.Running.{job_row};
-ghost use Rattle.plain_tables.specs.Slots.{head_of};
-ghost use Rattle.plain_tables.specs.Prios.{prio_by};
+ghost use Rattle.plain_core.specs.Slots.{head_of};
+ghost use Rattle.plain_core.specs.Prios.{prio_by};
 ghost use Rattle.plain_core.specs.Rules.{highest_by, followed_by, running_by, higher_by, idle_by};
 
+use crate::arrive::prio_of;
+use crate::slot::{Head, Slot};
 use board::IdleReply;
-use plain_tables::{Head, Slot, prio_of};
 use rt_base::{JobId, Tick};
 use txn_set::TxnDecl;
 

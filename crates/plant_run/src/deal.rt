@@ -8,8 +8,8 @@ ghost use Rattle.plant_run.specs.Runs.{own_at};
 
 use board::Board;
 use rt_base::{List, OutOfMemory, Tick};
-use run_out::Workers;
 use shared_plant::Seat;
+use sim_run::Workers;
 use std::alloc::Global;
 use step_script::Body;
 use txn_threads::{Member, Worker};

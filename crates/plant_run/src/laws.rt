@@ -3,7 +3,7 @@ ghost use Rattle.plant_run.specs.Works.{StoriesAre};
 ghost use Rattle.plant_run.specs.Runs.{FixedArePlannable, WholeIsSim, StoppedIsSim, ShortIsSim};
 
 use board::Board;
-use run_out::EntryOut;
+use sim_run::EntryOut;
 
 // What a board stands for is legal, and what it keeps is the last part.
 pub(crate) fn stories_are<B: Board>()

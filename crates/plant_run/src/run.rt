@@ -3,7 +3,7 @@ ghost use Rattle.std.specs.Prelude.{◌≡◌, ℕ, ◌<◌, true, false};
 ghost use Rattle.plant_run.specs.Ready.{own_in};
 
 use rt_base::{List, Tick};
-use run_out::Workers;
+use sim_run::Workers;
 use step_journal::Entry;
 
 /// A workload that workers are to run, once, on a board that has no history yet. Each list has a place for each transaction

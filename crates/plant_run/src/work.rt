@@ -1,6 +1,6 @@
 //! Workers on a plant, from its start to its closing.
 ghost use Rattle.std.specs.Prelude.{◌≡◌, ◌+◌, ◌≤◌, ◌++◌, ◌∷◌, [], None, length, IfOk, IsErrOf};
-ghost use Rattle.run_out.specs.Outs.{StaysGood, LosesNone};
+ghost use Rattle.sim_run.specs.Outs.{StaysGood, LosesNone};
 ghost use Rattle.io_edge.specs.Causes.{Rose};
 ghost use Rattle.shared_plant.specs.Seats.{AreOf, newcomer, newcomers};
 ghost use Rattle.law_histories.specs.Sim.{plans_from};
@@ -16,8 +16,8 @@ use crate::run::Run;
 use board::Board;
 use law_runs::{closed_so_far, closed_whole, never_unplanned, no_refusal};
 use rt_base::{List, OutOfMemory, Tick};
-use run_out::{EntryOut, RunFault};
 use shared_plant::{Plant, Seat};
+use sim_run::{EntryOut, RunFault};
 use std::alloc::Global;
 use std::marker::Brand;
 use std::sync::Wait;

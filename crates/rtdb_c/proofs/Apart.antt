@@ -30,7 +30,7 @@ use Rattle.std.proofs.alloc.Global.TheLaws as heap_laws
 use Rattle.std.specs.contracts.impls.GlobalAllocator.TheImpl.{ghosts}
 use Rattle.std.proofs.GlobalToken.{dealloc_token-Testable}
 use Rattle.c_core.specs.contracts.checked.CheckedCore as checked
-use Rattle.raw_box.proofs.Apart.{two, as_two, block_of, in_its_block}
+use Rattle.rtdb_c.proofs.BoxApart.{two, as_two, block_of, in_its_block}
 use Rattle.rtdb_c.specs.Held.{held}
 use Rattle.rtdb_c.specs.contracts.handle.Handle as handle
 

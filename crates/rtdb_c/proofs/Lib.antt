@@ -4,3 +4,5 @@ pub mod LogApart
 pub mod LogCrosses
 pub mod SeatApart
 pub mod SeatCrosses
+pub mod Told
+pub mod BoxApart

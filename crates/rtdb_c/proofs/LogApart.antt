@@ -30,7 +30,7 @@ use Rattle.std.proofs.alloc.Global.TheLaws as heap_laws
 use Rattle.std.specs.contracts.impls.GlobalAllocator.TheImpl.{ghosts}
 use Rattle.std.proofs.GlobalToken.{dealloc_token-Testable}
 use Rattle.c_log.specs.contracts.station.LogStation as stations
-use Rattle.raw_box.proofs.Apart.{two, as_two, block_of, in_its_block}
+use Rattle.rtdb_c.proofs.BoxApart.{two, as_two, block_of, in_its_block}
 use Rattle.rtdb_c.specs.LogHeld.{held}
 use Rattle.rtdb_c.specs.contracts.log_handle.LogHandle as handle
 

@@ -28,8 +28,8 @@ use Rattle.std.specs.contracts.alloc.Global as heap
 use Rattle.std.proofs.alloc.Global.TheLaws as heap_laws
 use Rattle.std.specs.contracts.impls.GlobalAllocator.TheImpl.{ghosts}
 use Rattle.std.proofs.GlobalToken.{dealloc_token-Testable}
-use Rattle.c_plant.specs.contracts.station.SeatStation as station
-use Rattle.raw_box.proofs.Apart.{two, as_two, block_of, in_its_block}
+use Rattle.c_core.specs.contracts.seat_station.SeatStation as station
+use Rattle.rtdb_c.proofs.BoxApart.{two, as_two, block_of, in_its_block}
 use Rattle.rtdb_c.specs.Seated.{seated}
 use Rattle.rtdb_c.specs.contracts.seat.SeatHandle as handle
 

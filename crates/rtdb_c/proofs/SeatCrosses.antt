@@ -12,8 +12,8 @@ use Rattle.std.specs.Prelude.{Option, None, Some}
 use Rattle.std.specs.declared.alloc.Global.{Global}
 use Rattle.std.proofs.alloc.Global.TheSendSync as heap
 use Rattle.std.proofs.Crossing.{frees}
-use Rattle.c_plant.specs.contracts.station.SeatStation as station
-use Rattle.c_plant.proofs.station.SeatStation.TheSendSync as station_crosses
+use Rattle.c_core.specs.contracts.seat_station.SeatStation as station
+use Rattle.c_core.proofs.seat_station.SeatStation.TheSendSync as station_crosses
 use Rattle.rtdb_c.specs.Seated.{seated}
 use Rattle.rtdb_c.specs.contracts.seat.SeatHandle as handle
 

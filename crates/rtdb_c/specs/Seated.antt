@@ -5,8 +5,8 @@ use denote.RawPtr.{Ptr, null_ptr}
 use Rattle.std.specs.declared.alloc.Global.{Global}
 use Rattle.std.specs.contracts.impls.GlobalAllocator.TheImpl.{ghosts}
 use Rattle.std.specs.Box.Ownership.{box_owns}
-use Rattle.c_plant.specs.Seats.{SeatSeen}
-use Rattle.c_plant.specs.contracts.station.SeatStation.{the_row}
+use Rattle.c_core.specs.Seats.{SeatSeen}
+use Rattle.c_core.specs.contracts.seat_station.SeatStation.{the_row}
 
 abbrev pub seated : Global → Ptr → Option SeatSeen → Fml
 seated alloc at None = feq Ptr at null_ptr

@@ -4,8 +4,8 @@ ghost use Rattle.std.specs.Coded.{coded_option};
 ghost use Rattle.c_core.specs.declared.checked.CheckedCore.{CheckedCore as Seen};
 ghost use Rattle.c_core.specs.contracts.checked.CheckedCore.{the_row};
 
+use crate::raw_box::RawBox;
 use c_core::CheckedCore;
-use raw_box::RawBox;
 use std::alloc::Global;
 use std::marker::Model;
 use std::mem;

@@ -9,13 +9,18 @@ ghost use Rattle.c_core.specs.Refusals.{WhyNotOpened, WhyNotTried, form_of_refus
 ghost use Rattle.c_core.specs.declared.refusals.Refused.TheVariants.{OutOfMemory as WantOfMemory};
 ghost use Rattle.rtdb_c.specs.Called.{Called, ToldWhy, ToldWhyNotTried, OpenedTrial, Stepped, Planned, Idled, IsRunningOf, Peeked, IsNowOf, Opened, PlannedNext, IsPendingOf, IsEndedOf, IsResponseOf, IsBlockingOf, IsAgeOf, Drained, IsKeptOf, IsPlannedOf};
 
+mod causes;
 mod handle;
 mod log;
 mod log_handle;
 mod margin;
 mod plant;
+mod raw_box;
 mod seat;
+mod telling;
 mod text;
+mod text_laws;
+mod words;
 
 use c_core::{
     CheckedCore, EntryForm, ItemRow, JobForm, OK, RefusalForm, Refused, StepForm, StoredForm,
@@ -32,6 +37,7 @@ pub use plant::{
 pub use seat::SeatHandle;
 use std::alloc::Global;
 pub use text::rtdb_text;
+pub use text_laws::{numbers_are_names, refusals_are_told};
 
 /// The handle is closed.
 pub const CLOSED: u32 = 1;

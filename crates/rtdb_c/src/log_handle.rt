@@ -4,8 +4,8 @@ ghost use Rattle.std.specs.Coded.{coded_option};
 ghost use Rattle.c_log.specs.Kept.{Station as Seen};
 ghost use Rattle.c_log.specs.contracts.station.LogStation.{the_row};
 
+use crate::raw_box::RawBox;
 use c_log::LogStation;
-use raw_box::RawBox;
 use std::alloc::Global;
 use std::marker::Model;
 use std::mem;

@@ -1,11 +1,11 @@
 //! The handle of a seat, as a program in C holds it.
 ghost use Rattle.std.specs.Prelude.{◌≡◌, Option, None, Some, MatchOption};
 ghost use Rattle.std.specs.Coded.{coded_option};
-ghost use Rattle.c_plant.specs.Seats.{SeatSeen as Seen};
-ghost use Rattle.c_plant.specs.contracts.station.SeatStation.{the_row};
+ghost use Rattle.c_core.specs.Seats.{SeatSeen as Seen};
+ghost use Rattle.c_core.specs.contracts.seat_station.SeatStation.{the_row};
 
-use c_plant::SeatStation;
-use raw_box::RawBox;
+use crate::raw_box::RawBox;
+use c_core::SeatStation;
 use std::alloc::Global;
 use std::marker::Model;
 use std::mem;

@@ -5,10 +5,10 @@ use Rattle.std.proofs.lemmas.List.{length-take}
 use Rattle.rt_base.specs.declared.name.Names.{Names}
 use Rattle.step_journal.specs.declared.entry.Entry.{Entry}
 use Rattle.law_histories.specs.Sim.{OneSim}
-use Rattle.scenario.specs.Shown.{Shown, set_of}
+use Rattle.step_script.specs.Shown.{Shown, set_of}
 use Rattle.law_runs.specs.Runs.{workload_of}
-use Rattle.process_edge.specs.declared.status.Status.{Status}
-use Rattle.process_edge.specs.declared.status.Status.TheVariants as statuses
+use Rattle.io_edge.specs.declared.status.Status.{Status}
+use Rattle.io_edge.specs.declared.status.Status.TheVariants as statuses
 use Rattle.command_replies.specs.Replies.{Reply}
 use Rattle.durable_journal.specs.Laws.{OpenedAgain}
 use Rattle.durable_journal.specs.declared.log.LogError.TheVariants.{BadRecord, Full}

@@ -11,18 +11,18 @@ use Rattle.set_admission.specs.declared.error.AdmitError.{AdmitError}
 use Rattle.set_admission.specs.Admission.{refusal}
 use Rattle.update_rates.specs.declared.error.RateError.{RateError}
 use Rattle.update_rates.specs.Refusal.{rate_refusal}
-use Rattle.scenario.specs.Shown.{Shown, set_of}
+use Rattle.step_script.specs.Shown.{Shown, set_of}
 use Rattle.scenario_reader.specs.declared.error.ScenarioError.{ScenarioError}
 use Rattle.scenario_reader.specs.Reading.{data_of, scenario_in}
 use Rattle.run_report.specs.declared.verdict.Verdict.TheVariants as verdicts
 use Rattle.run_report.specs.Verdict.{IsVerdict}
 use Rattle.run_report.proofs.OneOnly.{one_verdict}
-use Rattle.report_out.specs.Written.{WroteFront}
+use Rattle.scenario_run.specs.Written.{WroteFront}
 use Rattle.command_words.specs.declared.command.Command.{Command}
 use Rattle.command_words.specs.declared.command.Command.TheVariants.{Plain, Run, Load}
 use Rattle.command_words.specs.declared.command.PlainCommand.TheVariants.{Ceilings, Admit, Replay, Gen, Rates, Margin}
-use Rattle.process_edge.specs.declared.status.Status.{Status}
-use Rattle.process_edge.specs.declared.status.Status.TheVariants as statuses
+use Rattle.io_edge.specs.declared.status.Status.{Status}
+use Rattle.io_edge.specs.declared.status.Status.TheVariants as statuses
 use Rattle.command_replies.specs.Verdicts.{status_of}
 use Rattle.command_replies.specs.Replies.{Reply, Compiling, Admitting, CeilingsReply, AdmitReply, VerdictReply}
 use Rattle.command_replies.specs.Analysis.{Rating, RatesReply, MarginReply}

@@ -5,7 +5,7 @@ use Rattle.std.specs.Io.KnownBytes.{Keeps}
 use Rattle.txn_compiler.specs.Refusal.{compile_refusal}
 use Rattle.set_admission.specs.Admission.{refusal}
 use Rattle.update_rates.specs.Refusal.{rate_refusal}
-use Rattle.scenario.specs.Shown.{Shown, set_of}
+use Rattle.step_script.specs.Shown.{Shown, set_of}
 use Rattle.scenario_reader.specs.Reading.{data_of, scenario_in}
 use Rattle.run_report.specs.declared.verdict.Verdict.TheVariants as verdicts
 use Rattle.run_report.specs.Verdict.{IsVerdict}
@@ -13,8 +13,8 @@ use Rattle.command_words.specs.declared.command.Command.{Command}
 use Rattle.command_words.specs.declared.command.Command.TheVariants.{Plain, Run, Load}
 use Rattle.command_words.specs.declared.command.PlainCommand.TheVariants.{Ceilings, Admit, Replay, Gen, Rates, Margin}
 use Rattle.command_words.specs.Commands.{command_of}
-use Rattle.process_edge.specs.declared.status.Status.{Status}
-use Rattle.process_edge.specs.declared.status.Status.TheVariants as statuses
+use Rattle.io_edge.specs.declared.status.Status.{Status}
+use Rattle.io_edge.specs.declared.status.Status.TheVariants as statuses
 use Rattle.command_replies.specs.Replies.{Reply}
 use Rattle.command_replies.specs.Taken.{scenario_limit, report_limit, TakesAll, TakesNone}
 use Rattle.command_replies.specs.Answers.{Judged, Told, CutShort}

@@ -6,7 +6,7 @@ use Rattle.scenario_writer.specs.Generated.{generated_of}
 use Rattle.command_words.specs.declared.command.Command.{Command}
 use Rattle.command_words.specs.declared.command.Command.TheVariants.{Plain, Run, Load}
 use Rattle.command_words.specs.declared.command.PlainCommand.TheVariants.{Ceilings, Admit, Replay, Gen, Rates, Margin}
-use Rattle.process_edge.specs.declared.status.Status.TheVariants as statuses
+use Rattle.io_edge.specs.declared.status.Status.TheVariants as statuses
 use Rattle.command_replies.specs.Replies.{Reply, Written, CeilingsReply, AdmitReply, VerdictReply}
 use Rattle.command_replies.specs.Analysis.{RatesReply, MarginReply}
 use Rattle.command_replies.specs.Taken.{report_limit, InputReply}

@@ -10,11 +10,10 @@ use crate::top::answer_no_command;
 use command_replies::{Reply, Unanswered, scenario_from};
 use durable_disk::Disk;
 use durable_journal::opened_again;
-use io_edge::{Sink, Source, write_all};
+use io_edge::{Sink, Source, Status, Word, write_all};
 use law_histories::one_run_at_most;
-use process_edge::{Status, Word};
-use run_out::RunFault;
 use scenario_run::run_journal;
+use sim_run::RunFault;
 use std::alloc::Global;
 
 fn is_path(word: &[u8]) -> bool

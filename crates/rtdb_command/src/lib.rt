@@ -4,6 +4,6 @@
 mod journal;
 mod top;
 
+pub use io_edge::{Status, Word};
 pub use journal::{is_journal, rtdb_journal};
-pub use process_edge::{Status, Word};
 pub use top::{rtdb, rtdb_plain};

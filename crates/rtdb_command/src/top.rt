@@ -3,9 +3,9 @@ ghost use Rattle.std.specs.Prelude.{◌≡◌, ◌⊎◌, ◌≤◌, length, [],
 ghost use Rattle.std.specs.Io.KnownBytes.{Keeps};
 ghost use Rattle.io_edge.specs.Causes.{Rose};
 ghost use Rattle.command_replies.specs.Causes.{HasReadCause, HasWriteCause, HasSourceCause};
-ghost use Rattle.scenario.specs.Shown.{shown};
-ghost use Rattle.scenario.specs.Scenarios.{IsScenario};
-ghost use Rattle.report_out.specs.Written.{Wrote, WroteFront};
+ghost use Rattle.step_script.specs.Shown.{shown};
+ghost use Rattle.step_script.specs.Scenarios.{IsScenario};
+ghost use Rattle.scenario_run.specs.Written.{Wrote, WroteFront};
 ghost use Rattle.command_words.specs.Commands.{command_of, IsInRange};
 ghost use Rattle.command_replies.specs.Answers.{Told, CutShort};
 ghost use Rattle.rtdb_command.specs.Replies.{generated_text};
@@ -16,12 +16,11 @@ use command_replies::{
     scenario_from, written,
 };
 use command_words::{Command, PlainCommand, read_command};
-use io_edge::{ReadError, Sink, Source, read_all, write_all};
-use process_edge::{Status, Word};
+use io_edge::{ReadError, Sink, Source, Status, Word, read_all, write_all};
 use rt_base::OutOfMemory;
-use run_out::{RunFault, Workers};
 use scenario_run::{load, run_admitted, run_trial};
 use scenario_writer::{generated, write_scenario};
+use sim_run::{RunFault, Workers};
 use std::alloc::Global;
 use std::sync::Wait;
 use std::thread::Threads;

@@ -5,8 +5,7 @@ mod answer;
 
 use answer::{answer, journal_path};
 use durable_disk::FileDisk;
-use io_edge::{StdSink, StdSource};
-use process_edge::{exit_code, words_of};
+use io_edge::{StdSink, StdSource, exit_code, words_of};
 use rt_base::OutOfMemory;
 use rtdb_command::Status;
 use std::env;

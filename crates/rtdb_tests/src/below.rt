@@ -1,6 +1,6 @@
 //! Calls below the program: the command of words, and the canonical text of a scenario.
 use command_words::{Command, PlainCommand, read_command};
-use process_edge::Word;
+use io_edge::Word;
 use scenario_reader::read_scenario;
 use scenario_writer::write_scenario;
 use std::alloc::Global;

@@ -4,15 +4,15 @@ ghost use Rattle.std.specs.Io.KnownBytes.{Appends};
 ghost use Rattle.step_journal.specs.History.{IsLegal, state_of};
 ghost use Rattle.job_rows.specs.Upkeep.{Follows};
 ghost use Rattle.report_text.specs.Texts.{NamesSet, entries_text};
-ghost use Rattle.run_out.specs.Outs.{StaysGood, LosesNone};
-ghost use Rattle.report_out.specs.declared.standing.Standing.TheVariants.{Going};
+ghost use Rattle.sim_run.specs.Outs.{StaysGood, LosesNone};
+ghost use Rattle.scenario_run.specs.declared.standing.ReportStanding.TheVariants.{Going};
 
 use crate::worked::Worked;
 use io_edge::{MemSink, Sink};
-use report_out::{ReportOut, Reported, Standing};
 use rt_base::OutOfMemory;
-use run_out::{EntryOut, Stopped};
 use run_report::ReportWriter;
+use scenario_run::{ReportOut, ReportStanding, Reported};
+use sim_run::{EntryOut, Stopped};
 use std::alloc::Global;
 use std::marker::Brand;
 use step_journal::Entry;
@@ -68,7 +68,7 @@ fn put_worked(
     size: usize,
     room: usize,
     sink: &mut MemSink,
-) -> Result<(Vec<u8>, Result<Vec<u8>, Standing>), OutOfMemory>
+) -> Result<(Vec<u8>, Result<Vec<u8>, ReportStanding>), OutOfMemory>
     requires some { 0 < size }
     requires room { 256 ≤ room }
     requires named { NamesSet worked.now.names worked.now.set }

@@ -1,8 +1,7 @@
 //! The companion program: what can be asked of a scenario or of a report beside running it.
 #![tactic(auto)]
 
-use io_edge::{StdSink, StdSource};
-use process_edge::{exit_code, words_of};
+use io_edge::{StdSink, StdSource, exit_code, words_of};
 use rt_base::OutOfMemory;
 use std::env;
 use std::process::ExitCode;

@@ -4,3 +4,8 @@ pub mod Compiles
 pub mod Percents
 pub mod Looks
 pub mod Found
+pub mod Stepping
+pub mod Counts
+pub mod SlackLooks
+pub mod SlackFound
+pub mod Sparing

@@ -1,15 +1,26 @@
-//! How far all step counts of a set may grow: at each percentage of its steps a set is accepted or refused, and the
-//! greatest accepted percentage is found by halving.
+//! How far all step counts of a set may grow, and those of one transaction, and how far one item's validity may fall: at each
+//! percentage, count or validity the set is accepted or refused, and the last accepted one is found by halving or looked up.
 #![tactic(auto)]
 
 ghost use Rattle.scale_margin.specs.Laws.{FewerStepsAdmitted, JudgedBySteps, SameAtHundred, AcceptedUnlessBarred, AcceptedFallsOnce};
 
 mod barrier;
 mod halving;
+mod limits;
+mod reading;
 mod scaling;
+mod slack_declared;
+mod slack_halving;
+mod slack_laws;
 
 pub use barrier::{Barrier, Margin};
 pub use halving::{accepts, margin};
+pub use limits::{Slack, Spare};
+pub use reading::spare;
+pub use slack_halving::slack;
+pub use slack_laws::{
+    compiled_at_counts, same_at_own, slack_falls_once, slack_unless_barred, spare_is_least,
+};
 
 /// A set that is admitted stays admitted where each transaction has no more steps, and no more of them after its quiet
 /// steps: the blocking and the demand do not grow, so no response, and no age bound.

@@ -2,8 +2,8 @@
 use Rattle.std.proofs.Common.{◌≡◌, ℕ, Bool, List, [], Option, Some, None, Result, Ok, Err, refl, sym, ap, subst, ◌∙◌}
 use Rattle.serde_json.specs.Data.{Data}
 use Rattle.rt_base.specs.declared.name.Names.{Names}
-use Rattle.process_edge.specs.declared.status.Status.{Status}
-use Rattle.scenario.specs.Shown.{Shown}
+use Rattle.io_edge.specs.declared.status.Status.{Status}
+use Rattle.step_script.specs.Shown.{Shown}
 use Rattle.scenario_reader.specs.declared.error.ScenarioError.{ScenarioError}
 use Rattle.scenario_reader.specs.Reading.{data_of, scenario_in}
 use Rattle.scenario_check.specs.declared.kinds.Warning.{Warning}

@@ -11,10 +11,10 @@ use Rattle.rt_base.specs.declared.ids.TxId.{TxId}
 use Rattle.txn_set.specs.Set.{txn_of}
 use Rattle.txn_set.specs.declared.decl.TxnDecl.{TxnDecl}
 use Rattle.step_script.specs.Scripts.{Operation}
-use Rattle.scenario.specs.declared.releases.Releases.{Releases}
-use Rattle.scenario.specs.Shown.{Shown, set_of}
-use Rattle.scenario.specs.Releases.{jobs_of, releases_of}
-use Rattle.scenario.specs.Scripts.{steps_of}
+use Rattle.step_script.specs.declared.releases.Releases.{Releases}
+use Rattle.step_script.specs.Shown.{Shown, set_of}
+use Rattle.step_script.specs.Releases.{jobs_of, releases_of}
+use Rattle.step_script.specs.Bodies.{steps_of}
 use Rattle.scenario_check.specs.declared.kinds.Warning.{Warning}
 use Rattle.scenario_check.specs.declared.kinds.Warning.TheVariants.{NoScript, NoEnd, LongScript, UnreadLast, NotPeriodic, NeverReleased, Unread, Unused}
 use Rattle.scenario_check.specs.Scripts.{is_empty, runs_on, is_read_of, unread_by, unread_at, is_updating, is_periodic}

@@ -13,7 +13,7 @@ use Rattle.step_script.specs.Values.{Tree, leaf_const, leaf_sample, leaf_serial,
 use Rattle.step_script.specs.declared.script.ScriptOp.{ScriptOp}
 use Rattle.step_script.specs.Scripts.{Operation, Program, read, write, compute, commit, quit, operation, program_of, is_good}
 use Rattle.step_script.specs.declared.script.Script.{Script}
-use Rattle.scenario.specs.Scenarios.{IsProgramOver}
+use Rattle.step_script.specs.Scenarios.{IsProgramOver}
 use Rattle.scenario_check.specs.declared.kinds.Warning.{Warning}
 use Rattle.scenario_check.specs.declared.kinds.Warning.TheVariants.{UnreadLast}
 use Rattle.scenario_check.specs.Scripts.{is_read_of, unread_in, unread_by, unread_at, mark_of}

@@ -1,9 +1,9 @@
 -- When a warning holds of a scenario.
 use Rattle.std.specs.Prelude.{◌≡◌, ◌<◌, ℕ, true, false, nat_lt, length, Some}
 use Rattle.txn_set.specs.Set.{txn_of}
-use Rattle.scenario.specs.Releases.{jobs_of, releases_of}
-use Rattle.scenario.specs.Scripts.{steps_of}
-use Rattle.scenario.specs.Shown.{Shown, set_of}
+use Rattle.step_script.specs.Releases.{jobs_of, releases_of}
+use Rattle.step_script.specs.Bodies.{steps_of}
+use Rattle.step_script.specs.Shown.{Shown, set_of}
 use Rattle.scenario_check.specs.declared.kinds.Warning.{Warning}
 use Rattle.scenario_check.specs.declared.kinds.Warning.TheVariants.{NoScript, NoEnd, LongScript, UnreadLast, NotPeriodic, NeverReleased, Unread, Unused}
 use Rattle.scenario_check.specs.Scripts.{is_empty, runs_on, unread_at, is_updating, is_periodic}

@@ -8,9 +8,9 @@ use Rattle.item_model.specs.Kinds.{is_dated}
 use Rattle.txn_set.specs.declared.decl.TxnDecl.{TxnDecl}
 use Rattle.step_script.specs.Values.{Tree, leaf_const, leaf_sample, leaf_serial, leaf_last, node}
 use Rattle.step_script.specs.Scripts.{Operation, read, write, compute, commit, quit}
-use Rattle.scenario.specs.declared.releases.Releases.{Releases}
-use Rattle.scenario.specs.declared.releases.Releases.TheVariants.{At, Jobs, Eager}
-use Rattle.scenario.specs.Scripts.{closes}
+use Rattle.step_script.specs.declared.releases.Releases.{Releases}
+use Rattle.step_script.specs.declared.releases.Releases.TheVariants.{At, Jobs, Eager}
+use Rattle.step_script.specs.Bodies.{closes}
 
 -- no operations
 abbrev pub is_empty : List Operation → Bool

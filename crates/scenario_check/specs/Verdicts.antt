@@ -6,7 +6,7 @@ use Rattle.serde_json.specs.Data.{Data}
 use Rattle.scenario_forms.specs.declared.error.FormError.{FormError}
 use Rattle.scenario_forms.specs.Root.{Formed, forms_at}
 use Rattle.txn_set.specs.Set.{Set}
-use Rattle.scenario.specs.Shown.{Shown, set_of}
+use Rattle.step_script.specs.Shown.{Shown, set_of}
 use Rattle.scenario_reader.specs.declared.error.ScenarioError.{ScenarioError}
 use Rattle.scenario_reader.specs.declared.error.ScenarioError.TheVariants.{NotJson, BadField, UnknownName, BadScript, TooManySteps, TooManyJobs, BadRelease, RoomTooLarge, EagerTooFar, OutOfMemory}
 use Rattle.scenario_reader.specs.Reading.{scenario_in}

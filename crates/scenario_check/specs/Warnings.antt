@@ -9,10 +9,10 @@ use Rattle.item_model.specs.Kinds.{is_dated, is_derived}
 use Rattle.txn_set.specs.declared.decl.TxnDecl.{TxnDecl}
 use Rattle.txn_set.specs.Set.{txn_of, may_read, may_write}
 use Rattle.step_script.specs.Scripts.{Operation, Program}
-use Rattle.scenario.specs.declared.releases.Releases.{Releases}
-use Rattle.scenario.specs.Releases.{jobs_of, releases_of}
-use Rattle.scenario.specs.Scripts.{steps_of}
-use Rattle.scenario.specs.Shown.{Shown, set_of}
+use Rattle.step_script.specs.declared.releases.Releases.{Releases}
+use Rattle.step_script.specs.Releases.{jobs_of, releases_of}
+use Rattle.step_script.specs.Bodies.{steps_of}
+use Rattle.step_script.specs.Shown.{Shown, set_of}
 use Rattle.scenario_check.specs.declared.kinds.Warning.{Warning}
 use Rattle.scenario_check.specs.declared.kinds.Warning.TheVariants.{NoScript, NoEnd, LongScript, UnreadLast, NotPeriodic, NeverReleased, Unread, Unused}
 use Rattle.scenario_check.specs.Scripts.{is_empty, runs_on, unread_at, is_updating, is_periodic}

@@ -9,9 +9,8 @@ use crate::found::{Finding, Refusal, What};
 use crate::lines::put_line;
 use crate::place_of::{refusal_place, refusal_reason};
 use command_replies::no_names;
-use json_places::Sheet;
 use rt_base::OutOfMemory;
-use scenario_faults::{Fault, Part, Places, Walk, repeated};
+use scenario_faults::{Fault, Part, Places, Sheet, Walk, repeated};
 use scenario_reader::ScenarioError;
 
 /// Why a member is told that stands in its object before.

@@ -1,8 +1,8 @@
 //! Whether a text is refused, and why, and the warnings of a scenario that is read.
 ghost use Rattle.std.specs.Prelude.{◌≡◌, ◌≤◌, ◌&&◌, nat_le, length, Ok, Err, Some, None, IfOk, IfErr, IsTrue, if◌then◌else◌, []};
 ghost use Rattle.txn_compiler.specs.Kept.{AreLists};
-ghost use Rattle.scenario.specs.Shown.{shown, set_of};
-ghost use Rattle.scenario.specs.Scenarios.{IsScenario};
+ghost use Rattle.step_script.specs.Shown.{shown, set_of};
+ghost use Rattle.step_script.specs.Scenarios.{IsScenario};
 ghost use Rattle.scenario_forms.specs.Root.{forms_view};
 ghost use Rattle.scenario_reader.specs.Reading.{data_of, scenario_in};
 ghost use Rattle.scenario_check.specs.Warnings.{warnings_of};
@@ -14,10 +14,10 @@ use crate::listing::warnings;
 use command_replies::{admitted, compiled, no_names};
 use item_model::ItemDecl;
 use rt_base::{List, Names, OutOfMemory, TogetherDecl};
-use scenario::Scenario;
 use scenario_forms::{FormError, Forms, ItemTable, TextError, TxnTable, read_forms, read_value};
 use scenario_reader::{ScenarioError, read_scenario};
 use std::alloc::Global;
+use step_script::Scenario;
 use txn_compiler::{CompiledSet, TxnDecl};
 
 /// The most bytes of a scenario.

@@ -8,9 +8,8 @@ use crate::found::{Finding, Refusal, What};
 use crate::kinds::Warning;
 use crate::lines::{lines, placed};
 use crate::place_of::{refusal_place, refusal_reason, warning_place, warning_reason};
-use json_places::{Sheet, json_fault};
 use rt_base::{Names, OutOfMemory};
-use scenario_faults::{Places, repeated};
+use scenario_faults::{Places, Sheet, json_fault, repeated};
 use scenario_reader::ScenarioError;
 
 // A byte of the text, and why something is amiss there.

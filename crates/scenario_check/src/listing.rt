@@ -3,8 +3,8 @@ ghost use Rattle.std.specs.Prelude.{◌≡◌, ◌<◌, ◌≤◌, ◌^◌, ◌�
 ghost use Rattle.std.specs.List.{All, Contains};
 ghost use Rattle.step_script.specs.Scripts.{program_of};
 ghost use Rattle.txn_set.specs.Set.{txn_of};
-ghost use Rattle.scenario.specs.Shown.{shown, set_of};
-ghost use Rattle.scenario.specs.Scenarios.{IsScenario, IsProgramOver};
+ghost use Rattle.step_script.specs.Shown.{shown, set_of};
+ghost use Rattle.step_script.specs.Scenarios.{IsScenario, IsProgramOver};
 ghost use Rattle.scenario_check.specs.declared.kinds.Warning.{Warning as Told};
 ghost use Rattle.scenario_check.specs.Warnings.{below, of_txn, of_item, warnings_of};
 ghost use Rattle.scenario_check.specs.Holding.{Holds};
@@ -14,8 +14,8 @@ use crate::scripts::put_script;
 use crate::uses::{put_item, put_releases};
 use item_model::ItemDecl;
 use rt_base::{ItemId, OutOfMemory, TxId};
-use scenario::Scenario;
 use std::alloc::Global;
+use step_script::Scenario;
 use txn_set::TxnDecl;
 
 // The warnings of a transaction.

@@ -4,7 +4,7 @@ ghost use Rattle.std.specs.Option.{option_map, option_to_list};
 ghost use Rattle.std.specs.List.{list_any, list_all};
 ghost use Rattle.step_script.specs.Values.{tree};
 ghost use Rattle.step_script.specs.Scripts.{operation, width, is_good};
-ghost use Rattle.scenario.specs.Scripts.{closes as closes_of, steps_of};
+ghost use Rattle.step_script.specs.Bodies.{closes as closes_of, steps_of};
 ghost use Rattle.scenario_check.specs.Scripts.{is_empty, runs_on as runs_on_of, unread_in, unread_by as unread_by_of, mark_of};
 ghost use Rattle.scenario_check.specs.Warnings.{told, below, of_last, of_script as of_script_at};
 

@@ -7,9 +7,9 @@ use crate::found::{Refusal, Verdict};
 use crate::judge::{SCENARIO_LIMIT, judged};
 use crate::listed::listed_lines;
 use command_replies::Reply;
-use json_places::{Scratch, Sheet, Tree, tree_of};
-use process_edge::Status;
+use io_edge::Status;
 use rt_base::OutOfMemory;
+use scenario_faults::{Scratch, Sheet, Tree, tree_of};
 use scenario_reader::ScenarioError;
 use std::alloc::Global;
 

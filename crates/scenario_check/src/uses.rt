@@ -3,7 +3,7 @@ ghost use Rattle.std.specs.Prelude.{◌≡◌, ◌<◌, ◌&&◌, ◌++◌, ◌=
 ghost use Rattle.std.specs.List.{list_any};
 ghost use Rattle.item_model.specs.Kinds.{is_dated as is_dated_item};
 ghost use Rattle.txn_set.specs.Set.{may_read, may_write};
-ghost use Rattle.scenario.specs.Releases.{jobs_of};
+ghost use Rattle.step_script.specs.Releases.{jobs_of};
 ghost use Rattle.scenario_check.specs.Scripts.{is_updating as is_updating_one, in_step as in_step_of, is_periodic as is_periodic_of};
 ghost use Rattle.scenario_check.specs.Warnings.{item_id, of_releases, is_sensor as is_sensor_item, is_unread as is_unread_item, is_unwritten as is_unwritten_item, of_item};
 
@@ -11,7 +11,7 @@ use crate::kinds::Warning;
 use crate::scripts::put;
 use item_model::{ItemDecl, ItemKind};
 use rt_base::{ItemId, OutOfMemory, Tick, TxId};
-use scenario::Releases;
+use step_script::Releases;
 use txn_set::{TxnDecl, names_item};
 
 fn is_dated(items: &[ItemDecl], item: ItemId) -> bool

@@ -1,8 +1,8 @@
 //! The names of the items.
 use crate::members::Members;
+use crate::sheet::Sheet;
 use crate::tables::{Member, Table};
 use indexmap::IndexMap;
-use json_places::Sheet;
 use rt_base::{Name, OutOfMemory};
 
 /// The names of the items, each with its first item.

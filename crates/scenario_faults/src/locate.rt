@@ -1,8 +1,8 @@
 //! Where a place of a scenario stands in its text.
 use crate::members::Members;
+use crate::sheet::Sheet;
 use crate::tables::{Member, Table, of_item, of_txn};
 use crate::walk_root::is_second;
-use json_places::Sheet;
 use rt_base::OutOfMemory;
 use scenario_forms::{Place, TxnMember};
 

@@ -1,6 +1,6 @@
 //! The members of an object.
+use crate::sheet::Sheet;
 use crate::tables::{MEMBERS, Member, Table, member_of};
-use json_places::Sheet;
 
 /// The members of an object that its table names, by their values: of repeated ones the last.
 #[derive(Clone, Copy)]

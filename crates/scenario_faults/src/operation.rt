@@ -1,6 +1,6 @@
 //! What is amiss in an operation of a script.
 use crate::item_names::ItemNames;
-use json_places::Sheet;
+use crate::sheet::Sheet;
 use rt_base::OutOfMemory;
 
 const DEEPEST: u32 = 32;

@@ -1,6 +1,6 @@
 //! Members that stand in their object before.
+use crate::sheet::Sheet;
 use indexmap::IndexSet;
-use json_places::Sheet;
 use rt_base::OutOfMemory;
 
 // How many members are compared with each other.

@@ -2,9 +2,9 @@
 use crate::item_names::name_of;
 use crate::members::Members;
 use crate::reasons::{Range, Wanted};
+use crate::sheet::Sheet;
 use crate::tables::{Member, Table};
 use crate::walk::Walk;
-use json_places::Sheet;
 use rt_base::OutOfMemory;
 use scenario_forms::{ItemMember, Place};
 

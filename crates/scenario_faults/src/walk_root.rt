@@ -2,9 +2,9 @@
 use crate::members::Members;
 use crate::operation::natural;
 use crate::reasons::{Range, Wanted};
+use crate::sheet::Sheet;
 use crate::tables::{Member, Table, member_of};
 use crate::walk::{Owner, Part, Walk};
-use json_places::Sheet;
 use rt_base::OutOfMemory;
 use scenario_forms::Place;
 

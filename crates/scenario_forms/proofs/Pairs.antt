@@ -2,8 +2,8 @@
 use Rattle.std.proofs.Common.{◌≡◌, ◌^◌, ℕ, ℤ, List, codes, Option, Result, Ok, Err, refl, ap, ◌∙◌}
 use Rattle.name_table.specs.Places.{place_in}
 use Rattle.rt_base.specs.declared.ids.ItemId.{ItemId}
-use Rattle.scenario.specs.declared.releases.Releases.{Releases}
-use Rattle.scenario.specs.declared.releases.Releases.TheVariants.{At}
+use Rattle.step_script.specs.declared.releases.Releases.{Releases}
+use Rattle.step_script.specs.declared.releases.Releases.TheVariants.{At}
 use Rattle.serde_json.specs.Data.{Data, Items}
 use Rattle.scenario_forms.specs.declared.error.FormError.{FormError}
 use Rattle.scenario_forms.specs.declared.error.Place.TheVariants as places

@@ -11,8 +11,8 @@ use Rattle.scenario_forms.specs.declared.error.TxnMember.{TxnMember}
 use Rattle.scenario_forms.specs.declared.error.TxnMember.TheVariants as members
 use Rattle.scenario_forms.specs.declared.error.FormError.{FormError}
 use Rattle.scenario_forms.specs.declared.arrays.Owner.TheVariants as owners
-use Rattle.scenario.specs.declared.releases.Releases.{Releases}
-use Rattle.scenario.specs.declared.releases.Releases.TheVariants.{At, Jobs, Eager}
+use Rattle.step_script.specs.declared.releases.Releases.{Releases}
+use Rattle.step_script.specs.declared.releases.Releases.TheVariants.{At, Jobs, Eager}
 use Rattle.scenario_forms.specs.declared.txn.Times.{Times}
 use Rattle.scenario_forms.specs.declared.txn.ReadTxn.{ReadTxn}
 use Rattle.scenario_forms.specs.declared.txn.TxnTable.{TxnTable}

@@ -19,6 +19,6 @@ pub use error::{FormError, ItemMember, Place, TextError, TxnMember};
 pub use item::ItemTable;
 pub use ops::ReadOp;
 pub use root::{Forms, read_forms, read_value};
-pub use scenario::Releases;
 pub use sets::ReadSet;
+pub use step_script::Releases;
 pub use txn::{ReadTxn, Times, TxnTable};

@@ -18,9 +18,9 @@ use crate::item::name_at;
 use crate::ops::ReadOp;
 use name_table::NameTable;
 use rt_base::{ItemId, List, Name, Prio};
-use scenario::Releases;
 use serde_json::{Map, Value};
 use std::alloc::Global;
+use step_script::Releases;
 
 const LAST_PRIO: u32 = 1 << 31;
 

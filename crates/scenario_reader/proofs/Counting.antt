@@ -11,10 +11,10 @@ use Rattle.rt_base.specs.declared.release.PlanRefused.{PlanRefused}
 use Rattle.rt_base.specs.declared.release.PlanRefused.TheVariants.{TooSoon, TooFar}
 use Rattle.txn_set.specs.declared.decl.TxnDecl.{TxnDecl}
 use Rattle.txn_set.specs.Ceilings.{greatest}
-use Rattle.scenario.specs.declared.releases.Releases.{Releases}
-use Rattle.scenario.specs.declared.releases.Releases.TheVariants.{At, Jobs, Eager}
-use Rattle.scenario.specs.Releases.{jobs_of, eager_of, is_eager, ticks_of, total_jobs, eager_jobs, refused_tick, refused_from, fixed_ticks, entries_of, entries_in}
-use Rattle.scenario.specs.Scenarios.{HasTextTimes}
+use Rattle.step_script.specs.declared.releases.Releases.{Releases}
+use Rattle.step_script.specs.declared.releases.Releases.TheVariants.{At, Jobs, Eager}
+use Rattle.step_script.specs.Releases.{jobs_of, eager_of, is_eager, ticks_of, total_jobs, eager_jobs, refused_tick, refused_from, fixed_ticks, entries_of, entries_in}
+use Rattle.step_script.specs.Scenarios.{HasTextTimes}
 use Rattle.scenario_reader.specs.Planning.{tick_refusal}
 
 -- the jobs of one transaction are among all

@@ -4,7 +4,7 @@ use Rattle.std.specs.List.{position, position_or_len}
 use Rattle.std.proofs.lemmas.List.{length-map}
 use Rattle.step_script.specs.declared.script.Script.{Script}
 use Rattle.step_script.specs.Scripts.{program_of}
-use Rattle.scenario.specs.Scripts.{is_long}
+use Rattle.step_script.specs.Bodies.{is_long}
 use Rattle.scenario_reader.specs.Walks.{is_long_made}
 
 same_place : (scripts : List Script)

@@ -8,9 +8,9 @@ use Rattle.std.proofs.lemmas.List.{get_or-map, length-map, map_push}
 use Rattle.std.proofs.lemmas.List.Elements.{All-nil, All-cons, All-same, All-head, All-tail, All-map, All-weaker}
 use Rattle.std.proofs.lemmas.List.Sums.{fails_before_first, list_all-from_AllPass}
 use Rattle.step_script.specs.Scripts.{is_good, program_of}
-use Rattle.scenario.specs.declared.whole.Scenario.{Scenario}
-use Rattle.scenario.specs.Shown.{Shown, shown}
-use Rattle.scenario.specs.Scenarios.{HasTextTimes, IsTextOp, IsProgramOver}
+use Rattle.step_script.specs.declared.whole.Scenario.{Scenario}
+use Rattle.step_script.specs.Shown.{Shown, shown}
+use Rattle.step_script.specs.Scenarios.{HasTextTimes, IsTextOp, IsProgramOver}
 use Rattle.scenario_forms.specs.Ops.{KnownOp}
 use Rattle.scenario_forms.specs.declared.txn.ReadTxn.{ReadTxn}
 use Rattle.scenario_forms.specs.Txns.{Txn, txn_view}

@@ -10,11 +10,11 @@ use Rattle.std.proofs.lemmas.List.FromFn.{get_or-range_with_len, length-range_wi
 use Rattle.serde_json.specs.Data.{Data}
 use Rattle.rt_base.specs.declared.ids.ItemId.{ItemId}
 use Rattle.txn_set.specs.Set.{Set, AreItemsOf}
-use Rattle.scenario.specs.declared.whole.Scenario.{Scenario}
-use Rattle.scenario.specs.Shown.{Shown, shown, set_of}
-use Rattle.scenario.specs.Releases.{total_jobs, bad_release, room_of, eager_end}
-use Rattle.scenario.specs.Scripts.{bad_script, long_script}
-use Rattle.scenario.specs.Scenarios.{IsScenario}
+use Rattle.step_script.specs.declared.whole.Scenario.{Scenario}
+use Rattle.step_script.specs.Shown.{Shown, shown, set_of}
+use Rattle.step_script.specs.Releases.{total_jobs, bad_release, room_of, eager_end}
+use Rattle.step_script.specs.Bodies.{bad_script, long_script}
+use Rattle.step_script.specs.Scenarios.{IsScenario}
 use Rattle.scenario_forms.specs.declared.error.FormError.{FormError}
 use Rattle.scenario_forms.specs.Fields.{item_id}
 use Rattle.scenario_forms.specs.Txns.{Txn}

@@ -15,7 +15,7 @@ use Rattle.step_script.specs.declared.expr.BinOp.{BinOp}
 use Rattle.step_script.specs.Values.{Tree, leaf_const, leaf_sample, leaf_serial, leaf_last, node}
 use Rattle.step_script.specs.Scripts.{Operation, is_good, depth, reads_below}
 use Rattle.step_script.specs.Scripts as scripts
-use Rattle.scenario.specs.Scenarios.{HasValidity, HasTextTimes, IsTextOp}
+use Rattle.step_script.specs.Scenarios.{HasValidity, HasTextTimes, IsTextOp}
 use Rattle.scenario_forms.specs.declared.error.Place.{Place}
 use Rattle.scenario_forms.specs.declared.error.FormError.{FormError}
 use Rattle.scenario_forms.specs.declared.error.Place.TheVariants as places
@@ -23,7 +23,7 @@ use Rattle.scenario_forms.specs.declared.error.ItemMember.TheVariants as members
 use Rattle.scenario_forms.specs.declared.error.TxnMember.TheVariants as txn_members
 use Rattle.scenario_forms.specs.declared.error.TxnMember.{TxnMember}
 use Rattle.scenario_forms.specs.Arrays.{named}
-use Rattle.scenario.specs.declared.releases.Releases.{Releases}
+use Rattle.step_script.specs.declared.releases.Releases.{Releases}
 use Rattle.scenario_forms.specs.declared.txn.Times.{Times}
 use Rattle.scenario_forms.specs.Reading.{◌>>=◌, needed, optional, member_at, member_or, array_at, fold_at, form_step, all_at}
 use Rattle.scenario_forms.specs.Fields.{Places, whole, item_in, item_id, new_name, integer, sized, no_others, formed_unit}

@@ -10,8 +10,8 @@ use Rattle.item_model.specs.Kinds.{is_dated}
 use Rattle.txn_set.specs.declared.decl.TxnDecl.{TxnDecl}
 use Rattle.txn_set.specs.Set.{names_item, may_read, may_write}
 use Rattle.step_script.specs.Scripts.{Operation, read, write, compute, commit, quit, width, is_good}
-use Rattle.scenario.specs.Scripts as scripts
-use Rattle.scenario.specs.Scripts.{steps_of, closes, is_write_of, bad_op_after}
+use Rattle.step_script.specs.Bodies as scripts
+use Rattle.step_script.specs.Bodies.{steps_of, closes, is_write_of, bad_op_after}
 use Rattle.scenario_reader.specs.declared.walk.Walk.{Walk}
 use Rattle.scenario_reader.specs.Walks.{marked, none_of, begun, has, may_ask, may_stand, after, IsSized}
 

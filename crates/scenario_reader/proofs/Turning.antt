@@ -8,8 +8,8 @@ use Rattle.txn_set.specs.declared.decl.TxnDecl.{TxnDecl}
 use Rattle.step_script.specs.declared.script.ScriptOp.{ScriptOp}
 use Rattle.step_script.specs.declared.script.Script.{Script}
 use Rattle.step_script.specs.Scripts.{Operation, Program, operation, program_of, is_good}
-use Rattle.scenario.specs.Scenarios.{IsProgramOver}
-use Rattle.scenario.specs.Scripts.{bad_op, bad_op_after}
+use Rattle.step_script.specs.Scenarios.{IsProgramOver}
+use Rattle.step_script.specs.Bodies.{bad_op, bad_op_after}
 use Rattle.scenario_reader.specs.declared.walk.Walk.{Walk}
 use Rattle.scenario_reader.specs.Walks.{begun, may_stand, after, IsSized}
 use Rattle.scenario_reader.proofs.Standing.{StandsFor, begins, sized_begun, goes_on, sized_after, stands_same, passes_on, stops_at}

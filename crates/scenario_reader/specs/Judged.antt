@@ -2,9 +2,9 @@
 use Rattle.std.specs.Prelude.{ℕ, ◌^◌, option_map, Result, Ok}
 use Rattle.rt_base.specs.declared.ids.TxId.{TxId}
 use Rattle.rt_base.specs.declared.release.PlanRefused.{PlanRefused}
-use Rattle.scenario.specs.Shown.{Shown}
-use Rattle.scenario.specs.Releases.{total_jobs, bad_release, room_of, eager_end}
-use Rattle.scenario.specs.Scripts.{bad_script, long_script}
+use Rattle.step_script.specs.Shown.{Shown}
+use Rattle.step_script.specs.Releases.{total_jobs, bad_release, room_of, eager_end}
+use Rattle.step_script.specs.Bodies.{bad_script, long_script}
 use Rattle.scenario_reader.specs.declared.error.ScenarioError.{ScenarioError}
 use Rattle.scenario_reader.specs.declared.error.ScenarioError.TheVariants.{BadScript, TooManySteps, TooManyJobs, BadRelease, RoomTooLarge, EagerTooFar}
 use Rattle.scenario_reader.specs.Refusals.{◌>>=◌, pass, above}

@@ -5,10 +5,10 @@ use Rattle.rt_base.specs.declared.ids.ItemId.{ItemId}
 use Rattle.rt_base.specs.declared.ids.TogetherDecl.{TogetherDecl}
 use Rattle.txn_set.specs.declared.decl.TxnDecl.{TxnDecl}
 use Rattle.step_script.specs.Scripts.{Operation, Program, is_good, IsTold}
-use Rattle.scenario.specs.declared.whole.Scenario.{Scenario}
-use Rattle.scenario.specs.Shown.{Shown}
-use Rattle.scenario.specs.Releases.{total_jobs}
-use Rattle.scenario.specs.Scenarios.{HasTextTimes, IsTextOp}
+use Rattle.step_script.specs.declared.whole.Scenario.{Scenario}
+use Rattle.step_script.specs.Shown.{Shown}
+use Rattle.step_script.specs.Releases.{total_jobs}
+use Rattle.step_script.specs.Scenarios.{HasTextTimes, IsTextOp}
 use Rattle.scenario_forms.specs.Fields.{item_id}
 use Rattle.scenario_forms.specs.Ops.{KnownOp}
 use Rattle.scenario_forms.specs.Txns.{Txn, Txns}

@@ -3,7 +3,7 @@ use Rattle.std.specs.Prelude.{ℕ, option_map, Option, Some, None, Result, Ok, E
 use Rattle.serde_json.specs.Data.{Data}
 pub use Rattle.scenario_forms.specs.Reading.{data_of}
 use Rattle.scenario_forms.specs.Root.{Formed, forms_at}
-use Rattle.scenario.specs.Shown.{Shown}
+use Rattle.step_script.specs.Shown.{Shown}
 use Rattle.scenario_reader.specs.declared.error.ScenarioError.{ScenarioError}
 use Rattle.scenario_reader.specs.declared.error.ScenarioError.TheVariants.{NotJson, UnknownName}
 use Rattle.scenario_reader.specs.Refusals.{◌>>=◌, pass, formed}

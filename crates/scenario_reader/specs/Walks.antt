@@ -7,7 +7,7 @@ use Rattle.item_model.specs.Kinds.{is_dated}
 use Rattle.txn_set.specs.declared.decl.TxnDecl.{TxnDecl}
 use Rattle.step_script.specs.declared.script.Script.{Script}
 use Rattle.step_script.specs.Scripts.{Operation, read, write, compute, commit, quit, width, program_of}
-use Rattle.scenario.specs.Scripts.{is_long}
+use Rattle.step_script.specs.Bodies.{is_long}
 use Rattle.scenario_reader.specs.declared.walk.Walk.{Walk}
 
 -- with these items marked besides

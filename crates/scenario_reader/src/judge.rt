@@ -1,9 +1,9 @@
 //! The judgement of a scenario, in order.
 ghost use Rattle.std.specs.Prelude.{◌≡◌, ◌≤◌, ◌<◌, ◌^◌, IsErrOf, None, length};
 ghost use Rattle.std.specs.List.{All};
-ghost use Rattle.scenario.specs.Shown.{shown};
-ghost use Rattle.scenario.specs.Releases.{total_jobs as total_jobs_of};
-ghost use Rattle.scenario.specs.Scenarios.{HasTextTimes, IsProgramOver};
+ghost use Rattle.step_script.specs.Shown.{shown};
+ghost use Rattle.step_script.specs.Releases.{total_jobs as total_jobs_of};
+ghost use Rattle.step_script.specs.Scenarios.{HasTextTimes, IsProgramOver};
 ghost use Rattle.scenario_reader.specs.Refusals.{Gives};
 ghost use Rattle.scenario_reader.specs.Judged.{judged, judged_scripts, judged_jobs, tx_id as id_of};
 
@@ -11,8 +11,8 @@ use crate::error::ScenarioError;
 use crate::plans::{bad_release, eager_end, room, total_jobs};
 use crate::scripts::{bad_script, long_script};
 use rt_base::TxId;
-use scenario::Scenario;
 use std::alloc::Global;
+use step_script::Scenario;
 
 const MOST_JOBS: u64 = 65_536;
 

@@ -15,6 +15,6 @@ mod walk;
 pub use error::ScenarioError;
 pub use plans::{bad_release, eager_end, room, total_jobs};
 pub use read::read_scenario;
-pub use scenario::{Releases, Scenario};
 pub use scenario_forms::{ItemMember, Place, TxnMember};
 pub use scripts::{bad_script, long_script};
+pub use step_script::{Releases, Scenario};

@@ -2,7 +2,7 @@
 ghost use Rattle.std.specs.Prelude.{◌≡◌, [], ◌∷◌, ◌++◌, IfOk, OnOk, length, map};
 ghost use Rattle.std.specs.List.{All};
 ghost use Rattle.step_script.specs.Scripts.{operation, program_of, IsTold};
-ghost use Rattle.scenario.specs.Shown.{shown};
+ghost use Rattle.step_script.specs.Shown.{shown};
 ghost use Rattle.scenario_forms.specs.Ops.{op_view};
 ghost use Rattle.scenario_forms.specs.Txns.{txn_view};
 ghost use Rattle.scenario_forms.specs.Sets.{set_view};
@@ -11,10 +11,9 @@ ghost use Rattle.scenario_reader.specs.Made.{decl_of, group_of, ops_of, program_
 
 use crate::item_order::in_item_order;
 use rt_base::{List, Names, OutOfMemory, TogetherDecl};
-use scenario::{Releases, Scenario};
 use scenario_forms::{Forms, ItemTable, ReadOp, ReadSet, ReadTxn, TxnTable};
 use std::alloc::Global;
-use step_script::{Script, ScriptOp};
+use step_script::{Releases, Scenario, Script, ScriptOp};
 use txn_set::TxnDecl;
 
 // What transactions declare, by their places.

@@ -2,13 +2,13 @@
 ghost use Rattle.std.specs.Prelude.{◌≡◌, ◌≤◌, ◌<◌, ◌+◌, ◌-◌, ◌*◌, ◌^◌, IfNone, IfSome, IsTrue, None, length, map, min};
 ghost use Rattle.std.specs.List.{All};
 ghost use Rattle.txn_set.specs.Ceilings.{greatest};
-ghost use Rattle.scenario.specs.Shown.{shown};
-ghost use Rattle.scenario.specs.Releases.{jobs_of, eager_of, ticks_of, is_eager, total_jobs as total_jobs_of, eager_jobs as eager_jobs_of, refused_tick, refused_from, bad_release as bad_release_of, fixed_ticks, entries_of, entries_in, room_of, eager_end as eager_end_of};
-ghost use Rattle.scenario.specs.Scenarios.{HasTextTimes};
+ghost use Rattle.step_script.specs.Shown.{shown};
+ghost use Rattle.step_script.specs.Releases.{jobs_of, eager_of, ticks_of, is_eager, total_jobs as total_jobs_of, eager_jobs as eager_jobs_of, refused_tick, refused_from, bad_release as bad_release_of, fixed_ticks, entries_of, entries_in, room_of, eager_end as eager_end_of};
+ghost use Rattle.step_script.specs.Scenarios.{HasTextTimes};
 ghost use Rattle.scenario_reader.specs.Planning.{tick_refusal};
 
 use rt_base::{PlanRefused, Tick};
-use scenario::{Releases, Scenario};
+use step_script::{Releases, Scenario};
 use txn_set::TxnDecl;
 
 const LAST_TICK: Tick = 1 << 40;

@@ -3,8 +3,8 @@ ghost use Rattle.std.specs.Prelude.{◌≡◌, ◌<◌, ◌≤◌, ◌^◌, [], 
 ghost use Rattle.std.specs.List.{All};
 ghost use Rattle.serde_json.specs.View.{view};
 ghost use Rattle.step_script.specs.Scripts.{IsTold};
-ghost use Rattle.scenario.specs.Shown.{shown};
-ghost use Rattle.scenario.specs.Scenarios.{IsScenario};
+ghost use Rattle.step_script.specs.Shown.{shown};
+ghost use Rattle.step_script.specs.Scenarios.{IsScenario};
 ghost use Rattle.scenario_forms.specs.Root.{forms_view};
 ghost use Rattle.scenario_reader.specs.Refusals.{GivesBy};
 ghost use Rattle.scenario_forms.specs.Sizes.{size};
@@ -15,10 +15,10 @@ use crate::error::ScenarioError;
 use crate::judge::judge;
 use crate::made::made;
 use crate::unknown::unknown_name;
-use scenario::Scenario;
 use scenario_forms::{Forms, read_forms, read_value};
 use serde_json::Value;
 use std::alloc::Global;
+use step_script::Scenario;
 
 // The scenario of forms.
 #[tactic(auto, unfolding(crate::specs::Reading::scenario_from))]

@@ -2,17 +2,16 @@
 ghost use Rattle.std.specs.Prelude.{◌≡◌, ◌<◌, IfOk, IfSome, IsTrue, length, map, true, nat_lt};
 ghost use Rattle.std.specs.List.{All, list_all, position};
 ghost use Rattle.step_script.specs.Scripts.{operation, program_of, is_good};
-ghost use Rattle.scenario.specs.Shown.{shown};
-ghost use Rattle.scenario.specs.Scripts.{steps_of, bad_op as bad_operation, bad_script_from, bad_script as bad_script_of, long_script as long_script_of};
-ghost use Rattle.scenario.specs.Scenarios.{IsProgramOver};
+ghost use Rattle.step_script.specs.Shown.{shown};
+ghost use Rattle.step_script.specs.Bodies.{steps_of, bad_op as bad_operation, bad_script_from, bad_script as bad_script_of, long_script as long_script_of};
+ghost use Rattle.step_script.specs.Scenarios.{IsProgramOver};
 ghost use Rattle.scenario_reader.specs.Walks.{IsSized, is_long_made};
 
 use crate::walk::{Walk, width_of};
 use item_model::ItemDecl;
 use rt_base::OutOfMemory;
-use scenario::Scenario;
 use std::alloc::Global;
-use step_script::{Script, ScriptOp};
+use step_script::{Scenario, Script, ScriptOp};
 use txn_set::TxnDecl;
 
 const MOST_STEPS: u64 = 10_000;

@@ -3,8 +3,8 @@ use Rattle.std.proofs.Common.{◌≡◌, ℕ, ◌+◌, ◌*◌, ◌<◌, ◌≤�
 use Rattle.std.specs.List.{range_with_len}
 use Rattle.std.proofs.lemmas.List.FromFn.{map-range_with_len_more}
 use Rattle.txn_set.specs.declared.decl.TxnDecl.{TxnDecl}
-use Rattle.scenario.specs.declared.releases.Releases.{Releases}
-use Rattle.scenario.specs.Releases.{ticks_of, fixed_ticks}
+use Rattle.step_script.specs.declared.releases.Releases.{Releases}
+use Rattle.step_script.specs.Releases.{ticks_of, fixed_ticks}
 
 -- one tick more
 pub next_tick : (offset period k : ℕ) (ticks ticks' : List ℕ) → ticks' ≡ ticks ++ (offset + k * period) ∷ [] → ticks ≡ map (λ j. offset + j * period) (range_with_len 0 k)

@@ -10,15 +10,15 @@ use Rattle.law_histories.proofs.Commits.{fresh_commits}
 use Rattle.set_admission.specs.Admission.{refusal}
 use Rattle.set_admission.proofs.Admitted.{decided}
 use Rattle.set_admission.proofs.Kept.{keeps_bounds}
-use Rattle.scenario.specs.Shown.{Shown, set_of}
-use Rattle.scenario.specs.Scenarios.{IsScenario}
+use Rattle.step_script.specs.Shown.{Shown, set_of}
+use Rattle.step_script.specs.Scenarios.{IsScenario}
 use Rattle.scenario_run.specs.Runs.{IsGuaranteed, KeepsBoundsUnless, IsRunText}
 use Rattle.law_runs.specs.Plannable.{own_of}
 use Rattle.law_runs.proofs.Scenario.{none_eager}
 use Rattle.law_runs.proofs.Fits.{run_fits, scenario_room}
 use Rattle.law_runs.specs.Histories.{IsRunOf}
 use Rattle.law_runs.proofs.Fixed.{fixed_sim}
-use Rattle.report_out.specs.Eager.{IsRunTextBy}
+use Rattle.scenario_run.specs.Eager.{IsRunTextBy}
 use Rattle.law_runs.specs.Runs.{workload_of}
 
 guaranteed : (set : Set) (history : List Entry) → IsCompiled set → IsLegal set history → IsGuaranteed set history

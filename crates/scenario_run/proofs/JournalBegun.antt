@@ -7,10 +7,10 @@ use Rattle.rt_base.specs.Names.{AreNames}
 use Rattle.rt_base.specs.declared.name.Names.{Names}
 use Rattle.txn_set.specs.Set.{Set, IsCompiled}
 use Rattle.step_journal.specs.declared.entry.Entry.{Entry}
-use Rattle.scenario.specs.declared.releases.Releases.{Releases}
-use Rattle.scenario.specs.declared.releases.Releases.TheVariants.{At, Jobs, Eager}
-use Rattle.scenario.specs.Releases.{is_eager}
-use Rattle.scenario.specs.Shown.{Shown, set_of}
+use Rattle.step_script.specs.declared.releases.Releases.{Releases}
+use Rattle.step_script.specs.declared.releases.Releases.TheVariants.{At, Jobs, Eager}
+use Rattle.step_script.specs.Releases.{is_eager}
+use Rattle.step_script.specs.Shown.{Shown, set_of}
 use Rattle.law_histories.specs.Sim.{Workload, IsSim}
 use Rattle.sim_run.specs.Workloads.{AreAccepted, IsObedient}
 use Rattle.sim_run.proofs.Exist.{runs_are}
@@ -26,12 +26,12 @@ use Rattle.txn_compiler.specs.declared.error.CompileError.{CompileError}
 use Rattle.set_admission.specs.declared.error.AdmitError.{AdmitError}
 use Rattle.set_admission.specs.Admission.{refusal}
 use Rattle.command_replies.specs.Replies.{Compiling, Admitting}
-use Rattle.process_edge.specs.declared.status.Status.{Status}
-use Rattle.process_edge.specs.declared.status.Status.TheVariants as statuses
+use Rattle.io_edge.specs.declared.status.Status.{Status}
+use Rattle.io_edge.specs.declared.status.Status.TheVariants as statuses
 use Rattle.command_replies.proofs.Compiles.{is_compiled}
 use Rattle.scenario_run.specs.Runs.{IsRunText, has_eager}
 use Rattle.scenario_run.proofs.Guarantees.{run_text}
-use Rattle.durable_records.specs.Records.{slot_at}
+use Rattle.durable_disk.specs.Records.{slot_at}
 use Rattle.durable_journal.specs.Texts.{IsHeader}
 use Rattle.durable_journal.specs.Opened.{IsBad}
 use Rattle.durable_journal.specs.declared.log.LogError.{LogError}

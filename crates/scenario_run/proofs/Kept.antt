@@ -5,11 +5,11 @@ use Rattle.rt_base.specs.declared.name.Names.{Names}
 use Rattle.txn_set.specs.Set.{Set}
 use Rattle.step_journal.specs.declared.entry.Entry.{Entry}
 use Rattle.law_histories.specs.Sim.{Workload, IsSim}
-use Rattle.scenario.specs.Shown.{Shown, set_of}
+use Rattle.step_script.specs.Shown.{Shown, set_of}
 use Rattle.law_runs.specs.Runs.{workload_of}
 use Rattle.job_rows.specs.Upkeep.{RowsSeen}
 use Rattle.durable_disk.specs.Device.{LeavesOnly}
-use Rattle.durable_records.specs.Records.{slot_at}
+use Rattle.durable_disk.specs.Records.{slot_at}
 use Rattle.durable_journal.specs.Texts.{IsHeader}
 use Rattle.durable_journal.specs.Opened.{Touches, TouchesAt, with_gate}
 use Rattle.durable_journal.specs.declared.log.LogError.{LogError}

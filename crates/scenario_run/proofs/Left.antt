@@ -10,8 +10,8 @@ use Rattle.law_histories.specs.Sim.{Workload, IsSim}
 use Rattle.durable_disk.specs.Images.{Torn}
 use Rattle.durable_disk.specs.Device.{LeavesOnly, WritesWithin, BothTold}
 use Rattle.durable_disk.proofs.Writes.{torn_none}
-use Rattle.durable_records.specs.Records.{slot_at}
-use Rattle.durable_records.proofs.Within.{within_then}
+use Rattle.durable_disk.specs.Records.{slot_at}
+use Rattle.durable_disk.proofs.Within.{within_then}
 use Rattle.durable_journal.specs.Log.{OpensAs, HasSome}
 use Rattle.durable_journal.specs.Texts.{IsHeader}
 use Rattle.durable_journal.specs.Opened.{Passes, ClosesEnd, Touches, TouchesAt, HasByteMore, with_gate, IsUnended}

@@ -15,3 +15,14 @@ pub mod Joined
 pub mod Fronts
 pub mod Putting
 pub mod Same
+pub mod Texts
+pub mod Taking
+pub mod Stopping
+pub mod Pieces
+pub mod Plans
+pub mod Handing
+pub mod Wholes
+pub mod Working
+pub mod Counting
+pub mod Keeping
+pub mod Parts

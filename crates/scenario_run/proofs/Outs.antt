@@ -16,14 +16,14 @@ use Rattle.rt_base.specs.declared.name.Names.{Names}
 use Rattle.txn_set.specs.Set.{Set}
 use Rattle.step_journal.specs.declared.entry.Entry.{Entry}
 use Rattle.step_journal.specs.History.{IsLegal}
-use Rattle.report_out.proofs.Texts.{legal_front}
+use Rattle.scenario_run.proofs.Texts.{legal_front}
 use Rattle.law_histories.specs.Sim.{Workload, IsSim}
 use Rattle.sim_run.specs.Handed.{CanTake}
 use Rattle.sim_run.specs.Runs.{IsStopped}
-use Rattle.durable_records.specs.Standing.{RecordsSeen, EachLeft}
+use Rattle.durable_disk.specs.Standing.{RecordsSeen, EachLeft}
 use Rattle.durable_journal.specs.Log.{StandsFor, OpensAs, IsLeft, HasSome}
-use Rattle.scenario_run.specs.declared.standing.Standing.{Standing}
-use Rattle.scenario_run.specs.declared.standing.Standing.TheVariants.{Going, Faulted, Other}
+use Rattle.scenario_run.specs.declared.standing.JournalStanding.{JournalStanding}
+use Rattle.scenario_run.specs.declared.standing.JournalStanding.TheVariants.{Going, Faulted, Other}
 use Rattle.scenario_run.specs.Compared.{Begins, IsFirstOther, with_rest}
 use Rattle.scenario_run.specs.Outs.{Begun, IsOf, IsGoing, TakenAt, LeftAt, LostAt, other_stops}
 use Rattle.scenario_run.proofs.Putting.{taken_at}
@@ -37,17 +37,17 @@ made names set there room disk = record { names = names; set = set; there = ther
 
 module _ {D : Type 0} (seen : D → Option (List ℕ)) (may_leave : D → List ℕ → Type 0) (moment : D → ℕ) (left_since : D → ℕ → List ℕ → Type 0) (begun : Begun D) where
   -- what an out with these fields got
-  abbrev pub Got : Standing → Names → Set → RecordsSeen D → List Entry → List Entry → ℕ → List Entry → Type 0
+  abbrev pub Got : JournalStanding → Names → Set → RecordsSeen D → List Entry → List Entry → ℕ → List Entry → Type 0
   Got standing names set log there kept room story =
       (kept ≡ story) × IsOf seen begun names set there room log.disk
       × TakenAt standing (IsGoing seen may_leave moment left_since begun.names begun.set begun.disk log begun.there story)
 
   -- and what it lost
-  abbrev pub Lost : Standing → RecordsSeen D → List Entry → List Entry → Type 0
+  abbrev pub Lost : JournalStanding → RecordsSeen D → List Entry → List Entry → Type 0
   Lost standing log kept piece = LostAt standing begun.there kept piece × LeftAt seen moment left_since begun.names begun.set begun.disk log.disk standing begun.there kept piece
 
   -- an out that has taken nothing
-  pub none_got : (standing : Standing) (names : Names) (set : Set) (log : RecordsSeen D) (there kept : List Entry) (room : ℕ)
+  pub none_got : (standing : JournalStanding) (names : Names) (set : Set) (log : RecordsSeen D) (there kept : List Entry) (room : ℕ)
       → begun ≡ made names set there room log.disk
       → standing ≡ Going → kept ≡ [] → IsGoing seen may_leave moment left_since names set (Some log.disk) log there [] → Got standing names set log there kept room []
   none_got standing names set log there kept room is going empty h =
@@ -71,7 +71,7 @@ module _ {D : Type 0} (seen : D → Option (List ℕ)) (may_leave : D → List �
     );
   }
 
-  module _ (w : Workload) (standing' : Standing) (names' : Names) (set' : Set) (log' : RecordsSeen D) (there' kept' : List Entry) (room' : ℕ)
+  module _ (w : Workload) (standing' : JournalStanding) (names' : Names) (set' : Set) (log' : RecordsSeen D) (there' kept' : List Entry) (room' : ℕ)
       (got : List Entry → Type 0) (none : got []) where
     abbrev Got' : List Entry → Type 0
     Got' story = Got standing' names' set' log' there' kept' room' story
@@ -209,7 +209,7 @@ module _ {D : Type 0} (seen : D → Option (List ℕ)) (may_leave : D → List �
   behind_left w stands names begun log there kept got more = got.going.untouched (omega (arith, more))
 
   -- after one that was halted by a fault
-  pub fault_left : (w : Workload) (names : Names) (begun : D) (log : RecordsSeen D) (standing : Standing) (there kept : List Entry) → IsHalted w seen may_leave moment left_since names begun log standing there kept → other_stops standing ≡ 0
+  pub fault_left : (w : Workload) (names : Names) (begun : D) (log : RecordsSeen D) (standing : JournalStanding) (there kept : List Entry) → IsHalted w seen may_leave moment left_since names begun log standing there kept → other_stops standing ≡ 0
       → (log.disk ≡ begun) ⊎ (IsSome (seen begun) → LeavesOnly moment left_since begun log.disk (IsRunFront w names there))
   fault_left w names begun log (Other place) there kept h none = absurd (omega (arith, none))
   fault_left w names begun log Faulted there kept h none = inr (λ told.
@@ -223,7 +223,7 @@ module _ {D : Type 0} (seen : D → Option (List ℕ)) (may_leave : D → List �
       (cases_lt (length kept) (length there))
 
   -- after one that was halted by another entry
-  pub other_left : (w : Workload) (names : Names) (begun : D) (log : RecordsSeen D) (standing : Standing) (there kept : List Entry) → IsHalted w seen may_leave moment left_since names begun log standing there kept → other_stops standing ≡ 1
+  pub other_left : (w : Workload) (names : Names) (begun : D) (log : RecordsSeen D) (standing : JournalStanding) (there kept : List Entry) → IsHalted w seen may_leave moment left_since names begun log standing there kept → other_stops standing ≡ 1
       → log.disk ≡ begun
   other_left w names begun log Going there kept h one = absurd (omega (arith, one))
   other_left w names begun log Faulted there kept h one = absurd (omega (arith, one))

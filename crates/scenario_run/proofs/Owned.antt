@@ -5,9 +5,9 @@ use Rattle.std.specs.List.{sum}
 use Rattle.std.proofs.Math.ListN.{get_or-map}
 use Rattle.txn_set.specs.Set.{Set}
 use Rattle.law_histories.proofs.Sums.{sum_below, sum_places}
-use Rattle.scenario.specs.declared.releases.Releases.TheVariants.{At}
-use Rattle.scenario.specs.Releases.{eager_of}
-use Rattle.scenario.specs.Shown.{Shown}
+use Rattle.step_script.specs.declared.releases.Releases.TheVariants.{At}
+use Rattle.step_script.specs.Releases.{eager_of}
+use Rattle.step_script.specs.Shown.{Shown}
 use Rattle.law_runs.specs.Plannable.{own_jobs, own_of}
 use Rattle.law_runs.proofs.Plans.{own_sum, listed_sum}
 use Rattle.plant_run.specs.Runs.{own_at}

@@ -7,12 +7,12 @@ use Rattle.rt_base.specs.declared.name.Names.{Names}
 use Rattle.txn_set.specs.Set.{Set}
 use Rattle.step_journal.specs.declared.entry.Entry.{Entry}
 use Rattle.step_journal.specs.History.{IsLegal}
-use Rattle.durable_records.specs.Standing.{RecordsSeen}
+use Rattle.durable_disk.specs.Standing.{RecordsSeen}
 use Rattle.durable_journal.specs.Log.{StandsFor, GoesOn, HasSome}
 use Rattle.durable_journal.proofs.Crash.{weaken}
 use Rattle.durable_journal.proofs.Runs.{run_on}
-use Rattle.scenario_run.specs.declared.standing.Standing.{Standing}
-use Rattle.scenario_run.specs.declared.standing.Standing.TheVariants.{Going, Faulted, Other}
+use Rattle.scenario_run.specs.declared.standing.JournalStanding.{JournalStanding}
+use Rattle.scenario_run.specs.declared.standing.JournalStanding.TheVariants.{Going, Faulted, Other}
 use Rattle.scenario_run.specs.Compared.{Begins, Agree, IsFirstOther, IsOtherRecord, with_rest}
 use Rattle.durable_disk.specs.Device.{LeavesOnly}
 use Rattle.scenario_run.specs.Outs.{Begun, IsOf, IsGoing, IsOtherIn, IsUntouched, LeavesFronts, TakenAt, LostAt}
@@ -20,16 +20,16 @@ use Rattle.scenario_run.proofs.Joined.{other_on, agree_of, agree_on, rest_on, le
 use Rattle.scenario_run.proofs.Fronts.{begins_of_agree, front_more, none_left, shorter_than, some_behind, some_left, some_longer}
 
 -- an out that lost nothing goes on
-pub goes : (standing : Standing) (there kept : List Entry) → LostAt standing there kept [] → standing ≡ Going
+pub goes : (standing : JournalStanding) (there kept : List Entry) → LostAt standing there kept [] → standing ≡ Going
 goes Going there kept h = refl
 goes Faulted there kept h = absurd (omega (arith, h.0))
 goes (Other place) there kept h = absurd (omega (arith, h.behind, h.in_piece))
 
-going_at : (standing : Standing) (P : Type 0) → standing ≡ Going → TakenAt standing P → P
-going_at standing P e t = subst (λ (s : Standing). TakenAt s P) e t
+going_at : (standing : JournalStanding) (P : Type 0) → standing ≡ Going → TakenAt standing P → P
+going_at standing P e t = subst (λ (s : JournalStanding). TakenAt s P) e t
 
-pub taken_at : (standing : Standing) (P : Type 0) → standing ≡ Going → P → TakenAt standing P
-taken_at standing P e h = subst (λ (s : Standing). TakenAt s P) (sym e) h
+pub taken_at : (standing : JournalStanding) (P : Type 0) → standing ≡ Going → P → TakenAt standing P
+taken_at standing P e h = subst (λ (s : JournalStanding). TakenAt s P) (sym e) h
 
 -- a disk that tells goes on telling, since it began
 pub tells_on : {D : Type 0} (seen : D → Option (List ℕ)) (begun : Option D) (a b : D) → (IsSome (seen a) ↔ IsSome (seen b)) → IfSome begun (λ disk. IsSome (seen disk) ↔ IsSome (seen a)) → IfSome begun (λ disk. IsSome (seen disk) ↔ IsSome (seen b))
@@ -119,7 +119,7 @@ module _ {D : Type 0} (seen : D → Option (List ℕ)) (may_leave : D → List �
   abbrev pub Goes : Names → Set → RecordsSeen D → List Entry → List Entry → Type 0
   Goes n s log l story = IsGoing seen may_leave moment left_since n s begun.disk log l story
 
-  pub going_here : (standing : Standing) (log : RecordsSeen D) (kept story : List Entry) → LostAt standing begun.there kept [] → kept ≡ story
+  pub going_here : (standing : JournalStanding) (log : RecordsSeen D) (kept story : List Entry) → LostAt standing begun.there kept [] → kept ≡ story
       → TakenAt standing (Goes begun.names begun.set log begun.there story) → Goes names set log there kept
   going_here standing log kept story lost is taken =
       subst (λ (n : Names). Goes n set log there kept) (sym of.names_are)

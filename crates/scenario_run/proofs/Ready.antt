@@ -8,9 +8,9 @@ use Rattle.txn_set.specs.Set.{Set, IsCompiled}
 use Rattle.law_histories.specs.Counting.{room_of_jobs}
 use Rattle.law_histories.specs.Sim.{Body, Workload}
 use Rattle.sim_run.specs.Workloads.{workload, ticks_of, AreAccepted, IsObedient}
-use Rattle.scenario.specs.declared.releases.Releases.{Releases}
-use Rattle.scenario.specs.Shown.{set_of}
-use Rattle.scenario.specs.Releases.{eager_of, fixed_ticks}
+use Rattle.step_script.specs.declared.releases.Releases.{Releases}
+use Rattle.step_script.specs.Shown.{set_of}
+use Rattle.step_script.specs.Releases.{eager_of, fixed_ticks}
 use Rattle.std.specs.List.{sum}
 use Rattle.law_runs.specs.Plannable.{ArePlannable, own_jobs, own_of}
 use Rattle.law_runs.proofs.Scenario.{plannable, eager_alone}
@@ -18,7 +18,7 @@ use Rattle.law_runs.proofs.Fits.{scenario_room}
 use Rattle.law_runs.specs.Runs.{workload_of}
 use Rattle.law_runs.proofs.Obeys.{obeys}
 use Rattle.law_runs.proofs.Accepted.{accepted}
-use Rattle.report_out.specs.Eager.{IsRunTextBy}
+use Rattle.scenario_run.specs.Eager.{IsRunTextBy}
 use Rattle.plant_run.specs.Runs.{own_at}
 use Rattle.scenario_run.specs.Runs.{Declares, IsReady, asked_by, functions_of}
 use Rattle.scenario_run.proofs.Owned.{own_is, own_total}

@@ -5,9 +5,9 @@ use Rattle.txn_compiler.specs.Refusal.{compile_refusal}
 use Rattle.txn_compiler.specs.declared.error.CompileError.{CompileError}
 use Rattle.set_admission.specs.Admission.{refusal}
 use Rattle.set_admission.specs.declared.error.AdmitError.{AdmitError}
-use Rattle.scenario.specs.Shown.{Shown, set_of}
-use Rattle.process_edge.specs.declared.status.Status.{Status}
-use Rattle.process_edge.specs.declared.status.Status.TheVariants as statuses
+use Rattle.step_script.specs.Shown.{Shown, set_of}
+use Rattle.io_edge.specs.declared.status.Status.{Status}
+use Rattle.io_edge.specs.declared.status.Status.TheVariants as statuses
 use Rattle.command_replies.specs.Replies.{Reply, Compiling, Admitting}
 use Rattle.scenario_run.specs.Replies.{Never}
 use Rattle.scenario_run.specs.JournalReplies.{first_eager, Unhurried, IsRefusal, Journaled, JournalReply}

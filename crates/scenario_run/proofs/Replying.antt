@@ -5,13 +5,13 @@ use Rattle.txn_compiler.specs.Refusal.{compile_refusal}
 use Rattle.txn_compiler.specs.declared.error.CompileError.{CompileError}
 use Rattle.set_admission.specs.Admission.{refusal}
 use Rattle.set_admission.specs.declared.error.AdmitError.{AdmitError}
-use Rattle.scenario.specs.Shown.{Shown, set_of}
-use Rattle.scenario.specs.Scenarios.{IsScenario}
+use Rattle.step_script.specs.Shown.{Shown, set_of}
+use Rattle.step_script.specs.Scenarios.{IsScenario}
 use Rattle.law_runs.specs.Runs.{workload_of}
-use Rattle.process_edge.specs.declared.status.Status.{Status}
-use Rattle.process_edge.specs.declared.status.Status.TheVariants as statuses
+use Rattle.io_edge.specs.declared.status.Status.{Status}
+use Rattle.io_edge.specs.declared.status.Status.TheVariants as statuses
 use Rattle.law_runs.specs.Plannable.{own_of}
-use Rattle.report_out.specs.Eager.{IsRunTextBy}
+use Rattle.scenario_run.specs.Eager.{IsRunTextBy}
 use Rattle.rt_base.specs.declared.name.Names.{Names}
 use Rattle.command_replies.specs.Replies.{Reply, Compiling, Admitting}
 use Rattle.scenario_run.specs.Replies.{Ran, RunReply, Never, IsRefusal}

@@ -9,12 +9,12 @@ use Rattle.law_histories.specs.Sim.{Workload}
 use Rattle.sim_run.specs.Workloads.{workload, ticks_of}
 use Rattle.plant_run.specs.Runs.{own_at}
 use Rattle.law_runs.specs.Plannable.{own_of}
-use Rattle.scenario.specs.Shown.{Shown, set_of}
-use Rattle.scenario.specs.Scenarios.{IsScenario}
+use Rattle.step_script.specs.Shown.{Shown, set_of}
+use Rattle.step_script.specs.Scenarios.{IsScenario}
 use Rattle.report_text.specs.Texts.{NamesSet}
 use Rattle.law_runs.specs.Runs.{workload_of}
-use Rattle.report_out.specs.Opened.{IsOpened}
-use Rattle.report_out.specs.Eager.{IsRunTextBy}
+use Rattle.scenario_run.specs.Opened.{IsOpened}
+use Rattle.scenario_run.specs.Eager.{IsRunTextBy}
 use Rattle.scenario_run.specs.declared.begun.Tasks.{Tasks}
 use Rattle.scenario_run.specs.declared.begun.Begun.{Begun}
 use Rattle.scenario_run.specs.Runs.{Declares, IsReady, functions_of}

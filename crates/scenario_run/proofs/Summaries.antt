@@ -14,10 +14,10 @@ use Rattle.law_runs.specs.Plannable.{own_of}
 use Rattle.law_runs.proofs.Fits.{run_fits, scenario_room}
 use Rattle.step_script.specs.declared.script.Script.{Script}
 use Rattle.step_script.specs.Scripts.{next_of}
-use Rattle.scenario.specs.declared.releases.Releases.{Releases}
-use Rattle.scenario.specs.Shown.{Shown, set_of}
-use Rattle.scenario.specs.Scenarios.{IsScenario}
-use Rattle.scenario.specs.Releases.{is_eager, eager_of, fixed_ticks}
+use Rattle.step_script.specs.declared.releases.Releases.{Releases}
+use Rattle.step_script.specs.Shown.{Shown, set_of}
+use Rattle.step_script.specs.Scenarios.{IsScenario}
+use Rattle.step_script.specs.Releases.{is_eager, eager_of, fixed_ticks}
 use Rattle.law_runs.proofs.Scenario.{none_eager}
 use Rattle.law_runs.specs.Runs.{workload_of}
 use Rattle.run_report.specs.Summary.{summary_of}

@@ -7,11 +7,11 @@ use Rattle.step_journal.specs.declared.entry.Entry.{Entry}
 use Rattle.law_histories.specs.Counting.{room_of_jobs}
 use Rattle.law_histories.specs.Sim.{Workload}
 use Rattle.sim_run.specs.Workloads.{workload, ticks_of}
-use Rattle.scenario.specs.Releases.{eager_of, fixed_ticks}
+use Rattle.step_script.specs.Releases.{eager_of, fixed_ticks}
 use Rattle.plant_run.specs.Runs.{own_at}
-use Rattle.report_out.specs.declared.report.Report.{Report}
-use Rattle.report_out.specs.Opened.{IsOpened}
-use Rattle.report_out.specs.Eager.{IsRunTextBy}
+use Rattle.scenario_run.specs.declared.report.Report.{Report}
+use Rattle.scenario_run.specs.Opened.{IsOpened}
+use Rattle.scenario_run.specs.Eager.{IsRunTextBy}
 use Rattle.scenario_run.specs.declared.making.Bodies.{Bodies}
 use Rattle.scenario_run.specs.declared.begun.Tasks.{Tasks}
 use Rattle.scenario_run.specs.declared.begun.Begun.{Begun}

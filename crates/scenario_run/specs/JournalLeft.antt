@@ -4,7 +4,7 @@ use Rattle.rt_base.specs.declared.name.Names.{Names}
 use Rattle.txn_set.specs.Set.{Set}
 use Rattle.step_journal.specs.declared.entry.Entry.{Entry}
 use Rattle.law_histories.specs.Sim.{Workload, IsSim}
-use Rattle.scenario.specs.Shown.{Shown, set_of}
+use Rattle.step_script.specs.Shown.{Shown, set_of}
 use Rattle.law_runs.specs.Runs.{workload_of}
 use Rattle.durable_disk.specs.Images.{Torn}
 use Rattle.durable_disk.specs.Device.{LeavesOnly, WritesWithin}

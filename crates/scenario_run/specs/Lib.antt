@@ -10,3 +10,10 @@ pub mod Plans
 pub mod Refused
 pub mod Compared
 pub mod Outs
+pub mod ReportOuts
+pub mod ReportLaws
+pub mod Written
+pub mod Opened
+pub mod Lines
+pub mod Eager
+pub mod Kept

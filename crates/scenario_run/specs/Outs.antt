@@ -6,10 +6,10 @@ use Rattle.txn_set.specs.Set.{Set}
 use Rattle.step_journal.specs.declared.entry.Entry.{Entry}
 use Rattle.report_text.specs.Texts.{NamesSet}
 use Rattle.durable_disk.specs.Device.{LeavesOnly}
-use Rattle.durable_records.specs.Standing.{RecordsSeen}
+use Rattle.durable_disk.specs.Standing.{RecordsSeen}
 use Rattle.durable_journal.specs.Log.{StandsFor, HasSome}
-use Rattle.scenario_run.specs.declared.standing.Standing.{Standing}
-use Rattle.scenario_run.specs.declared.standing.Standing.TheVariants.{Going, Faulted, Other}
+use Rattle.scenario_run.specs.declared.standing.JournalStanding.{JournalStanding}
+use Rattle.scenario_run.specs.declared.standing.JournalStanding.TheVariants.{Going, Faulted, Other}
 use Rattle.scenario_run.specs.Compared.{Agree, Begins, IsFirstOther, with_rest}
 
 -- with what an out began: the names and the set of the history, the entries that stood on the disk, for how many there is
@@ -69,7 +69,7 @@ pub record IsWritten {D : Type 0} (seen : D → Option (List ℕ)) (may_leave : 
   pub stands : StandsFor seen may_leave names set log history
 
 -- of what an out that has stopped got nothing more is said
-abbrev pub TakenAt : Standing → Type 0 → Type 0
+abbrev pub TakenAt : JournalStanding → Type 0 → Type 0
 TakenAt Going is_going = is_going
 TakenAt Faulted is_going = ⊤
 TakenAt (Other place) is_going = ⊤
@@ -82,20 +82,20 @@ pub record IsOtherIn (there kept piece : List Entry) (place : ℕ) : Type 0 wher
 
 -- what the out lost: nothing, the piece at which the disk failed and behind which the disk has nothing, or the one of which
 -- the disk has another entry
-abbrev pub LostAt : Standing → List Entry → List Entry → List Entry → Type 0
+abbrev pub LostAt : JournalStanding → List Entry → List Entry → List Entry → Type 0
 LostAt Going there kept piece = piece ≡ []
 LostAt Faulted there kept piece = (0 < length piece) × Begins there (kept ++ piece)
 LostAt (Other place) there kept piece = IsOtherIn there kept piece place
 
 -- What is left of the disk where the out lost a piece: where the disk failed, a crash leaves some of the history with the piece;
 -- where it has another entry it is untouched.
-abbrev pub LeftAt : {D : Type 0} → (D → Option (List ℕ)) → (D → ℕ) → (D → ℕ → List ℕ → Type 0) → Names → Set → Option D → D → Standing → List Entry → List Entry → List Entry → Type 0
+abbrev pub LeftAt : {D : Type 0} → (D → Option (List ℕ)) → (D → ℕ) → (D → ℕ → List ℕ → Type 0) → Names → Set → Option D → D → JournalStanding → List Entry → List Entry → List Entry → Type 0
 LeftAt seen moment left_since names set begun now Going there kept piece = ⊤
 LeftAt seen moment left_since names set begun now Faulted there kept piece = LeavesFronts seen moment left_since names set begun now there (kept ++ piece)
 LeftAt seen moment left_since names set begun now (Other place) there kept piece = IsUntouched begun now
 
 -- a stop at another entry
-abbrev pub other_stops : Standing → ℕ
+abbrev pub other_stops : JournalStanding → ℕ
 other_stops Going = 0
 other_stops Faulted = 0
 other_stops (Other place) = 1

@@ -4,8 +4,8 @@ use Rattle.io_edge.specs.Causes.{Rose}
 use Rattle.rt_base.specs.declared.name.Names.{Names}
 use Rattle.step_journal.specs.declared.entry.Entry.{Entry}
 use Rattle.law_histories.specs.Sim.{Workload, IsSim}
-use Rattle.durable_records.specs.Standing.{RecordsSeen}
-use Rattle.scenario_run.specs.declared.standing.Standing.{Standing}
+use Rattle.durable_disk.specs.Standing.{RecordsSeen}
+use Rattle.scenario_run.specs.declared.standing.JournalStanding.{JournalStanding}
 use Rattle.scenario_run.specs.Compared.{Begins, IsOtherRecord}
 use Rattle.scenario_run.specs.Outs.{IsGoing, LeftAt, LostAt, TakenAt}
 use Rattle.scenario_run.specs.declared.over.Halt.{Halt}
@@ -21,7 +21,7 @@ pub record IsGot {D : Type 0} (w : Workload) (stands : List Entry → Type 0) (s
 
 -- a run of which the out got the first entries, and lost the next ones, and what is left of the disk
 pub record IsHalted {D : Type 0} (w : Workload) (seen : D → Option (List ℕ)) (may_leave : D → List ℕ → Type 0) (moment : D → ℕ) (left_since : D → ℕ → List ℕ → Type 0) (names : Names)
-    (begun : D) (log : RecordsSeen D) (standing : Standing) (there kept : List Entry) : Type 0 where
+    (begun : D) (log : RecordsSeen D) (standing : JournalStanding) (there kept : List Entry) : Type 0 where
   pub history : List Entry
   pub sim : IsSim w history
   pub piece : List Entry

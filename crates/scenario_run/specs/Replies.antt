@@ -4,8 +4,8 @@ use Rattle.rt_base.specs.declared.name.Names.{Names}
 use Rattle.txn_set.specs.Set.{Set}
 use Rattle.txn_compiler.specs.Refusal.{compile_refusal}
 use Rattle.set_admission.specs.Admission.{refusal}
-use Rattle.scenario.specs.Shown.{Shown, set_of}
-use Rattle.process_edge.specs.declared.status.Status.TheVariants as statuses
+use Rattle.step_script.specs.Shown.{Shown, set_of}
+use Rattle.io_edge.specs.declared.status.Status.TheVariants as statuses
 use Rattle.command_replies.specs.Replies.{Reply, Compiling, Admitting}
 use Rattle.scenario_run.specs.Runs.{IsRunText, IsLoadText}
 

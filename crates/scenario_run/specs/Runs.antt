@@ -16,10 +16,10 @@ use Rattle.law_runs.specs.Plannable.{ArePlannable, own_of}
 use Rattle.plant_run.specs.Runs.{own_at}
 use Rattle.step_script.specs.declared.script.Script.{Script}
 use Rattle.step_script.specs.Scripts.{program_of, next_of}
-use Rattle.scenario.specs.declared.releases.Releases.{Releases}
-use Rattle.scenario.specs.Scenarios.{IsScenario}
-use Rattle.scenario.specs.Releases.{is_eager}
-use Rattle.scenario.specs.Shown.{Shown, set_of}
+use Rattle.step_script.specs.declared.releases.Releases.{Releases}
+use Rattle.step_script.specs.Scenarios.{IsScenario}
+use Rattle.step_script.specs.Releases.{is_eager}
+use Rattle.step_script.specs.Shown.{Shown, set_of}
 use Rattle.law_runs.specs.Runs.{workload_of}
 use Rattle.scenario_writer.specs.Generated.{generated_of}
 use Rattle.run_report.specs.Report.{report_of}

@@ -3,24 +3,24 @@ ghost use Rattle.std.specs.Prelude.{◌≡◌, ◌⊎◌, IfOk, IfSome, IsErrOf,
 ghost use Rattle.std.specs.Io.KnownBytes.{Keeps};
 ghost use Rattle.io_edge.specs.Causes.{Rose};
 ghost use Rattle.report_text.specs.Texts.{NamesSet};
-ghost use Rattle.report_out.specs.Written.{Wrote, WroteFront};
+ghost use Rattle.scenario_run.specs.Written.{Wrote, WroteFront};
 ghost use Rattle.scenario_run.specs.Runs.{Declares};
 ghost use Rattle.scenario_run.specs.Begun.{AreTasks, AreBegun, HasBegun, IsBegun, BegunText};
 
 use crate::making::{BOARD_ROOM, Bodies, prepared, run_on};
+use crate::report::Report;
+use crate::written::write_run;
 use admitted_core::AdmittedCore;
 use board::Board;
 use io_edge::Sink;
 use lock_core::Core;
-use report_out::{Report, write_run};
 use rt_base::{List, Names, OutOfMemory};
-use run_out::{RunFault, Workers};
-use scenario::Releases;
 use set_admission::AdmittedSet;
+use sim_run::{RunFault, Workers};
 use std::alloc::Global;
 use std::sync::Wait;
 use std::thread::Threads;
-use step_script::Script;
+use step_script::{Releases, Script};
 use txn_set::CompiledSet;
 use txn_threads::Gate;
 

@@ -9,7 +9,7 @@ ghost use Rattle.scenario_run.specs.Ran.{HasOther};
 use crate::compared::first_other;
 use crate::runner::Runner;
 use board::Board;
-use run_out::KeptEntries;
+use sim_run::KeptEntries;
 use step_journal::Entry;
 use step_script::Body;
 

@@ -1,6 +1,6 @@
 //! All that a run over a journal needs, taken before it begins.
 ghost use Rattle.std.specs.Prelude.{◌≡◌, ◌≤◌, [], length, true, vec_capacity, IfOk};
-ghost use Rattle.scenario.specs.Shown.{Shown};
+ghost use Rattle.step_script.specs.Shown.{Shown};
 ghost use Rattle.sim_run.specs.Workloads.{workload};
 ghost use Rattle.job_rows.specs.Upkeep.{Follows};
 ghost use Rattle.report_text.specs.Texts.{NamesSet};

@@ -3,11 +3,11 @@ ghost use Rattle.std.specs.Prelude.{◌≤◌, vec_capacity};
 ghost use Rattle.scenario_run.specs.Outs.{Begun, nothing};
 
 use crate::compared::{first_other, some_from};
-use crate::standing::Standing;
+use crate::standing::JournalStanding;
 use durable_disk::Disk;
 use durable_journal::Log;
 use rt_base::Names;
-use run_out::{EntryOut, Stopped, append};
+use sim_run::{EntryOut, Stopped, append};
 use std::marker::{Brand, PhantomData};
 use step_journal::Entry;
 use txn_set::CompiledSet;
@@ -34,7 +34,7 @@ pub struct JournalOut<'a, D: Disk, T> {
     /// How many entries it takes in all.
     pub room: usize,
     /// Whether it takes pieces.
-    pub standing: Standing,
+    pub standing: JournalStanding,
     pub of: PhantomData<T>,
     ghost places: { room ≤ vec_capacity kept },
 }
@@ -44,7 +44,7 @@ impl<'a, D: Disk, T: Journaled<D>> JournalOut<'a, D, T> {
     ghost use Rattle.step_journal.specs.declared.entry.Entry.{Entry as Noted};
     ghost use Rattle.scenario_run.specs.Compared.{Agree, Begins, IsOtherRecord};
     ghost use Rattle.scenario_run.specs.Outs.{LostAt, other_stops};
-    ghost use Rattle.scenario_run.specs.declared.standing.Standing.TheVariants.{Going};
+    ghost use Rattle.scenario_run.specs.declared.standing.JournalStanding.TheVariants.{Going};
 
     /// An out that has taken nothing yet, over a log and the entries that stood on its disk when it was opened. `kept` is a
     /// place for `room` entries. It takes no memory.
@@ -73,7 +73,7 @@ impl<'a, D: Disk, T: Journaled<D>> JournalOut<'a, D, T> {
             there,
             kept,
             room,
-            standing: Standing::Going,
+            standing: JournalStanding::Going,
             of: PhantomData,
         }
     }
@@ -88,9 +88,9 @@ impl<'a, D: Disk, T: Journaled<D>> JournalOut<'a, D, T> {
         ensures stopped { IsSome result → other_stops self.now.standing ≡ 1 }
     {
         match self.standing {
-            Standing::Going => None,
-            Standing::Faulted => None,
-            Standing::Other { place } => Some((place as u64).saturating_add(1)),
+            JournalStanding::Going => None,
+            JournalStanding::Faulted => None,
+            JournalStanding::Other { place } => Some((place as u64).saturating_add(1)),
         }
     }
 
@@ -138,13 +138,13 @@ impl<'a, D: Disk, T: Journaled<D>> EntryOut for JournalOut<'a, D, T> {
         let place = self.kept.len();
         let known = some_from(&self.there, place, entries.len());
         if let Some(at) = first_other(known, entries) {
-            self.standing = Standing::Other { place: place + at };
+            self.standing = JournalStanding::Other { place: place + at };
             return Err(Stopped);
         }
         let count = known.len();
         let rest = &entries[count..];
         let Ok(()) = self.log.append_all(self.names, self.set, rest) else {
-            self.standing = Standing::Faulted;
+            self.standing = JournalStanding::Faulted;
             return Err(Stopped);
         };
         append(&mut self.kept, entries);

@@ -11,20 +11,19 @@ ghost use Rattle.scenario_run.specs.Replies.{LoadReply};
 
 use crate::begun::Tasks;
 use crate::making::{BOARD_ROOM, Bodies, prepared, run_on};
+use crate::worked::keep_run;
 use board::Board;
 use command_replies::{Reply, compiled, written};
 use lock_core::Core;
 use plant_run::Run;
-use report_out::keep_run;
 use rt_base::OutOfMemory;
-use run_out::Workers;
 use run_report::summary;
-use scenario::Scenario;
 use scenario_writer::generated;
+use sim_run::Workers;
 use std::alloc::Global;
 use std::sync::Wait;
 use std::thread::Threads;
-use step_script::Script;
+use step_script::{Scenario, Script};
 use txn_set::CompiledSet;
 use txn_threads::Gate;
 

@@ -4,7 +4,7 @@ ghost use Rattle.std.specs.List.{sum};
 ghost use Rattle.txn_compiler.specs.Kept.{AreLists};
 ghost use Rattle.txn_compiler.specs.Refusal.{compile_refusal};
 ghost use Rattle.set_admission.specs.Admission.{refusal};
-ghost use Rattle.scenario.specs.Releases.{fixed_ticks, eager_of};
+ghost use Rattle.step_script.specs.Releases.{fixed_ticks, eager_of};
 ghost use Rattle.plant_run.specs.Ready.{CanRun};
 ghost use Rattle.scenario_run.specs.Runs.{Declares, IsReady, asked_by};
 ghost use Rattle.scenario_run.specs.Replies.{IsRefusal};
@@ -15,11 +15,10 @@ use command_replies::{Reply, admitted, compiled, refused_admission, refused_set}
 use item_model::ItemDecl;
 use plant_run::Run;
 use rt_base::{List, Names, OutOfMemory, Tick, TogetherDecl};
-use run_out::Workers;
-use scenario::Releases;
 use set_admission::AdmittedSet;
+use sim_run::Workers;
 use std::alloc::Global;
-use step_script::Script;
+use step_script::{Releases, Script};
 use txn_set::{CompiledSet, TxnDecl};
 
 /// How many entries the board of a run keeps at most.

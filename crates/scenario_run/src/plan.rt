@@ -4,10 +4,10 @@ ghost use Rattle.std.specs.List.{position};
 ghost use Rattle.txn_compiler.specs.Kept.{AreLists};
 ghost use Rattle.txn_compiler.specs.Refusal.{compile_refusal};
 ghost use Rattle.set_admission.specs.Admission.{refusal};
-ghost use Rattle.scenario.specs.Releases.{is_eager};
-ghost use Rattle.scenario.specs.Shown.{shown};
-ghost use Rattle.scenario.specs.Scenarios.{IsScenario};
-ghost use Rattle.process_edge.specs.declared.status.Status.TheVariants as statuses;
+ghost use Rattle.step_script.specs.Releases.{is_eager};
+ghost use Rattle.step_script.specs.Shown.{shown};
+ghost use Rattle.step_script.specs.Scenarios.{IsScenario};
+ghost use Rattle.io_edge.specs.declared.status.Status.TheVariants as statuses;
 ghost use Rattle.scenario_run.specs.JournalReplies.{IsRefusal, JournalReply};
 ghost use Rattle.scenario_run.specs.Plans.{IsPlanOf};
 
@@ -16,9 +16,9 @@ use crate::refusals::{first_eager, refused_eager};
 use command_replies::Reply;
 use item_model::ItemDecl;
 use rt_base::{List, Names, OutOfMemory, TogetherDecl};
-use scenario::{Releases, Scenario};
 use set_admission::AdmittedSet;
 use std::alloc::Global;
+use step_script::{Releases, Scenario};
 use txn_set::TxnDecl;
 
 /// An admitted scenario without an eager transaction.

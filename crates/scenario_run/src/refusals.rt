@@ -1,17 +1,17 @@
 //! The lines of an eager transaction and of a bad record.
 ghost use Rattle.std.specs.Prelude.{◌≡◌, ◌<◌, ◌^◌, length, option_map, IfOk, IfSome};
 ghost use Rattle.std.specs.List.{position};
-ghost use Rattle.scenario.specs.Releases.{is_eager as is_eager_one};
+ghost use Rattle.step_script.specs.Releases.{is_eager as is_eager_one};
 ghost use Rattle.command_replies.specs.Replies.{Refused};
 ghost use Rattle.scenario_run.specs.JournalReplies.{eager_cause, bad_line};
 
 use command_replies::{Reply, refused};
+use io_edge::Status;
 use itoa::Buffer;
-use process_edge::Status;
 use refusal_lines::put_txn;
 use rt_base::{Names, OutOfMemory, TxId};
-use scenario::Releases;
 use std::alloc::Global;
+use step_script::Releases;
 
 fn place_of_eager(releases: &[Releases]) -> Option<usize>
     ensures place { result ≡ position is_eager_one releases.now }

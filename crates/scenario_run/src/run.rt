@@ -2,9 +2,9 @@
 ghost use Rattle.std.specs.Prelude.{◌≡◌, ◌⊎◌, IfOk, IsErrOf, IfSome, true, false, None};
 ghost use Rattle.std.specs.Io.KnownBytes.{Keeps};
 ghost use Rattle.io_edge.specs.Causes.{Rose};
-ghost use Rattle.scenario.specs.Shown.{shown};
-ghost use Rattle.scenario.specs.Scenarios.{IsScenario};
-ghost use Rattle.report_out.specs.Written.{Wrote, WroteFront};
+ghost use Rattle.step_script.specs.Shown.{shown};
+ghost use Rattle.step_script.specs.Scenarios.{IsScenario};
+ghost use Rattle.scenario_run.specs.Written.{Wrote, WroteFront};
 ghost use Rattle.scenario_run.specs.Replies.{RunReply, RunText};
 
 use crate::begun::{Tasks, begun_admitted, begun_trial, run_begun};
@@ -12,11 +12,11 @@ use crate::making::judged;
 use command_replies::{Reply, compiled, refused_set};
 use io_edge::Sink;
 use rt_base::OutOfMemory;
-use run_out::{RunFault, Workers};
-use scenario::Scenario;
+use sim_run::{RunFault, Workers};
 use std::alloc::Global;
 use std::sync::Wait;
 use std::thread::Threads;
+use step_script::Scenario;
 use txn_threads::Gate;
 
 /// Runs a scenario as a trial, by workers, and writes its report: its declarations as one piece, and later lines as they come,

@@ -5,7 +5,7 @@ ghost use Rattle.io_edge.specs.Causes.{HasCause};
 ghost use Rattle.step_journal.specs.declared.entry.Entry.{Entry as Noted};
 ghost use Rattle.step_journal.specs.History.{state_of};
 ghost use Rattle.law_histories.specs.Sim.{IsSim};
-ghost use Rattle.run_out.specs.Outs.{LosesNone};
+ghost use Rattle.sim_run.specs.Outs.{LosesNone};
 ghost use Rattle.sim_run.specs.Handed.{CanTake};
 ghost use Rattle.sim_run.specs.Runs.{IsWhole, IsStopped};
 ghost use Rattle.scenario_run.specs.JournalReady.{CanRun, workload_in};
@@ -13,8 +13,7 @@ ghost use Rattle.scenario_run.specs.JournalReady.{CanRun, workload_in};
 use board::Board;
 use item_model::Items;
 use rt_base::{List, Tick};
-use run_out::{EntryOut, Stopped};
-use sim_run::run;
+use sim_run::{EntryOut, Stopped, run};
 use step_script::Body;
 
 /// A board, and the bodies and the ticks of its transactions, with a serial number for each.

@@ -1,12 +1,12 @@
 //! The fixed releases of a scenario, and its eager jobs.
 ghost use Rattle.std.specs.Prelude.{◌≡◌, ◌≤◌, length, map, IfOk};
 ghost use Rattle.std.specs.List.{All, sum};
-ghost use Rattle.scenario.specs.Releases.{jobs_of, eager_of, ticks_of, total_jobs, fixed_ticks};
-ghost use Rattle.scenario.specs.Scenarios.{HasTextTimes};
+ghost use Rattle.step_script.specs.Releases.{jobs_of, eager_of, ticks_of, total_jobs, fixed_ticks};
+ghost use Rattle.step_script.specs.Scenarios.{HasTextTimes};
 
 use rt_base::{List, OutOfMemory, Tick};
-use scenario::Releases;
 use std::alloc::Global;
+use step_script::Releases;
 use txn_set::TxnDecl;
 
 // So many ticks, each a period after the one before.

@@ -11,7 +11,7 @@ use Rattle.rt_base.specs.declared.ids.TogetherDecl.{TogetherDecl}
 use Rattle.item_model.specs.declared.decl.ItemDecl.{ItemDecl}
 use Rattle.txn_set.specs.declared.decl.TxnDecl.{TxnDecl}
 use Rattle.step_script.specs.Scripts.{Program}
-use Rattle.scenario.specs.declared.releases.Releases.{Releases}
+use Rattle.step_script.specs.declared.releases.Releases.{Releases}
 use Rattle.scenario_writer.specs.Generated.{each, dated_name, dated_item, state_item, txn_name, txn_decl, program, releases_each, generated_of}
 
 pub each_more : {A : Type 0} (f : ℕ → A) (n : ℕ) → each f (n + 1) ≡ each f n ++ f n ∷ []

@@ -9,8 +9,8 @@ use Rattle.rt_base.specs.declared.release.PlanRefused.{PlanRefused}
 use Rattle.rt_base.specs.declared.release.PlanRefused.TheVariants.{TooSoon, TooFar}
 use Rattle.txn_set.specs.declared.decl.TxnDecl.{TxnDecl}
 use Rattle.txn_set.specs.Ceilings.{greatest}
-use Rattle.scenario.specs.declared.releases.Releases.TheVariants.{Jobs}
-use Rattle.scenario.specs.Releases.{total_jobs, eager_jobs, fixed_ticks, ticks_of, refused_tick, refused_from, entries_in}
+use Rattle.step_script.specs.declared.releases.Releases.TheVariants.{Jobs}
+use Rattle.step_script.specs.Releases.{total_jobs, eager_jobs, fixed_ticks, ticks_of, refused_tick, refused_from, entries_in}
 use Rattle.scenario_writer.specs.Generated.{each, txn_decl, releases_each, jobs_each, period_of}
 
 -- ticks a period apart are planned

@@ -11,8 +11,8 @@ use Rattle.txn_set.specs.declared.decl.TxnDecl.{TxnDecl}
 use Rattle.step_script.specs.declared.expr.BinOp.TheVariants.{Add}
 use Rattle.step_script.specs.Values.{leaf_const, leaf_serial, leaf_last, node}
 use Rattle.step_script.specs.Scripts.{Operation, read, write, compute, commit, Program, is_good}
-use Rattle.scenario.specs.Scripts.{steps_of, may_stand, bad_op_after, bad_op, bad_script_from, is_long}
-use Rattle.scenario.specs.Scenarios.{IsTextOp, IsProgramOver}
+use Rattle.step_script.specs.Bodies.{steps_of, may_stand, bad_op_after, bad_op, bad_script_from, is_long}
+use Rattle.step_script.specs.Scenarios.{IsTextOp, IsProgramOver}
 use Rattle.scenario_writer.specs.Generated.{each, item_id, is_even, txn_decl, even_ops, odd_ops, program}
 
 abbrev reads_if : Bool → ℕ → List ItemId

@@ -6,8 +6,8 @@ use Rattle.std.specs.List.{All, AllPairs, list_any}
 use Rattle.std.proofs.lemmas.Bool.{or_cases, or_left, eqb-true, eq-eqb, cases_lt, cases_order, false≢true, eqb-false}
 use Rattle.std.proofs.lemmas.List.{get_or_past}
 use Rattle.std.proofs.lemmas.Option.{slice_get-get_or, slice_get_cases}
-use Rattle.scenario.specs.Scripts.{steps_of}
-use Rattle.scenario.specs.Releases.{total_jobs, entries_in}
+use Rattle.step_script.specs.Bodies.{steps_of}
+use Rattle.step_script.specs.Releases.{total_jobs, entries_in}
 use Rattle.rt_base.specs.declared.ids.ItemId.{ItemId}
 use Rattle.item_model.specs.declared.decl.ItemDecl.{ItemDecl}
 use Rattle.item_model.specs.declared.decl.ItemKind.TheVariants.{Sensor, Derived}
@@ -15,8 +15,8 @@ use Rattle.item_model.specs.Kinds.{is_dated, is_derived, is_derived_decl, is_der
 use Rattle.txn_set.specs.declared.decl.TxnDecl.{TxnDecl}
 use Rattle.txn_set.specs.Set.{Set, txn_of, no_txn, may_read, may_write, HasGoodTimes, AreItemsOf, IsTheWriter, Walk, IsCompiled}
 use Rattle.step_script.specs.Scripts.{Program}
-use Rattle.scenario.specs.Shown.{set_of}
-use Rattle.scenario.specs.Scenarios.{HasValidity, HasTextTimes, IsProgramOver, IsScenario}
+use Rattle.step_script.specs.Shown.{set_of}
+use Rattle.step_script.specs.Scenarios.{HasValidity, HasTextTimes, IsProgramOver, IsScenario}
 use Rattle.scenario_writer.specs.Generated.{each, item_id, is_even, period_of, dated_name, dated_item, state_item, txn_name, txn_decl, program, releases_each, generated_of}
 use Rattle.scenario_writer.proofs.GeneratedNames.{at_each, length_each, length_with, before_last, at_last, item_names, txn_names}
 use Rattle.scenario_writer.proofs.GeneratedReleases.{planned, jobs_in_all, no_eager, room, low_last}

@@ -12,10 +12,10 @@ use Rattle.item_model.specs.Kinds.{validity_of_kind}
 use Rattle.txn_set.specs.declared.decl.TxnDecl.{TxnDecl}
 use Rattle.step_script.specs.Values.{Tree, leaf_const, leaf_sample, leaf_serial, leaf_last, node}
 use Rattle.step_script.specs.Scripts.{Operation, read, write, compute, commit, quit, Program, depth, reads_below, is_good}
-use Rattle.scenario.specs.declared.releases.Releases.{Releases}
-use Rattle.scenario.specs.declared.releases.Releases.TheVariants.{At, Jobs, Eager}
-use Rattle.scenario.specs.Shown.{Shown}
-use Rattle.scenario.specs.Scenarios.{IsScenario}
+use Rattle.step_script.specs.declared.releases.Releases.{Releases}
+use Rattle.step_script.specs.declared.releases.Releases.TheVariants.{At, Jobs, Eager}
+use Rattle.step_script.specs.Shown.{Shown}
+use Rattle.step_script.specs.Scenarios.{IsScenario}
 use Rattle.serde_json.specs.Data.{Data, array, object, number, string, unsigned, Items, no_items, item, Members, no_members, member, items_depth, members_depth}
 use Rattle.serde_json.specs.Data as data_of
 use Rattle.serde_json.specs.View.{items_of}

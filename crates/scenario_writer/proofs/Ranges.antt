@@ -6,10 +6,10 @@ use Rattle.std.proofs.lemmas.List.{length-map, get_or-map, drop_all}
 use Rattle.txn_set.specs.declared.decl.TxnDecl.{TxnDecl}
 use Rattle.step_script.specs.declared.script.Script.{Script}
 use Rattle.step_script.specs.Scripts.{Program, program_of, is_good}
-use Rattle.scenario.specs.Shown.{Shown}
-use Rattle.scenario.specs.Scripts.{steps_of, is_long}
-use Rattle.scenario.specs.Scenarios.{IsScenario}
-use Rattle.scenario.specs.declared.releases.Releases.{Releases}
+use Rattle.step_script.specs.Shown.{Shown}
+use Rattle.step_script.specs.Bodies.{steps_of, is_long}
+use Rattle.step_script.specs.Scenarios.{IsScenario}
+use Rattle.step_script.specs.declared.releases.Releases.{Releases}
 use Rattle.scenario_writer.specs.Canonical.{written}
 use Rattle.scenario_writer.specs.Writable.{AreWritable}
 use Rattle.scenario_writer.proofs.Loops.{next}

@@ -7,7 +7,7 @@ use Rattle.std.proofs.lemmas.Bool.{and_parts}
 use Rattle.std.proofs.lemmas.Bool.Decides.{nat_tests}
 use Rattle.std.specs.List.{All, list_all}
 use Rattle.step_script.specs.declared.script.ScriptOp.{ScriptOp}
-use Rattle.scenario.specs.Scripts.{steps_of}
+use Rattle.step_script.specs.Bodies.{steps_of}
 use Rattle.step_script.specs.Scripts.{Operation, operation, read, write, compute, commit, quit, is_good, width}
 use Rattle.serde_json.specs.Data.{Data}
 use Rattle.json.specs.Token.{begin_array, end_array}

@@ -5,9 +5,9 @@ use Rattle.json.specs.Written.{Written}
 use Rattle.serde_json.specs.Data.{Data, object, no_members, member}
 use Rattle.step_script.specs.Scripts.{Program}
 use Rattle.txn_set.specs.declared.decl.TxnDecl.{TxnDecl}
-use Rattle.scenario.specs.Shown.{Shown}
-use Rattle.scenario.specs.declared.releases.Releases.{Releases}
-use Rattle.scenario.specs.declared.releases.Releases.TheVariants.{At, Jobs, Eager}
+use Rattle.step_script.specs.Shown.{Shown}
+use Rattle.step_script.specs.declared.releases.Releases.{Releases}
+use Rattle.step_script.specs.declared.releases.Releases.TheVariants.{At, Jobs, Eager}
 use Rattle.scenario_writer.specs.Canonical.{whole, array_of, optional, items_data, sets_data, txns_in, txn_data, is_second, canonical_as, canonical}
 use Rattle.scenario_writer.specs.Sent.{Adds, Sends, Field, SendsFields, field, members_of, optional_field, head_fields, number_fields, list_fields}
 use Rattle.scenario_writer.proofs.Sending.{then_fields, all_put, object_sent}

@@ -12,12 +12,12 @@ use Rattle.step_script.specs.declared.expr.BinOp.{BinOp}
 use Rattle.step_script.specs.declared.expr.BinOp.TheVariants.{Add, Sub, Mul, Div, Min, Max}
 use Rattle.step_script.specs.Values.{Tree, leaf_const, leaf_sample, leaf_serial, leaf_last, node}
 use Rattle.step_script.specs.Scripts.{Operation, read, write, compute, commit, quit, Program}
-use Rattle.scenario.specs.declared.releases.Releases.{Releases}
-use Rattle.scenario.specs.declared.releases.Releases.TheVariants.{At, Jobs, Eager}
+use Rattle.step_script.specs.declared.releases.Releases.{Releases}
+use Rattle.step_script.specs.declared.releases.Releases.TheVariants.{At, Jobs, Eager}
 use Rattle.serde_json.specs.Data.{Data, number, string, array, object, unsigned, no_items, item, Members, no_members, member}
 use Rattle.serde_json.specs.Find.{of_integer}
 use Rattle.serde_json.specs.View.{items_of}
-use Rattle.scenario.specs.Shown.{Shown}
+use Rattle.step_script.specs.Shown.{Shown}
 
 -- Parts.
 

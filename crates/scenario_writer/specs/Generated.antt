@@ -9,9 +9,9 @@ use Rattle.txn_set.specs.declared.decl.TxnDecl.{TxnDecl}
 use Rattle.step_script.specs.declared.expr.BinOp.TheVariants.{Add}
 use Rattle.step_script.specs.Values.{leaf_const, leaf_serial, leaf_last, node}
 use Rattle.step_script.specs.Scripts.{Operation, read, write, compute, commit, Program}
-use Rattle.scenario.specs.declared.releases.Releases.{Releases}
-use Rattle.scenario.specs.declared.releases.Releases.TheVariants.{Jobs}
-use Rattle.scenario.specs.Shown.{Shown}
+use Rattle.step_script.specs.declared.releases.Releases.{Releases}
+use Rattle.step_script.specs.declared.releases.Releases.TheVariants.{Jobs}
+use Rattle.step_script.specs.Shown.{Shown}
 
 abbrev pub item_id : ℕ → ItemId
 item_id n = record { 0 = n }

@@ -4,7 +4,7 @@ use Rattle.std.specs.Int.{w64}
 use Rattle.std.specs.List.{All}
 use Rattle.step_script.specs.Values.{Tree, leaf_const, leaf_sample, leaf_serial, leaf_last, node}
 use Rattle.step_script.specs.Scripts.{Operation, read, write, compute, commit, quit, Program}
-use Rattle.scenario.specs.Shown.{Shown}
+use Rattle.step_script.specs.Shown.{Shown}
 
 abbrev pub IsI64 : ℤ → Type 0
 IsI64 z = FitsSigned w64 z

@@ -2,7 +2,7 @@
 use Rattle.std.specs.Prelude.{◌≡◌, ℕ, List, [], ◌∷◌, ◌++◌, map, codes, Bool, Option, Some, None}
 use Rattle.txn_set.specs.declared.decl.TxnDecl.{TxnDecl}
 use Rattle.step_script.specs.Scripts.{Program}
-use Rattle.scenario.specs.declared.releases.Releases.{Releases}
+use Rattle.step_script.specs.declared.releases.Releases.{Releases}
 use Rattle.json.specs.Token.{Token}
 use Rattle.json.specs.Tree.{json_tokens}
 use Rattle.json.specs.Written.{Written}

@@ -3,8 +3,8 @@ use Rattle.std.specs.Prelude.{◌≡◌, ◌≤◌, ◌<◌, ℕ, List, length, 
 use Rattle.std.specs.List.{All, list_all}
 use Rattle.txn_set.specs.declared.decl.TxnDecl.{TxnDecl}
 use Rattle.step_script.specs.Scripts.{Program, is_good}
-use Rattle.scenario.specs.Scripts.{steps_of}
-use Rattle.scenario.specs.declared.releases.Releases.{Releases}
+use Rattle.step_script.specs.Bodies.{steps_of}
+use Rattle.step_script.specs.declared.releases.Releases.{Releases}
 
 -- transactions with as many names, scripts and releases, over so many item names: their items have names, and their
 -- scripts are good and of 10,000 operations at most

@@ -4,15 +4,14 @@ ghost use Rattle.std.specs.List.{All, list_all};
 ghost use Rattle.rt_base.specs.Names.{is_letter};
 ghost use Rattle.step_script.specs.Scripts.{operation, program_of, IsTold, is_good};
 ghost use Rattle.txn_set.specs.Set.{IsCompiled};
-ghost use Rattle.scenario.specs.Shown.{shown, set_of};
-ghost use Rattle.scenario.specs.Scenarios.{IsScenario};
+ghost use Rattle.step_script.specs.Shown.{shown, set_of};
+ghost use Rattle.step_script.specs.Scenarios.{IsScenario};
 ghost use Rattle.scenario_writer.specs.Generated.{item_id, generated_of, is_even as is_even_number, period_of, dated_name as name_of_dated, dated_item as dated_decl, state_item, txn_name, txn_decl as decl_of_txn, even_ops, odd_ops, program, releases_each, each};
 
 use item_model::{ItemDecl, ItemKind};
 use rt_base::{ItemId, List, Name, Names, OutOfMemory};
-use scenario::{Releases, Scenario};
 use std::alloc::Global;
-use step_script::{BinOp, Expr, Script, ScriptOp};
+use step_script::{BinOp, Expr, Releases, Scenario, Script, ScriptOp};
 use txn_set::TxnDecl;
 
 const JOBS_EACH: u32 = 256;

@@ -4,7 +4,7 @@ ghost use Rattle.std.specs.List.{All, list_all};
 ghost use Rattle.serde_json.specs.Data.{Data};
 ghost use Rattle.step_script.specs.Values.{tree};
 ghost use Rattle.step_script.specs.Scripts.{Operation, operation, reads_below, is_good, width};
-ghost use Rattle.scenario.specs.Scripts.{steps_of};
+ghost use Rattle.step_script.specs.Bodies.{steps_of};
 ghost use Rattle.scenario_writer.specs.Canonical.{whole, one as one_member, item_word, op_word as word_of_op, expr_data, op_data, script_data, write_data};
 ghost use Rattle.scenario_writer.specs.Integers.{HasConstants, OpHasConstants};
 ghost use Rattle.scenario_writer.specs.Runs.{run_data, run_before, computes_of};

@@ -4,8 +4,8 @@ ghost use Rattle.std.specs.List.{All, list_any};
 ghost use Rattle.step_script.specs.Scripts.{program_of};
 ghost use Rattle.serde_json.specs.Read.{read};
 ghost use Rattle.serde_json.specs.Written.{compact_text};
-ghost use Rattle.scenario.specs.Shown.{shown};
-ghost use Rattle.scenario.specs.Scenarios.{IsScenario};
+ghost use Rattle.step_script.specs.Shown.{shown};
+ghost use Rattle.step_script.specs.Scenarios.{IsScenario};
 ghost use Rattle.scenario_writer.specs.Canonical.{array_of, items_data, is_second as is_second_text, txns_in, sets_data, canonical};
 ghost use Rattle.scenario_writer.specs.Integers.{IsI64, ProgramHasIntegers, HasIntegers};
 ghost use Rattle.scenario_writer.specs.Sent.{Sends, SendsFields, field, optional_field};
@@ -15,8 +15,8 @@ use crate::object::{begin_object, end_object, key, put_whole};
 use crate::txns::txns;
 use json::Writer;
 use rt_base::OutOfMemory;
-use scenario::Scenario;
 use std::alloc::Global;
+use step_script::Scenario;
 use txn_set::TxnDecl;
 
 // The room that a text begins with, for each transaction.

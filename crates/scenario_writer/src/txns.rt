@@ -2,9 +2,9 @@
 ghost use Rattle.std.specs.Prelude.{◌≡◌, ◌≤◌, ◌<◌, [], ◌∷◌, ◌++◌, OnOk, IsTrue, codes, map, length};
 ghost use Rattle.std.specs.List.{All, list_all};
 ghost use Rattle.step_script.specs.Scripts.{program_of, is_good};
-ghost use Rattle.scenario.specs.Scripts.{steps_of};
-ghost use Rattle.scenario.specs.Shown.{shown};
-ghost use Rattle.scenario.specs.Scenarios.{IsScenario};
+ghost use Rattle.step_script.specs.Bodies.{steps_of};
+ghost use Rattle.step_script.specs.Shown.{shown};
+ghost use Rattle.step_script.specs.Scenarios.{IsScenario};
 ghost use Rattle.scenario_writer.specs.Canonical.{whole as whole_data, integer as integer_data, array_of, ticks_data, jobs_data, eager_data, quiet_data, script_data, txn_data, written, txns_in};
 ghost use Rattle.scenario_writer.specs.Integers.{IsI64, OpHasConstants, ProgramHasIntegers};
 ghost use Rattle.scenario_writer.specs.Writable.{AreWritable};
@@ -17,8 +17,7 @@ use crate::object::{
 use crate::script::script;
 use json::Writer;
 use rt_base::{Name, OutOfMemory};
-use scenario::{Releases, Scenario};
-use step_script::Script;
+use step_script::{Releases, Scenario, Script};
 use txn_set::TxnDecl;
 
 fn samples(out: &mut Writer, samples: &[i64]) -> Result<(), OutOfMemory>

@@ -3,3 +3,5 @@ pub mod Marks
 pub mod Seen
 pub mod Lanes
 pub mod Shown
+pub mod Places
+pub mod Svg

@@ -4,8 +4,8 @@ use Rattle.txn_set.specs.Set.{Set}
 use Rattle.step_journal.specs.declared.entry.Entry.{Entry}
 use Rattle.job_rows.specs.declared.row.JobRow.{JobRow}
 use Rattle.schedule_marks.specs.declared.part.Part.{Part}
-use Rattle.schedule_marks.specs.declared.shown.Limits.{Limits}
-use Rattle.schedule_marks.specs.declared.shown.Shown.{Shown}
+use Rattle.schedule_marks.specs.declared.showing.Limits.{Limits}
+use Rattle.schedule_marks.specs.declared.showing.Shown.{Shown}
 use Rattle.schedule_marks.specs.Marks.{marks_of}
 use Rattle.schedule_marks.specs.Lanes.{bounds_of, age_spans_of, age_reads_of}
 

@@ -1,9 +1,8 @@
 //! The program that draws a part of a schedule: a report in, a picture out.
 #![tactic(auto)]
 
-use io_edge::{StdSink, StdSource};
+use io_edge::{StdSink, StdSource, exit_code, words_of};
 use picture_command::{Status, draw_report};
-use process_edge::{exit_code, words_of};
 use rt_base::OutOfMemory;
 use std::env;
 use std::process::ExitCode;

@@ -8,3 +8,4 @@ pub mod Handing
 pub mod Exist
 pub mod Whole
 pub mod Steady
+pub mod Taking

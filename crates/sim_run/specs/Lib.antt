@@ -4,3 +4,6 @@ pub mod Handed
 pub mod Runs
 pub mod Steady
 pub mod Boards
+pub mod Kept
+pub mod Outs
+pub mod Workers

@@ -1,4 +1,5 @@
-//! The run of a workload on one board and one thread, whose entries go to an out as they come.
+//! The run of a workload on one board and one thread; where a run's entries go, as they come, why it has no whole report, and
+//! how many workers run it.
 #![tactic(auto)]
 
 ghost use Rattle.std.specs.Prelude.{◌≡◌, ◌≢◌, ℕ, ◌+◌, ◌<◌, ◌≤◌, [], ◌∷◌, ◌++◌, false, IsTrue, None, Some, map, length, slice_get, IfOk, OnErr};
@@ -14,15 +15,23 @@ ghost use Rattle.step_journal.specs.Serial.{outcomes_of};
 ghost use Rattle.law_histories.specs.Sim.{IsSim, plans_from};
 ghost use Rattle.sim_run.specs.Workloads.{workload, AreAccepted, IsObedient};
 ghost use Rattle.sim_run.specs.Turns.{CanAsk, HasAsked, CanTurn, HasTurned};
-ghost use Rattle.run_out.specs.Outs.{StaysGood, LosesNone};
+ghost use Rattle.sim_run.specs.Outs.{StaysGood, LosesNone};
 ghost use Rattle.sim_run.specs.Boards.{IsFixed};
 ghost use Rattle.sim_run.specs.Handed.{CanAppend, CanTake, IsHanded, IsCut, IsReady};
 ghost use Rattle.sim_run.specs.Runs.{IsWhole, IsStopped, RunsExist, StoriesGoOn};
 
+mod fault;
+mod kept;
+mod out;
+mod workers;
+
 use board::{Board, IdleReply};
+pub use fault::RunFault;
+pub use kept::{KeptEntries, append};
+pub use out::{EntryOut, Stopped};
 use rt_base::{JobId, List, Op, Outcome, Tick, TxId};
-use run_out::{EntryOut, Stopped};
 use step_script::Body;
+pub use workers::Workers;
 
 /// How many entries are handed on at a time.
 pub const PIECE: usize = 1024;

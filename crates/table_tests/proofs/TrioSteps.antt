@@ -8,8 +8,8 @@ use Rattle.ceiling_table.specs.Held.{HasItem}
 use Rattle.txn_set.specs.Set.{Set}
 use Rattle.step_journal.specs.State.{Row, row_of, new_row}
 use Rattle.step_journal.specs.Instant.{with_row}
-use Rattle.pending_jobs.specs.Rows.{Accesses, PendingSeen, AreFactsOf, AreRows, IsDeclared, accesses_of, accesses_at, no_access, rows_stepped, rows_waiting, rows_ended}
-use Rattle.pending_jobs.specs.Waiting.{MayWait}
+use Rattle.core_tables.specs.Rows.{Accesses, PendingSeen, AreFactsOf, AreRows, IsDeclared, accesses_of, accesses_at, no_access, rows_stepped, rows_waiting, rows_ended}
+use Rattle.core_tables.specs.Waiting.{MayWait}
 use Rattle.table_tests.specs.Trio.{x, trio, read_row, read_rows, both_rows, trio_txns, trio_stored, first_job, no_rows, written_row, high_row, written_rows}
 
 pub opened : (set : Set) (p : PendingSeen) → set ≡ trio → AreRows set p (map (λ t. None) set.txns) → AreRows trio p no_rows

@@ -1,11 +1,11 @@
 //! Worked steps of two readers and a writer of one state item.
 ghost use Rattle.std.specs.Prelude.{◌≡◌, IfOk};
-ghost use Rattle.pending_jobs.specs.Rows.{AreRows};
+ghost use Rattle.core_tables.specs.Rows.{AreRows};
 ghost use Rattle.table_tests.specs.Trio.{trio as trio_of, trio_stored, no_rows, written_rows, read_rows, last_rows};
 
 use crate::trio::trio;
+use core_tables::{Blocker, Pending};
 use item_model::{Items, Stored};
-use pending_jobs::{Blocker, Pending};
 use rt_base::{ItemId, JobId, Op, OutOfMemory, TxId, Value};
 use std::alloc::Global;
 

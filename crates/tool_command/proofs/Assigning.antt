@@ -7,7 +7,7 @@ use Rattle.txn_compiler.specs.Refusal.{compile_refusal}
 use Rattle.txn_compiler.specs.declared.error.CompileError.{CompileError}
 use Rattle.set_admission.specs.Admission.{refusal}
 use Rattle.set_admission.specs.declared.error.AdmitError.{AdmitError}
-use Rattle.scenario.specs.Shown.{Shown, set_of}
+use Rattle.step_script.specs.Shown.{Shown, set_of}
 use Rattle.law_times.specs.Assigned.{with_prios}
 use Rattle.law_times.proofs.Moving.{with-length}
 use Rattle.law_times.specs.Pass.{prio_at, pass, pass_to}
@@ -17,8 +17,8 @@ use Rattle.txn_priorities.specs.declared.refusal.NoAssignment.{NoAssignment}
 use Rattle.txn_priorities.specs.Limits.{limit}
 use Rattle.txn_priorities.specs.Answers.{IsRefusal}
 use Rattle.report_text.specs.Texts.{NamesSet}
-use Rattle.process_edge.specs.declared.status.Status.{Status}
-use Rattle.process_edge.specs.declared.status.Status.TheVariants as statuses
+use Rattle.io_edge.specs.declared.status.Status.{Status}
+use Rattle.io_edge.specs.declared.status.Status.TheVariants as statuses
 use Rattle.command_replies.specs.Texts.{refused_line}
 use Rattle.command_replies.specs.Replies.{Reply, Compiling, Admitting}
 use Rattle.tool_command.specs.Priorities.{level_cause, unplaced_lines, GivenReply, Solves, Sticks, Assigning, PriorityReply}

@@ -7,7 +7,7 @@ use Rattle.txn_compiler.specs.declared.error.CompileError.{CompileError}
 use Rattle.txn_compiler.specs.Refusal.{compile_refusal}
 use Rattle.set_admission.specs.declared.error.AdmitError.{AdmitError}
 use Rattle.set_admission.specs.Admission.{refusal}
-use Rattle.scenario.specs.Shown.{Shown, set_of}
+use Rattle.step_script.specs.Shown.{Shown, set_of}
 use Rattle.scenario_reader.specs.declared.error.ScenarioError.{ScenarioError}
 use Rattle.scenario_reader.specs.Reading.{data_of, scenario_in}
 use Rattle.law_times.specs.Assigned.{with_prios}
@@ -19,8 +19,8 @@ use Rattle.run_report.specs.declared.verdict.Verdict.TheVariants.{Legal, BadLine
 use Rattle.run_report.specs.declared.judged.LegalReport.{LegalReport}
 use Rattle.scenario_check.specs.declared.found.Refusal.{Refusal}
 use Rattle.scenario_check.specs.Findings.{CheckReply, status_of as checked_status}
-use Rattle.process_edge.specs.declared.status.Status.{Status}
-use Rattle.process_edge.specs.declared.status.Status.TheVariants as statuses
+use Rattle.io_edge.specs.declared.status.Status.{Status}
+use Rattle.io_edge.specs.declared.status.Status.TheVariants as statuses
 use Rattle.command_replies.specs.Replies.{Reply, Written, Compiling, Admitting}
 use Rattle.command_replies.specs.Verdicts.{status_of}
 use Rattle.command_replies.specs.Taken.{report_limit, TakesAll, InputReply}

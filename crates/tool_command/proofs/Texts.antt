@@ -2,9 +2,9 @@
 use Rattle.std.proofs.Common.{◌≡◌, ℕ, ◌+◌, Option, ap, ◌∙◌}
 use Rattle.set_admission.specs.declared.error.AdmitError.{AdmitError}
 use Rattle.txn_set.specs.Set.{Set}
-use Rattle.txn_slack.specs.declared.limits.Slack.{Slack}
-use Rattle.txn_slack.specs.Steps.{barrier_within}
-use Rattle.txn_slack.specs.Slacks.{IsSlack}
+use Rattle.scale_margin.specs.declared.limits.Slack.{Slack}
+use Rattle.scale_margin.specs.Steps.{barrier_within}
+use Rattle.scale_margin.specs.Slacks.{IsSlack}
 use Rattle.tool_command.specs.Slacks.{slack_at}
 
 abbrev made : ℕ → ℕ → Option AdmitError → Slack

@@ -1,8 +1,8 @@
 -- What the program answers, and what it does to its source and its sink.
 use Rattle.std.specs.Prelude.{◌≡◌, ℕ, List, length, nat_lt, codes, Option, Some, None}
 use Rattle.scenario_reader.specs.Reading.{data_of}
-use Rattle.process_edge.specs.declared.status.Status.{Status}
-use Rattle.process_edge.specs.declared.status.Status.TheVariants as statuses
+use Rattle.io_edge.specs.declared.status.Status.{Status}
+use Rattle.io_edge.specs.declared.status.Status.TheVariants as statuses
 use Rattle.command_replies.specs.Replies.{Reply}
 use Rattle.command_replies.specs.Taken.{scenario_limit, report_limit, TakesAll, TakesNone, InputReply}
 use Rattle.command_replies.specs.Scenarios.{DataReply}

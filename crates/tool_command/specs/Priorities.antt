@@ -5,7 +5,7 @@ use Rattle.rt_base.specs.declared.name.Names.{Names}
 use Rattle.txn_set.specs.Set.{Set}
 use Rattle.txn_compiler.specs.Refusal.{compile_refusal}
 use Rattle.set_admission.specs.Admission.{refusal}
-use Rattle.scenario.specs.Shown.{Shown, set_of}
+use Rattle.step_script.specs.Shown.{Shown, set_of}
 use Rattle.law_times.specs.Assigned.{with_prios}
 use Rattle.law_times.specs.Pass.{prio_at, pass, pass_to, IsStuck}
 use Rattle.law_times.specs.Laws.{IsSolved, NoneKeeps}
@@ -15,8 +15,8 @@ use Rattle.txn_priorities.specs.Answers.{unplaced}
 use Rattle.run_report.specs.Bounds.{admitted_of}
 use Rattle.report_text.specs.Rows.{numbered}
 use Rattle.refusal_lines.specs.Causes.{number, txn}
-use Rattle.process_edge.specs.declared.status.Status.{Status}
-use Rattle.process_edge.specs.declared.status.Status.TheVariants as statuses
+use Rattle.io_edge.specs.declared.status.Status.{Status}
+use Rattle.io_edge.specs.declared.status.Status.TheVariants as statuses
 use Rattle.command_replies.specs.Texts.{refused_line}
 use Rattle.command_replies.specs.Replies.{Reply, Written, Compiling, Admitting}
 

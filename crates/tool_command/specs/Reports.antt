@@ -3,7 +3,7 @@ use Rattle.std.specs.Prelude.{ℕ, List}
 use Rattle.command_replies.specs.Replies.{Reply, Written}
 use Rattle.run_report.specs.declared.judged.LegalReport.{LegalReport}
 use Rattle.run_report.specs.Judged.{set_in, is_admitted}
-use Rattle.report_summary.specs.Texts.{summary_of}
+use Rattle.report_export.specs.Texts.{summary_of}
 use Rattle.report_export.specs.Whole.{json_of, table_of}
 
 abbrev pub summary_in : LegalReport → List ℕ

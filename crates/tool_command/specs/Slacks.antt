@@ -6,12 +6,12 @@ use Rattle.txn_set.specs.Set.{Set, txn_of}
 use Rattle.txn_compiler.specs.Refusal.{compile_refusal}
 use Rattle.set_admission.specs.declared.error.AdmitError.{AdmitError}
 use Rattle.set_admission.specs.Admission.{refusal}
-use Rattle.scenario.specs.Shown.{Shown, set_of}
-use Rattle.txn_slack.specs.declared.limits.Slack.{Slack}
-use Rattle.txn_slack.specs.declared.limits.Spare.{Spare}
-use Rattle.txn_slack.specs.Steps.{barrier_within}
-use Rattle.txn_slack.specs.Slacks.{most_steps}
-use Rattle.txn_slack.specs.Spares.{spare_of}
+use Rattle.step_script.specs.Shown.{Shown, set_of}
+use Rattle.scale_margin.specs.declared.limits.Slack.{Slack}
+use Rattle.scale_margin.specs.declared.limits.Spare.{Spare}
+use Rattle.scale_margin.specs.Steps.{barrier_within}
+use Rattle.scale_margin.specs.Slacks.{most_steps}
+use Rattle.scale_margin.specs.Spares.{spare_of}
 use Rattle.report_text.specs.Rows.{numbered}
 use Rattle.refusal_lines.specs.Causes.{word, number, txn, item, admit_cause}
 use Rattle.command_replies.specs.Replies.{Reply, Written, Compiling, Admitting}

@@ -9,7 +9,7 @@ use crate::command::ToolCommand;
 use crate::line::parsed;
 use clap::ArgMatches;
 use clap::error::ErrorKind;
-use process_edge::Word;
+use io_edge::Word;
 use rt_base::OutOfMemory;
 use std::alloc::Global;
 

@@ -13,5 +13,5 @@ mod top;
 
 pub use asked::read_command;
 pub use command::ToolCommand;
-pub use process_edge::{Status, Word};
+pub use io_edge::{Status, Word};
 pub use top::rtdb_tool;

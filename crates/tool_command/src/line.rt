@@ -7,7 +7,7 @@ ghost use Rattle.command_words.specs.Shape.{IsLine};
 ghost use Rattle.tool_command.specs.Shape.{checking, tool};
 
 use clap::{Arg, ArgAction, ArgMatches, Command, Error};
-use process_edge::Word;
+use io_edge::Word;
 use std::alloc::{AllocError, Global};
 
 fn check_line<'a>(alloc: Global) -> Result<Command<'a>, AllocError>

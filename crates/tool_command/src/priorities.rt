@@ -1,7 +1,7 @@
 //! The reply of `priorities` to a scenario.
 ghost use Rattle.std.specs.Prelude.{◌≡◌, IfOk, IfErr};
-ghost use Rattle.scenario.specs.Shown.{shown};
-ghost use Rattle.scenario.specs.Scenarios.{IsScenario};
+ghost use Rattle.step_script.specs.Shown.{shown};
+ghost use Rattle.step_script.specs.Scenarios.{IsScenario};
 ghost use Rattle.law_times.specs.Pass.{pass};
 ghost use Rattle.law_times.specs.Laws.{IsSolved, NoneKeeps};
 ghost use Rattle.txn_priorities.specs.Limits.{limit};
@@ -13,13 +13,13 @@ use crate::priority_lines::{level_cause, prio_text, put_unplaced};
 use command_replies::{
     Reply, admitted, compiled, refused, refused_admission, refused_set, written,
 };
-use process_edge::Status;
+use io_edge::Status;
 use rt_base::{Names, OutOfMemory, Prio, Steps};
 use run_report::admit_text;
-use scenario::Scenario;
 use std::alloc::Global;
 use std::marker::Brand;
 use std::sync::ledger::{Blank, Ledger};
+use step_script::Scenario;
 use txn_compiler::CompiledSet;
 use txn_priorities::{NoAssignment, assign, with_priorities};
 

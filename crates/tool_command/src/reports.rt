@@ -18,9 +18,9 @@ pub(crate) fn summary(alloc: Global, report: &LegalReport) -> Result<Vec<u8>, Ou
     let names = report.names.names();
     let entries = report.entries.as_slice();
     match &report.set {
-        ReportedSet::Trial(set) => report_summary::summary(alloc, names, set, None, entries),
+        ReportedSet::Trial(set) => report_export::summary(alloc, names, set, None, entries),
         ReportedSet::Admitted(set) => {
-            report_summary::summary(alloc, names, set.set(), Some(set), entries)
+            report_export::summary(alloc, names, set.set(), Some(set), entries)
         }
     }
 }

@@ -1,15 +1,15 @@
 //! The lines of slacks and spares.
 ghost use Rattle.std.specs.Prelude.{◌≡◌, ◌<◌, ◌++◌, length, IfOk, OnOk};
 ghost use Rattle.refusal_lines.specs.Causes.{item as item_word};
-ghost use Rattle.txn_slack.specs.Spares.{spare_of};
+ghost use Rattle.scale_margin.specs.Spares.{spare_of};
 ghost use Rattle.tool_command.specs.Slacks.{barrier_line, barrier_text, slack_at, slack_line, slack_lines as lines_of_slack, slack_text as text_of, slacks_of, spare_line, spares_of};
 
 use refusal_lines::{put_admit_cause, put_number, put_txn};
 use rt_base::{ItemId, Names, OutOfMemory, Steps, TxId};
+use scale_margin::{Slack, Spare, slack, spare};
 use set_admission::{AdmitError, AdmittedSet};
 use std::alloc::Global;
 use std::sync::ledger::Ledger;
-use txn_slack::{Slack, Spare, slack, spare};
 
 fn put_item(out: &mut Vec<u8>, names: &Names, item: ItemId) -> Result<(), OutOfMemory>
     ensures { OnOk result (out.new.items ≡ out.old.items ++ item_word names.now item) }

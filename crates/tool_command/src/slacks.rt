@@ -1,17 +1,17 @@
 //! The reply of `slack` to a scenario.
 ghost use Rattle.std.specs.Prelude.{◌≡◌, IfOk};
-ghost use Rattle.scenario.specs.Shown.{shown};
-ghost use Rattle.scenario.specs.Scenarios.{IsScenario};
+ghost use Rattle.step_script.specs.Shown.{shown};
+ghost use Rattle.step_script.specs.Scenarios.{IsScenario};
 ghost use Rattle.tool_command.specs.Slacks.{slack_text as text_of, SlackReply};
 
 use crate::slack_lines::slack_text;
 use command_replies::{Reply, admitted, compiled, refused_admission, refused_set, written};
 use rt_base::{Names, OutOfMemory, Steps};
-use scenario::Scenario;
 use set_admission::AdmittedSet;
 use std::alloc::Global;
 use std::marker::Brand;
 use std::sync::ledger::{Blank, Ledger};
+use step_script::Scenario;
 
 // The text of a set. The looks of the searches are counted by a counter of its own.
 fn text<L: Ledger>(

@@ -13,8 +13,7 @@ use crate::slacks::slacks;
 use command_replies::{
     Reply, SCENARIO_LIMIT, Unanswered, refused, report_from, scenario_from, written,
 };
-use io_edge::{ReadError, Sink, Source, read_all, write_all};
-use process_edge::{Status, Word};
+use io_edge::{ReadError, Sink, Source, Status, Word, read_all, write_all};
 use rt_base::OutOfMemory;
 use scenario_check::check;
 use std::alloc::Global;

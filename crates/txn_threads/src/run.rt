@@ -2,7 +2,7 @@
 ghost use Rattle.std.specs.Prelude.{◌≡◌, ◌<◌, ◌≤◌, All, None, [], length, IfOk, IfErr, IfSome, IfNone, vec_capacity, true, false};
 ghost use Rattle.step_journal.specs.History.{IsLegal};
 ghost use Rattle.shared_plant.specs.Seats.{IsOf};
-ghost use Rattle.run_out.specs.Outs.{StaysGood, IsEmptied};
+ghost use Rattle.sim_run.specs.Outs.{StaysGood, IsEmptied};
 ghost use Rattle.io_edge.specs.Causes.{Rose};
 ghost use Rattle.txn_threads.specs.Rounds.{Each, WorkerSits, WorkerRan};
 ghost use Rattle.txn_threads.specs.Runs.{MayRun, HasRun, IsDone, Operated, GotMore, MayDrain, FirstHalt, HaltIs, StopIs, run_stop, IfStopped, Collected, CollectedTo, part, Cleared, WorkerCleared, NoMembers};
@@ -14,8 +14,8 @@ use crate::places::{Homes, Places};
 use crate::round::{Came, go_on, has_plans, round};
 use board::Board;
 use rt_base::TxId;
-use run_out::{EntryOut, Stopped};
 use shared_plant::Plant;
+use sim_run::{EntryOut, Stopped};
 use std::sync::Wait;
 use std::thread;
 use std::thread::Threads;

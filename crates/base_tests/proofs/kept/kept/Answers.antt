@@ -1,5 +1,5 @@
 use Rattle.std.proofs.Common.{rules, ◌≡◌, ◌+◌, ◌≤◌, [], length}
-use Rattle.run_out.proofs.Taking.{second_fits}
+use Rattle.sim_run.proofs.Taking.{second_fits}
 use Rattle.base_tests.proofs.kept.kept.Goals as goal
 
 pub put-second-requires-clause-fine : goal.put-second-requires-clause-fine

@@ -1,7 +1,7 @@
 use Rattle.std.proofs.Common.{◌∙◌, List, ℕ, arith, subst}
-use Rattle.durable_records.specs.Records.{HasFirst, Reads}
-use Rattle.durable_records.specs.Standing.{Stands}
-use Rattle.durable_records.proofs.Calls.{at_rest}
+use Rattle.durable_disk.specs.Records.{HasFirst, Reads}
+use Rattle.durable_disk.specs.Standing.{Stands}
+use Rattle.durable_disk.proofs.Calls.{at_rest}
 use Rattle.durable_journal.specs.Format.{bodies_of, entry_bodies}
 use Rattle.durable_journal.specs.Log.{HasSome}
 use Rattle.durable_journal.proofs.Crash.{weaken}

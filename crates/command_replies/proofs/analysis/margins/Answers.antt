@@ -1,6 +1,6 @@
 use Rattle.std.proofs.Common.{◌≡◌, None, sym, ap, ◌∙◌}
 use Rattle.txn_compiler.specs.Refusal.{compile_refusal}
-use Rattle.scenario.specs.Shown.{Shown, shown, set_of}
+use Rattle.step_script.specs.Shown.{Shown, shown, set_of}
 use Rattle.refusal_lines.specs.Lines.{margin_of}
 use Rattle.command_replies.specs.Analysis.{margin_at}
 use Rattle.command_replies.proofs.Replying.{taken}

@@ -1,5 +1,5 @@
 use Rattle.std.proofs.Common.{◌≡◌, None, ap, ◌∙◌}
-use Rattle.scenario.specs.Shown.{Shown, shown, set_of}
+use Rattle.step_script.specs.Shown.{Shown, shown, set_of}
 use Rattle.update_rates.specs.RatedSet.{rated_set}
 use Rattle.update_rates.specs.Refusal.{rate_refusal}
 use Rattle.refusal_lines.specs.Lines.{rates_of}

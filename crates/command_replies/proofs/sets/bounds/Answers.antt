@@ -1,7 +1,7 @@
 use Rattle.std.proofs.Common.{◌≡◌, None, sym, ap, ◌∙◌}
 use Rattle.txn_compiler.specs.Refusal.{compile_refusal}
 use Rattle.set_admission.specs.Admission.{refusal}
-use Rattle.scenario.specs.Shown.{Shown, shown, set_of}
+use Rattle.step_script.specs.Shown.{Shown, shown, set_of}
 use Rattle.run_report.specs.Bounds.{admitted_of}
 use Rattle.command_replies.proofs.Replying.{taken, bounds_reply}
 use Rattle.command_replies.proofs.sets.bounds.Goals as goal

@@ -1,7 +1,7 @@
 use Rattle.std.proofs.Common.{length}
 use Rattle.txn_set.specs.Set.{Set}
 use Rattle.step_journal.specs.State.{pending}
-use Rattle.pending_jobs.specs.Rows.{AreFactsOf}
+use Rattle.core_tables.specs.Rows.{AreFactsOf}
 use Rattle.core_tables.specs.Arriving.{CanCancel}
 use Rattle.core_tables.proofs.Cancels.{Cancelling}
 use Rattle.core_tables.proofs.arrive.cancel.Given as goal

@@ -3,8 +3,8 @@ use Rattle.std.specs.List.{AllPairs}
 use Rattle.txn_set.specs.Set.{txn_of}
 use Rattle.item_model.specs.declared.decl.ItemDecl.{ItemDecl}
 use Rattle.strict_commit.specs.Jobs.{unwritten_of}
-use Rattle.pending_jobs.specs.Rows.{Accesses}
-use Rattle.pending_jobs.specs.declared.head.Head.{Head}
+use Rattle.core_tables.specs.Rows.{Accesses}
+use Rattle.core_tables.specs.declared.head.Head.{Head}
 use Rattle.core_tables.specs.Changes.{denied}
 use Rattle.txn_set.specs.declared.decl.TxnDecl.{TxnDecl}
 use Rattle.core_tables.proofs.Refusals.{reads_of, writes_of, commit_denied, accesses_are}

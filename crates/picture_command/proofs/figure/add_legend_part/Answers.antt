@@ -1,6 +1,6 @@
 use Rattle.std.proofs.Common.{codes, ◌++◌, ◌≡◌}
 use Rattle.picture_command.specs.Page.{closing, lower, opening}
-use Rattle.picture_places.specs.Svg.{rect}
+use Rattle.schedule_marks.specs.Svg.{rect}
 use Rattle.picture_text.specs.Legend.{arrows, legend, style}
 use Rattle.picture_command.proofs.Sums.{back}
 use Rattle.picture_command.proofs.figure.add_legend_part.Goals as goal

@@ -1,5 +1,5 @@
 use Rattle.std.proofs.Common.{codes, ◌++◌, ◌≡◌}
-use Rattle.picture_places.specs.Svg.{counted}
+use Rattle.schedule_marks.specs.Svg.{counted}
 use Rattle.picture_command.proofs.Sums.{back}
 use Rattle.picture_command.proofs.figure.add_opening.Goals as goal
 

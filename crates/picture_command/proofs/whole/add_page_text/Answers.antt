@@ -1,5 +1,5 @@
 use Rattle.std.proofs.Common.{◌≡◌, ◌++◌, OnOk, subst}
-use Rattle.picture_places.specs.declared.view.View.{View}
+use Rattle.schedule_marks.specs.declared.view.View.{View}
 use Rattle.picture_command.specs.Page.{page_of}
 use Rattle.picture_command.proofs.whole.add_page_text.Goals as goal
 

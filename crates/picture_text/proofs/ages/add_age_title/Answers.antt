@@ -1,7 +1,7 @@
 use Rattle.std.proofs.Common.{[], codes, decimal, rules, slice_get, ◌++◌, ◌+◌, ◌-◌, ◌≡◌}
 use Rattle.journal_text.specs.Ids.{name_at}
-use Rattle.picture_places.specs.Places.{item_y, validity_in}
-use Rattle.picture_places.specs.Svg.{fitting, line, words}
+use Rattle.schedule_marks.specs.Places.{item_y, validity_in}
+use Rattle.schedule_marks.specs.Svg.{fitting, line, words}
 use Rattle.picture_text.specs.Ages.{bound_word}
 use Rattle.picture_text.proofs.Sums.{back}
 use Rattle.picture_text.proofs.ages.add_age_title.Goals as goal

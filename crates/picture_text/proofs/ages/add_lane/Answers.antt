@@ -1,6 +1,6 @@
 use Rattle.std.proofs.Common.{codes, rules, slice_get, ◌++◌, ◌+◌, ◌≡◌}
-use Rattle.picture_places.specs.Places.{item_y}
-use Rattle.picture_places.specs.Svg.{line}
+use Rattle.schedule_marks.specs.Places.{item_y}
+use Rattle.schedule_marks.specs.Svg.{line}
 use Rattle.picture_text.specs.Ages.{bound_rule}
 use Rattle.picture_text.proofs.Sums.{back}
 use Rattle.picture_text.proofs.ages.add_lane.Goals as goal

@@ -1,5 +1,5 @@
 use Rattle.std.proofs.Common.{codes, ◌++◌, ◌≡◌}
-use Rattle.picture_places.specs.Svg.{counted}
+use Rattle.schedule_marks.specs.Svg.{counted}
 use Rattle.picture_text.proofs.Sums.{back}
 use Rattle.picture_text.proofs.frame.add_head.Goals as goal
 

@@ -1,5 +1,5 @@
 use Rattle.std.proofs.Common.{codes, rules, ◌++◌, ◌+◌, ◌≡◌}
-use Rattle.picture_places.specs.Svg.{line}
+use Rattle.schedule_marks.specs.Svg.{line}
 use Rattle.picture_text.specs.Texts.{right}
 use Rattle.picture_text.proofs.Sums.{back}
 use Rattle.picture_text.proofs.frame.add_row.Goals as goal

@@ -1,5 +1,5 @@
 use Rattle.std.proofs.Common.{[], codes, ◌++◌, ◌≡◌}
-use Rattle.picture_places.specs.Svg.{line, rect, words}
+use Rattle.schedule_marks.specs.Svg.{line, rect, words}
 use Rattle.picture_text.proofs.Sums.{back}
 use Rattle.picture_text.proofs.legend.add_ages_legend.Goals as goal
 

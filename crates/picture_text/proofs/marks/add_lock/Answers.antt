@@ -1,6 +1,6 @@
 use Rattle.std.proofs.Common.{[], codes, rules, ◌++◌, ◌+◌, ◌-◌, ◌≡◌}
-use Rattle.picture_places.specs.Places.{x_of}
-use Rattle.picture_places.specs.Svg.{fitting}
+use Rattle.schedule_marks.specs.Places.{x_of}
+use Rattle.schedule_marks.specs.Svg.{fitting}
 use Rattle.picture_text.specs.Texts.{lock_class, span}
 use Rattle.picture_text.proofs.Sums.{back}
 use Rattle.picture_text.proofs.marks.add_lock.Goals as goal

@@ -1,5 +1,5 @@
 use Rattle.std.proofs.Common.{[], codes, decimal, ◌++◌, ◌+◌, ◌≡◌}
-use Rattle.picture_places.specs.Svg.{line, words}
+use Rattle.schedule_marks.specs.Svg.{line, words}
 use Rattle.picture_text.proofs.Sums.{back}
 use Rattle.picture_text.proofs.titles.add_title.Goals as goal
 

@@ -1,7 +1,7 @@
 use Rattle.std.proofs.Common.{ℕ, List, ap, ◌∙◌, [], codes, rules, ◌++◌, ◌+◌, ◌-◌, ◌≡◌}
 use Rattle.journal_text.specs.Ids.{name_at}
-use Rattle.picture_places.specs.Places.{level_y, y_of}
-use Rattle.picture_places.specs.Svg.{words}
+use Rattle.schedule_marks.specs.Places.{level_y, y_of}
+use Rattle.schedule_marks.specs.Svg.{words}
 use Rattle.picture_text.specs.Texts.{lane_titles, row_title}
 use Rattle.txn_set.specs.Set.{txn_of}
 use Rattle.picture_text.proofs.Sums.{back, same_title}

@@ -1,5 +1,5 @@
 use Rattle.std.proofs.Common.{◌≡◌, ◌++◌, ℕ, List, OnOk, subst}
-use Rattle.picture_places.specs.declared.view.View.{View}
+use Rattle.schedule_marks.specs.declared.view.View.{View}
 use Rattle.picture_text.specs.Texts.{picture_of}
 use Rattle.picture_text.proofs.whole.add_picture_of.Goals as goal
 

@@ -1,7 +1,7 @@
 use Rattle.std.proofs.Common.{rules, ◌≡◌, true, false, Some, sym, subst}
-use Rattle.scenario.specs.Shown.{Shown, shown}
-use Rattle.report_out.specs.Written.{WroteFront}
-use Rattle.run_out.specs.declared.fault.RunFault.TheVariants.{Writing, Memory}
+use Rattle.step_script.specs.Shown.{Shown, shown}
+use Rattle.scenario_run.specs.Written.{WroteFront}
+use Rattle.sim_run.specs.declared.fault.RunFault.TheVariants.{Writing, Memory}
 use Rattle.command_words.specs.declared.command.Command.TheVariants.{Run}
 use Rattle.std.specs.Prelude.{Bool, IsErrOf, ◌⊎◌}
 use Rattle.std.specs.Io.KnownBytes.{Keeps}

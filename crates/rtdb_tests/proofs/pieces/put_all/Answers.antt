@@ -1,9 +1,9 @@
 use Rattle.std.proofs.Common.{ap, subst}
 use Rattle.txn_set.specs.Set.{Set}
 use Rattle.job_rows.specs.Upkeep.{Follows}
-use Rattle.report_out.specs.Outs.{Begun, OutSeen, seen}
-use Rattle.report_out.proofs.Taking.{opens}
-use Rattle.report_out.proofs.Pieces.{fronts_legal, all_going, both_ok}
+use Rattle.scenario_run.specs.ReportOuts.{Begun, OutSeen, seen}
+use Rattle.scenario_run.proofs.Taking.{opens}
+use Rattle.scenario_run.proofs.Pieces.{fronts_legal, all_going, both_ok}
 use Rattle.rtdb_tests.proofs.pieces.put_all.Goals as goal
 
 pub put_pieces-requires-clause-nothing : goal.put_pieces-requires-clause-nothing

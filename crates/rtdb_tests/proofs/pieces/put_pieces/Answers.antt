@@ -1,5 +1,5 @@
 use Rattle.std.proofs.Common.{rules, take, sym, subst}
-use Rattle.report_out.proofs.Pieces.{take_piece}
+use Rattle.scenario_run.proofs.Pieces.{take_piece}
 use Rattle.rtdb_tests.proofs.pieces.put_pieces.Goals as goal
 
 pub put-requires-clause-fine : goal.put-requires-clause-fine

@@ -1,5 +1,5 @@
 use Rattle.std.proofs.Common.{◌≡◌, ◌++◌}
-use Rattle.scenario.specs.Shown.{shown}
+use Rattle.step_script.specs.Shown.{shown}
 use Rattle.scenario_check.specs.Warnings.{below, of_txn}
 use Rattle.scenario_check.proofs.listing.put_txns.Given as goal
 

@@ -1,6 +1,6 @@
 use Rattle.std.proofs.Common.{◌≡◌, ltb, map, drop}
 use Rattle.step_script.specs.Scripts.{operation}
-use Rattle.scenario.specs.Scripts.{steps_of}
+use Rattle.step_script.specs.Bodies.{steps_of}
 use Rattle.scenario_check.proofs.scripts.is_longer.Given as goal
 
 abbrev pub invariant-loop-op : goal.invariant-loop-op

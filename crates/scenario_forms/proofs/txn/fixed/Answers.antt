@@ -1,6 +1,6 @@
 use Rattle.std.proofs.Common.{ℕ, List, Ok, Result, sym, ap, ◌∙◌}
 use Rattle.std.proofs.lemmas.Result.{err_from_is_err_and}
-use Rattle.scenario.specs.declared.releases.Releases.TheVariants.{At}
+use Rattle.step_script.specs.declared.releases.Releases.TheVariants.{At}
 use Rattle.scenario_forms.specs.declared.error.FormError.{FormError}
 use Rattle.scenario_forms.specs.Reading.{◌>>=◌}
 use Rattle.serde_json.specs.View.{view, items_view}

@@ -1,5 +1,5 @@
 use Rattle.std.proofs.Common.{◌≡◌, ℕ, ◌≤◌, ap, ◌∙◌, arith}
-use Rattle.scenario.specs.Releases.{jobs_of, entries_of}
+use Rattle.step_script.specs.Releases.{jobs_of, entries_of}
 use Rattle.scenario_reader.proofs.Counting.{few_at, entries_few, entries_more}
 use Rattle.scenario_reader.proofs.plans.all_entries.Goals as goal
 

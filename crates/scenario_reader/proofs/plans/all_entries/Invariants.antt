@@ -1,5 +1,5 @@
 use Rattle.std.proofs.Common.{◌≡◌, ◌+◌, drop}
-use Rattle.scenario.specs.Releases.{entries_in}
+use Rattle.step_script.specs.Releases.{entries_in}
 use Rattle.scenario_reader.proofs.plans.all_entries.Given as goal
 
 abbrev pub invariant-loop-tx : goal.invariant-loop-tx

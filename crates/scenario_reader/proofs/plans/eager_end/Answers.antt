@@ -1,8 +1,8 @@
 use Rattle.std.proofs.Common.{ℕ, ◌≤◌, ◌^◌, List, map, sym, ap, subst, ◌∙◌, arith}
 use Rattle.txn_set.specs.declared.decl.TxnDecl.{TxnDecl}
 use Rattle.txn_set.specs.Ceilings.{greatest}
-use Rattle.scenario.specs.declared.releases.Releases.{Releases}
-use Rattle.scenario.specs.Releases.{fixed_ticks}
+use Rattle.step_script.specs.declared.releases.Releases.{Releases}
+use Rattle.step_script.specs.Releases.{fixed_ticks}
 use Rattle.scenario_reader.proofs.Counting.{fixed_near, product_below}
 use Rattle.scenario_reader.proofs.plans.eager_end.Goals as goal
 

@@ -1,5 +1,5 @@
 use Rattle.std.proofs.Common.{◌≡◌, ◌+◌, drop}
-use Rattle.scenario.specs.Releases.{eager_jobs}
+use Rattle.step_script.specs.Releases.{eager_jobs}
 use Rattle.scenario_reader.proofs.plans.eager_jobs.Given as goal
 
 abbrev pub invariant-loop-one : goal.invariant-loop-one

@@ -1,5 +1,5 @@
 use Rattle.std.proofs.Common.{◌≡◌, drop}
-use Rattle.scenario.specs.Releases.{refused_from}
+use Rattle.step_script.specs.Releases.{refused_from}
 use Rattle.scenario_reader.proofs.plans.first_refused.Given as goal
 
 abbrev pub invariant-loop-tx : goal.invariant-loop-tx

@@ -1,6 +1,6 @@
 use Rattle.std.proofs.Common.{◌≡◌, drop, map, max}
 use Rattle.txn_set.specs.Ceilings.{greatest}
-use Rattle.scenario.specs.Releases.{fixed_ticks}
+use Rattle.step_script.specs.Releases.{fixed_ticks}
 use Rattle.scenario_reader.proofs.plans.last_of_all.Given as goal
 
 abbrev pub invariant-loop-tx : goal.invariant-loop-tx

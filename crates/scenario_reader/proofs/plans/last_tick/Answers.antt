@@ -1,6 +1,6 @@
 use Rattle.std.proofs.Common.{arith, sym, ◌∙◌}
 use Rattle.scenario_reader.proofs.Counting.{greatest_end, tick_count}
-use Rattle.scenario.specs.Releases.{ticks_of}
+use Rattle.step_script.specs.Releases.{ticks_of}
 use Rattle.scenario_reader.proofs.plans.last_tick.Goals as goal
 
 pub returns : goal.returns

@@ -1,7 +1,7 @@
 use Rattle.std.proofs.Common.{ℕ, ◌+◌, ◌∷◌, List, drop, arith, sym, ap, ◌∙◌}
 use Rattle.std.proofs.lemmas.List.{drop_more}
 use Rattle.scenario_reader.proofs.Counting.{refused_end, tick_count, stops_at}
-use Rattle.scenario.specs.Releases.{ticks_of, refused_tick}
+use Rattle.step_script.specs.Releases.{ticks_of, refused_tick}
 use Rattle.scenario_reader.proofs.plans.refused_in.Goals as goal
 
 pub returns-in-Some : goal.returns-in-Some

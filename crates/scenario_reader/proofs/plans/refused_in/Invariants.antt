@@ -1,5 +1,5 @@
 use Rattle.std.proofs.Common.{◌≡◌, drop}
-use Rattle.scenario.specs.Releases.{refused_tick, ticks_of}
+use Rattle.step_script.specs.Releases.{refused_tick, ticks_of}
 use Rattle.scenario_reader.proofs.plans.refused_in.Given as goal
 
 abbrev pub invariant-loop-index : goal.invariant-loop-index

@@ -1,5 +1,5 @@
 use Rattle.std.proofs.Common.{◌≡◌, ◌+◌, ◌-◌, ◌^◌, ◌<◌, min, drop}
-use Rattle.scenario.specs.Releases.{total_jobs}
+use Rattle.step_script.specs.Releases.{total_jobs}
 use Rattle.scenario_reader.proofs.plans.total_jobs.Given as goal
 
 abbrev pub invariant-loop-one : goal.invariant-loop-one

@@ -1,9 +1,9 @@
 use Rattle.std.proofs.Common.{length, ◌<◌, ◌^◌, sym, subst, ◌∙◌}
 use Rattle.std.specs.List.{All}
 use Rattle.scenario_forms.specs.Root.{forms_view}
-use Rattle.scenario.specs.Shown.{Shown}
-use Rattle.scenario.specs.Releases.{total_jobs}
-use Rattle.scenario.specs.Scenarios.{HasTextTimes, IsProgramOver}
+use Rattle.step_script.specs.Shown.{Shown}
+use Rattle.step_script.specs.Releases.{total_jobs}
+use Rattle.step_script.specs.Scenarios.{HasTextTimes, IsProgramOver}
 use Rattle.scenario_reader.proofs.Making.{good_scripts, programs_over, text_times, scripts_match, few_txns}
 use Rattle.scenario_reader.proofs.read.of_forms.Goals as goal
 

@@ -1,6 +1,6 @@
 use Rattle.std.proofs.Common.{◌≡◌, length, map, drop}
 use Rattle.step_script.specs.Scripts.{program_of}
-use Rattle.scenario.specs.Scripts.{bad_script_from}
+use Rattle.step_script.specs.Bodies.{bad_script_from}
 use Rattle.scenario_reader.specs.Walks.{IsSized}
 use Rattle.scenario_reader.proofs.scripts.first_bad.Given as goal
 

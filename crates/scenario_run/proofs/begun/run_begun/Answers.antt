@@ -1,9 +1,9 @@
 use Rattle.std.proofs.Common.{refl, sym, ap, subst, ◌∙◌}
-use Rattle.report_out.proofs.Parts.{wrote_of, front_of, kept_or_front}
-use Rattle.report_out.proofs.Wholes.{on_ok}
-use Rattle.report_out.specs.Eager.{IsRunTextBy}
+use Rattle.scenario_run.proofs.Parts.{wrote_of, front_of, kept_or_front}
+use Rattle.scenario_run.proofs.Wholes.{on_ok}
+use Rattle.scenario_run.specs.Eager.{IsRunTextBy}
 use Rattle.plant_run.specs.Runs.{own_at}
-use Rattle.report_out.specs.Opened.{IsOpened}
+use Rattle.scenario_run.specs.Opened.{IsOpened}
 use Rattle.sim_run.specs.Workloads.{workload}
 use Rattle.txn_set.specs.Set.{Set}
 use Rattle.scenario_run.specs.Begun.{BegunText}

@@ -7,7 +7,7 @@ use Rattle.sim_run.specs.Workloads.{workload}
 use Rattle.job_rows.specs.Upkeep.{Follows}
 use Rattle.report_text.specs.Texts.{NamesSet}
 use Rattle.run_report.specs.Report.{opening_text}
-use Rattle.report_out.proofs.Plans.{planned_sim}
+use Rattle.scenario_run.proofs.Plans.{planned_sim}
 use Rattle.scenario_run.specs.Runs.{asked_by, functions_of}
 use Rattle.scenario_run.proofs.Started.{names_set}
 use Rattle.scenario_run.proofs.Ready.{own_few, functions_same}

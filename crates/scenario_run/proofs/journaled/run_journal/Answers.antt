@@ -1,4 +1,4 @@
-use Rattle.scenario.specs.Shown.{Shown, shown}
+use Rattle.step_script.specs.Shown.{Shown, shown}
 use Rattle.command_replies.specs.declared.reply.Reply.{Reply}
 use Rattle.command_replies.proofs.Replying.{taken}
 use Rattle.scenario_run.proofs.Summaries.{refused_by}

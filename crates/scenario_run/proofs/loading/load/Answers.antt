@@ -1,6 +1,6 @@
 use Rattle.std.proofs.Common.{◌≡◌, Some, map, refl}
-use Rattle.scenario.specs.Shown.{Shown, shown, set_of}
-use Rattle.scenario.specs.Releases.{fixed_ticks, eager_of}
+use Rattle.step_script.specs.Shown.{Shown, shown, set_of}
+use Rattle.step_script.specs.Releases.{fixed_ticks, eager_of}
 use Rattle.txn_compiler.specs.Refusal.{compile_refusal}
 use Rattle.command_replies.proofs.Replying.{taken}
 use Rattle.scenario_run.specs.Runs.{Declares}

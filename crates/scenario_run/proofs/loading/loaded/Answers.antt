@@ -1,7 +1,7 @@
 use Rattle.std.proofs.Common.{◌≡◌, ℕ, List, map, refl, sym, ap, subst, ◌∙◌, arith}
 use Rattle.std.proofs.lemmas.Result.{IfOk-weaker}
 use Rattle.plant_run.specs.Runs.{own_at}
-use Rattle.scenario.specs.Releases.{fixed_ticks, eager_of}
+use Rattle.step_script.specs.Releases.{fixed_ticks, eager_of}
 use Rattle.txn_set.specs.Set.{Set, IsCompiled}
 use Rattle.scenario_run.specs.Runs.{functions_of, IsReady, IsSummaryBy}
 use Rattle.scenario_run.proofs.Started.{room_as}

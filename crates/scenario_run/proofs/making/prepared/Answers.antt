@@ -1,5 +1,5 @@
 use Rattle.std.proofs.Common.{rules, ◌≡◌, map}
-use Rattle.scenario.specs.Releases.{fixed_ticks, eager_of}
+use Rattle.step_script.specs.Releases.{fixed_ticks, eager_of}
 use Rattle.scenario_run.proofs.Ready.{ready}
 use Rattle.scenario_run.proofs.making.prepared.Goals as goal
 

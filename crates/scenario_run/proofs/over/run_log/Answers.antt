@@ -5,7 +5,7 @@ use Rattle.law_histories.specs.Sim.{Workload}
 use Rattle.sim_run.specs.Workloads.{workload}
 use Rattle.scenario_run.specs.Ran.{IsKept}
 use Rattle.txn_set.specs.Set.{Set}
-use Rattle.durable_records.specs.Standing.{RecordsSeen}
+use Rattle.durable_disk.specs.Standing.{RecordsSeen}
 use Rattle.scenario_run.specs.Outs.{IsGoing}
 use Rattle.scenario_run.proofs.Outs.{kept_run, going_first, whole_left, behind_left, fault_left, other_left, moved_run, some_is}
 use Rattle.scenario_run.proofs.over.run_log.Goals as goal

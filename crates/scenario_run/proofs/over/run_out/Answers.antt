@@ -3,7 +3,7 @@ use Rattle.txn_set.specs.Set.{Set}
 use Rattle.law_histories.specs.Sim.{Workload}
 use Rattle.sim_run.specs.Workloads.{workload}
 use Rattle.scenario_run.specs.Outs.{Begun}
-use Rattle.report_out.proofs.Handing.{on_err}
+use Rattle.scenario_run.proofs.Handing.{on_err}
 use Rattle.scenario_run.proofs.Outs.{Got, made, none_got, can_take, got_front}
 use Rattle.scenario_run.proofs.over.run_out.Goals as goal
 

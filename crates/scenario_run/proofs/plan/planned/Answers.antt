@@ -1,8 +1,8 @@
 use Rattle.std.proofs.Common.{List, length, subst, ◌∙◌, ap}
 use Rattle.std.specs.List.{position}
-use Rattle.scenario.specs.declared.releases.Releases.{Releases}
-use Rattle.scenario.specs.Releases.{is_eager}
-use Rattle.scenario.specs.Shown.{Shown, shown, set_of}
+use Rattle.step_script.specs.declared.releases.Releases.{Releases}
+use Rattle.step_script.specs.Releases.{is_eager}
+use Rattle.step_script.specs.Shown.{Shown, shown, set_of}
 use Rattle.scenario_run.proofs.Summaries.{refused_by}
 use Rattle.scenario_run.specs.JournalReplies.{IsRefusal}
 use Rattle.scenario_run.proofs.Refusing.{turned_away}

@@ -1,8 +1,8 @@
 use Rattle.std.proofs.Common.{◌≡◌, None, true, refl}
 use Rattle.txn_compiler.specs.Refusal.{compile_refusal}
-use Rattle.scenario.specs.Shown.{Shown, shown, set_of}
-use Rattle.report_out.proofs.Parts.{wrote_of, front_of, kept_or_front}
-use Rattle.process_edge.specs.declared.status.Status.TheVariants as statuses
+use Rattle.step_script.specs.Shown.{Shown, shown, set_of}
+use Rattle.scenario_run.proofs.Parts.{wrote_of, front_of, kept_or_front}
+use Rattle.io_edge.specs.declared.status.Status.TheVariants as statuses
 use Rattle.command_replies.proofs.Replying.{taken}
 use Rattle.scenario_run.specs.Runs.{Declares}
 use Rattle.scenario_run.specs.Replies.{RunText}

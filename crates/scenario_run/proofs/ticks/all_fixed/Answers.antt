@@ -1,5 +1,5 @@
 use Rattle.std.proofs.Common.{◌<◌, length, refl, arith}
-use Rattle.scenario.proofs.Counts.{few_at}
+use Rattle.step_script.proofs.Counts.{few_at}
 use Rattle.scenario_run.proofs.ticks.all_fixed.Goals as goal
 
 pub fixed-requires-clause-few : goal.fixed-requires-clause-few

@@ -1,5 +1,5 @@
 use Rattle.std.proofs.Common.{◌≡◌, ◌++◌, drop}
-use Rattle.scenario.specs.Releases.{fixed_ticks}
+use Rattle.step_script.specs.Releases.{fixed_ticks}
 use Rattle.scenario_run.proofs.ticks.all_fixed.Given as goal
 
 abbrev pub invariant-loop-i : goal.invariant-loop-i

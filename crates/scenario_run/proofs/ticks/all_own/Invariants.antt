@@ -1,5 +1,5 @@
 use Rattle.std.proofs.Common.{◌≡◌, ◌++◌, drop, map}
-use Rattle.scenario.specs.Releases.{eager_of}
+use Rattle.step_script.specs.Releases.{eager_of}
 use Rattle.scenario_run.proofs.ticks.all_own.Given as goal
 
 abbrev pub invariant-loop-list : goal.invariant-loop-list

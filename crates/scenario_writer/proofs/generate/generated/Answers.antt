@@ -1,7 +1,7 @@
 use Rattle.std.proofs.Common.{◌∙◌, subst, sym}
 use Rattle.txn_set.specs.Set.{IsCompiled}
-use Rattle.scenario.specs.Shown.{Shown, set_of}
-use Rattle.scenario.specs.Scenarios.{IsScenario}
+use Rattle.step_script.specs.Shown.{Shown, set_of}
+use Rattle.step_script.specs.Scenarios.{IsScenario}
 use Rattle.scenario_writer.proofs.GeneratedSet.{generated_is, generated_compiles}
 use Rattle.scenario_writer.proofs.Each.{made}
 use Rattle.scenario_writer.proofs.generate.generated.Goals as goal

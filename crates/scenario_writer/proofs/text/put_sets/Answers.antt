@@ -1,5 +1,5 @@
 use Rattle.std.proofs.Common.{rules}
-use Rattle.scenario.specs.Shown.{shown}
+use Rattle.step_script.specs.Shown.{shown}
 use Rattle.scenario_writer.proofs.Ranges.{sets_below}
 use Rattle.scenario_writer.proofs.text.put_sets.Goals as goal
 

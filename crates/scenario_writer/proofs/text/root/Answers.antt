@@ -1,5 +1,5 @@
 use Rattle.std.proofs.lemmas.Result.{on_ok_weaker}
-use Rattle.scenario.specs.Shown.{shown}
+use Rattle.step_script.specs.Shown.{shown}
 use Rattle.scenario_writer.specs.Integers.{ProgramHasIntegers}
 use Rattle.scenario_writer.proofs.Ranges.{all_programs}
 use Rattle.scenario_writer.proofs.Whole.{whole_scenario}

@@ -1,6 +1,6 @@
 use Rattle.std.proofs.Common.{◌≤◌, ◌∙◌, arith}
 use Rattle.serde_json.specs.Data.{depth}
-use Rattle.scenario.specs.Shown.{shown}
+use Rattle.step_script.specs.Shown.{shown}
 use Rattle.scenario_writer.specs.Canonical.{canonical}
 use Rattle.scenario_writer.proofs.Plain.{canonical_plain}
 use Rattle.scenario_writer.proofs.Sending.{text_sent, read_sent}

@@ -2,7 +2,7 @@ use Rattle.std.proofs.Common.{OnOk, List, map, ap, subst}
 use Rattle.std.specs.List.{All}
 use Rattle.step_script.specs.declared.script.Script.{Script}
 use Rattle.step_script.specs.Scripts.{program_of}
-use Rattle.scenario.specs.Shown.{shown}
+use Rattle.step_script.specs.Shown.{shown}
 use Rattle.scenario_writer.specs.Integers.{ProgramHasIntegers}
 use Rattle.scenario_writer.proofs.Ranges.{writable_as}
 use Rattle.scenario_writer.proofs.txns.txns.Goals as goal

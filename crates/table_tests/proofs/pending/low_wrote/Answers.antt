@@ -1,5 +1,5 @@
 use Rattle.std.proofs.Common.{refl, arith, pos, length, ap, sym, ◌∙◌}
-use Rattle.pending_jobs.specs.Rows.{PendingSeen}
+use Rattle.core_tables.specs.Rows.{PendingSeen}
 use Rattle.rt_base.specs.declared.operation.Op.TheVariants.{Write}
 use Rattle.step_journal.specs.State.{new_row}
 use Rattle.table_tests.specs.Trio.{first_job, no_rows, x}

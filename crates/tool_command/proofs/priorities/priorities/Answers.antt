@@ -1,6 +1,6 @@
 use Rattle.std.proofs.Common.{◌≡◌, None, sym, subst, ◌∙◌}
 use Rattle.txn_compiler.specs.Refusal.{compile_refusal}
-use Rattle.scenario.specs.Shown.{Shown, shown, set_of}
+use Rattle.step_script.specs.Shown.{Shown, shown, set_of}
 use Rattle.law_times.specs.Pass.{pass}
 use Rattle.law_times.specs.Laws.{IsSolved}
 use Rattle.txn_priorities.specs.Limits.{limit}

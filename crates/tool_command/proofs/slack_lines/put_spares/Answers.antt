@@ -1,8 +1,8 @@
 use Rattle.std.proofs.Common.{Option, ◌++◌, ap, ◌∙◌}
 use Rattle.item_model.specs.declared.decl.ItemDecl.{ItemDecl}
 use Rattle.report_text.proofs.RowLaws.{next_row, no_item}
-use Rattle.txn_slack.specs.declared.limits.Spare.{Spare}
-use Rattle.txn_slack.specs.Spares.{spare_of}
+use Rattle.scale_margin.specs.declared.limits.Spare.{Spare}
+use Rattle.scale_margin.specs.Spares.{spare_of}
 use Rattle.tool_command.specs.Slacks.{spare_line}
 use Rattle.tool_command.proofs.slack_lines.put_spares.Goals as goal
 

@@ -1,6 +1,6 @@
 use Rattle.std.proofs.Common.{◌≡◌, ◌++◌, drop}
 use Rattle.report_text.specs.Rows.{numbered}
-use Rattle.txn_slack.specs.Spares.{spare_of}
+use Rattle.scale_margin.specs.Spares.{spare_of}
 use Rattle.tool_command.specs.Slacks.{spare_line, spares_of}
 use Rattle.tool_command.proofs.slack_lines.put_spares.Given as goal
 

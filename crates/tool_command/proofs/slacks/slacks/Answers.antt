@@ -1,7 +1,7 @@
 use Rattle.std.proofs.Common.{◌≡◌, None, sym, ap, ◌∙◌}
 use Rattle.txn_compiler.specs.Refusal.{compile_refusal}
 use Rattle.set_admission.specs.Admission.{refusal}
-use Rattle.scenario.specs.Shown.{Shown, shown, set_of}
+use Rattle.step_script.specs.Shown.{Shown, shown, set_of}
 use Rattle.command_replies.proofs.Replying.{taken}
 use Rattle.tool_command.specs.Slacks.{slack_text}
 use Rattle.tool_command.proofs.Replying.{slack_reply}

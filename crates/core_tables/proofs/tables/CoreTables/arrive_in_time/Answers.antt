@@ -1,7 +1,7 @@
 use Rattle.std.proofs.Common.{◌≡◌, [], ap, sym, subst, refl}
 use Rattle.std.specs.List.{fold}
 use Rattle.txn_set.specs.Set.{Set}
-use Rattle.pending_jobs.specs.Rows.{AreFactsOf}
+use Rattle.core_tables.specs.Rows.{AreFactsOf}
 use Rattle.core_tables.specs.Seen.{TablesSeen}
 use Rattle.core_tables.specs.Changes.{late_jobs, tally_late}
 use Rattle.core_tables.proofs.Arrived.{arrive_releases, arrives}

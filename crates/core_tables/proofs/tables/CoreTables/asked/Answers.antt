@@ -1,5 +1,5 @@
 use Rattle.std.proofs.Common.{ap, arith}
-use Rattle.pending_jobs.specs.declared.head.Head.{Head}
+use Rattle.core_tables.specs.declared.head.Head.{Head}
 use Rattle.core_tables.proofs.Places.{places}
 use Rattle.core_tables.proofs.Planned.{at_view}
 use Rattle.core_tables.proofs.Refusals.{asked_row, asked_item}

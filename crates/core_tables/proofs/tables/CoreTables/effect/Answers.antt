@@ -1,7 +1,7 @@
 use Rattle.std.proofs.Common.{ap, sym, ◌∙◌, subst, arith, length, List}
 use Rattle.std.proofs.lemmas.List.{with_items_is}
 use Rattle.step_journal.specs.Step.{row_after}
-use Rattle.pending_jobs.specs.Rows.{AreFactsOf}
+use Rattle.core_tables.specs.Rows.{AreFactsOf}
 use Rattle.core_tables.specs.declared.tally.Tally.{Tally}
 use Rattle.core_tables.specs.Seen.{tally_of}
 use Rattle.core_tables.specs.Changes.{tallies_settled}

@@ -1,7 +1,7 @@
 use Rattle.std.proofs.Common.{◌≡◌, false, IsSome, subst}
 use Rattle.durable_disk.specs.Device.{LeavesOnly}
-use Rattle.durable_records.specs.Records.{IsBeforeOrAfter as IsEither}
-use Rattle.durable_records.specs.Standing.{RecordsSeen}
+use Rattle.durable_disk.specs.Records.{IsBeforeOrAfter as IsEither}
+use Rattle.durable_disk.specs.Standing.{RecordsSeen}
 use Rattle.durable_journal.specs.Format.{bodies_of}
 use Rattle.durable_journal.specs.Log.{IsBeforeOrAfter, Stood}
 use Rattle.durable_journal.proofs.Crash.{either_opens, weaken}

@@ -2,9 +2,9 @@ use Rattle.std.proofs.Common.{◌≡◌, ◌+◌, ◌++◌, ◌∙◌, List, ℕ
 use Rattle.std.proofs.lemmas.List.{get_or-append_right}
 use Rattle.step_journal.specs.declared.entry.Entry.{Entry}
 use Rattle.journal_text.specs.Lines.{IsWritable}
-use Rattle.durable_records.specs.Records.{HasFirst, Reads}
-use Rattle.durable_records.specs.Standing.{Stands}
-use Rattle.durable_records.proofs.Calls.{at_rest}
+use Rattle.durable_disk.specs.Records.{HasFirst, Reads}
+use Rattle.durable_disk.specs.Standing.{Stands}
+use Rattle.durable_disk.proofs.Calls.{at_rest}
 use Rattle.durable_journal.specs.Format.{bodies_of, entry_bodies}
 use Rattle.durable_journal.specs.Log.{HasSome, IsLeft}
 use Rattle.durable_journal.proofs.Crash.{is_left, weaken}

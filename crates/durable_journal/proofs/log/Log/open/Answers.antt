@@ -1,6 +1,6 @@
 use Rattle.std.proofs.Common.{◌+◌, ◌≡◌, arith, sym, subst}
 use Rattle.std.specs.Prelude.{IfSome}
-use Rattle.durable_records.specs.Standing.{RecordsSeen}
+use Rattle.durable_disk.specs.Standing.{RecordsSeen}
 use Rattle.durable_journal.specs.Log.{Stood}
 use Rattle.durable_journal.specs.Opened.{Touches, with_gate}
 use Rattle.durable_journal.proofs.Opening.{open_stands}

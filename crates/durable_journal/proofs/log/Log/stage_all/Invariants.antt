@@ -1,8 +1,8 @@
 use Rattle.std.proofs.Common.{◌≡◌, ℕ, ◌≤◌, ◌↔◌, List, [], length, take, IsSome}
 use Rattle.std.specs.List.{AllByRecursion}
 use Rattle.durable_disk.specs.Device.{LeavesOnly}
-use Rattle.durable_records.specs.Records.{Reads}
-use Rattle.durable_records.specs.Standing.{IsStaging}
+use Rattle.durable_disk.specs.Records.{Reads}
+use Rattle.durable_disk.specs.Standing.{IsStaging}
 use Rattle.durable_journal.specs.Format.{entry_bodies}
 use Rattle.durable_journal.specs.Log.{Fits}
 use Rattle.durable_journal.proofs.log.Log.stage_all.Given as goal

@@ -1,11 +1,11 @@
 use Rattle.std.proofs.Common.{ap, ◌∙◌, arith, length, List}
-use Rattle.plain_tables.specs.Seen.{tally_of}
+use Rattle.plain_core.specs.TablesSeen.{tally_of}
 use Rattle.plain_core.specs.Seen.{PlainIs}
 use Rattle.plain_core.proofs.Stood.{fit_core, set_size}
 use Rattle.plain_core.proofs.board_impl.PlainCoreBoard.ended.Goals as goal
 use Rattle.plain_core.proofs.Idles.{tallies_fit}
 use Rattle.plain_core.proofs.Tallies.{tally_says}
-use Rattle.plain_tables.specs.declared.tally.Tally.{Tally}
+use Rattle.plain_core.specs.declared.tally.Tally.{Tally}
 
 pub tally_at-requires : goal.tally_at-requires
 tally_at-requires c = omega (arith, (fit_core _ c.self.invariant).tallies, set_size _ _ c.self.view_is, ap length c.tallies.ensures)

@@ -1,7 +1,7 @@
 use Rattle.std.proofs.Common.{ap, sym, ◌∙◌, arith, length, List}
 use Rattle.std.specs.Prelude.{slice_get}
 use Rattle.item_model.specs.declared.stored.Stored.{Stored}
-use Rattle.plain_tables.specs.Seen.{TablesSeen}
+use Rattle.plain_core.specs.TablesSeen.{TablesSeen}
 use Rattle.plain_core.specs.Seen.{PlainIs}
 use Rattle.plain_core.proofs.Stood.{fit_core}
 use Rattle.plain_core.proofs.board_impl.PlainCoreBoard.peek.Goals as goal

@@ -1,6 +1,6 @@
 use Rattle.std.proofs.Common.{ap, ◌∙◌, List, Option}
 use Rattle.step_journal.specs.State.{Row}
-use Rattle.plain_tables.specs.Seen.{TablesSeen}
+use Rattle.plain_core.specs.TablesSeen.{TablesSeen}
 use Rattle.plain_core.specs.Seen.{PlainIs}
 use Rattle.plain_core.specs.Rules.{running_by}
 use Rattle.plain_core.proofs.Runs.{running_is}

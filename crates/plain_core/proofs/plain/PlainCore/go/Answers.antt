@@ -1,8 +1,8 @@
 use Rattle.std.proofs.Common.{◌+◌, ap, ◌∙◌, arith, ℕ, List, length, ◌++◌, ◌∷◌, []}
 use Rattle.txn_set.specs.declared.decl.TxnDecl.{TxnDecl}
 use Rattle.step_journal.specs.declared.entry.Entry.TheVariants.{Step}
-use Rattle.plain_tables.specs.Seen.{TablesSeen, tally_of}
-use Rattle.plain_tables.specs.Arrivals.{arrived_tables}
+use Rattle.plain_core.specs.TablesSeen.{TablesSeen, tally_of}
+use Rattle.plain_core.specs.Arrivals.{arrived_tables}
 use Rattle.plain_core.proofs.Stood.{fit_core, set_size}
 use Rattle.plain_core.proofs.Idles.{tallies_fit}
 use Rattle.plain_core.proofs.Goes.{go_low, go_roomy, effect_rows, effect_tallies, go_keeps, go_after}

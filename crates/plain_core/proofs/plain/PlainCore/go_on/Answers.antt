@@ -1,7 +1,7 @@
 use Rattle.std.proofs.Common.{ap, ◌∙◌, arith, ℕ, List, ◌++◌, ◌∷◌, []}
 use Rattle.txn_set.specs.declared.decl.TxnDecl.{TxnDecl}
 use Rattle.step_journal.specs.declared.entry.Entry.TheVariants.{Idle}
-use Rattle.plain_tables.specs.Arrivals.{arrived_tables}
+use Rattle.plain_core.specs.Arrivals.{arrived_tables}
 use Rattle.plain_core.proofs.Stood.{fit_core}
 use Rattle.plain_core.proofs.Idles.{advances, went_on, still_core, tallies_fit}
 use Rattle.plain_core.proofs.plain.PlainCore.go_on.Goals as goal

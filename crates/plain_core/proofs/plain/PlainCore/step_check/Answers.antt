@@ -1,6 +1,6 @@
 use Rattle.std.proofs.Common.{ap, ◌∙◌, arith, length, List}
-use Rattle.plain_tables.specs.declared.tally.Tally.{Tally}
-use Rattle.plain_tables.specs.Seen.{tally_of}
+use Rattle.plain_core.specs.declared.tally.Tally.{Tally}
+use Rattle.plain_core.specs.TablesSeen.{tally_of}
 use Rattle.plain_core.proofs.Stood.{fit_core, set_size}
 use Rattle.plain_core.proofs.Idles.{tallies_fit}
 use Rattle.plain_core.proofs.plain.PlainCore.step_check.Goals as goal

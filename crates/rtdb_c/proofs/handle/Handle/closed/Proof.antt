@@ -18,7 +18,7 @@ use denote.Triple.Walked.{Stays, stay_dropped, walk_of, Goes-dropped, says, ends
 use Rattle.std.specs.declared.option.Option.TheVariants.{None}
 use Rattle.std.proofs.cell.Inside.{one}
 use Rattle.std.proofs.raw_atomic.Walks.{proved_at}
-use Rattle.raw_box.proofs.Apart.{two}
+use Rattle.rtdb_c.proofs.BoxApart.{two}
 use Rattle.rtdb_c.proofs.Apart.{Heap, heap_lawful, null_fits, closed_of}
 use Rattle.rtdb_c.specs.contracts.handle.Handle.closed as f
 use Rattle.rtdb_c.proofs.handle.Handle.closed.Statement.{statement}

@@ -23,7 +23,7 @@ use Rattle.std.proofs.alloc.Shapes.{after}
 use Rattle.std.proofs.cell.Inside.{Good}
 use Rattle.std.proofs.ResultValues.{and_tt}
 use Rattle.std.proofs.raw_atomic.Walks.{proved_at}
-use Rattle.raw_box.proofs.Apart.{Row, two, two_fits, put_together}
+use Rattle.rtdb_c.proofs.BoxApart.{Row, two, two_fits, put_together}
 use Rattle.rtdb_c.proofs.SeatApart.{Heap, heap_lawful, null_fits, Core, Handle, handle_apart}
 use Rattle.rtdb_c.specs.contracts.seat.SeatHandle.into_raw_box as f
 use Rattle.rtdb_c.proofs.seat.SeatHandle.into_raw_box.Statement.{statement}

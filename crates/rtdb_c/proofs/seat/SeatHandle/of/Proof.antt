@@ -17,7 +17,7 @@ use denote.Triple.Walked.{Stays, stay_dropped, walk_of, Goes-dropped, says, ends
 use Rattle.std.specs.declared.option.Option.TheVariants.{Some}
 use Rattle.std.specs.contracts.impls.GlobalAllocator.TheImpl.{ghosts}
 use Rattle.std.proofs.raw_atomic.Walks.{proved_at}
-use Rattle.raw_box.proofs.Apart.{Row, two, two_fits, taken_apart}
+use Rattle.rtdb_c.proofs.BoxApart.{Row, two, two_fits, taken_apart}
 use Rattle.rtdb_c.proofs.SeatApart.{Heap, heap_lawful, Core, open_of}
 use Rattle.rtdb_c.specs.contracts.seat.SeatHandle.of as f
 use Rattle.rtdb_c.proofs.seat.SeatHandle.of.Statement.{statement}

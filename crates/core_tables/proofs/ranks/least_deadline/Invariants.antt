@@ -1,0 +1,14 @@
+use Rattle.std.proofs.Common.{◌≡◌, ℕ, true, length}
+use Rattle.rt_base.specs.Ranks.{has_rank}
+use Rattle.core_tables.specs.PendingTables.{IsLeastPassed}
+use Rattle.core_tables.proofs.RankSets.{count_ranks}
+use Rattle.core_tables.proofs.ranks.least_deadline.Given as goal
+
+abbrev pub invariant-loop-rank : goal.invariant-loop-rank
+invariant-loop-rank g l = record {
+  pending : (rank : ℕ) → has_rank l.left rank ≡ true → has_rank l.fn.ranks rank ≡ true;
+  passed : IsLeastPassed l.heads l.deadlines l.waits.order l.left l.least;
+}
+
+abbrev pub decreases-loop-rank : goal.decreases-loop-rank
+decreases-loop-rank g l = count_ranks (length l.heads) l.left

@@ -1,4 +1,0 @@
-use Rattle.pending_jobs.proofs.pending.Pending.end.Given as goal
-
-abbrev pub ghosts-least_deadline : goal.ghosts-least_deadline
-ghosts-least_deadline a = record { name = a.blank.name; parts = a.blank.parts }

@@ -1,4 +1,0 @@
-use Rattle.pending_jobs.proofs.pending.Pending.lock_refusal.Given as goal
-
-abbrev pub ghosts-refused : goal.ghosts-refused
-ghosts-refused a = record { name = a.blank.name; parts = a.blank.parts }

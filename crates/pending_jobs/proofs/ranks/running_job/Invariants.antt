@@ -1,4 +1,0 @@
-use Rattle.pending_jobs.proofs.ranks.running_job.Given as goal
-
-abbrev pub ghosts-running_tx : goal.ghosts-running_tx
-ghosts-running_tx a = record { name = a.blank.name; parts = a.blank.parts }

@@ -1,4 +1,0 @@
-pub mod Rows
-pub mod Waiting
-pub mod Deadlines
-pub mod Tables

@@ -1,6 +1,0 @@
-use Rattle.std.proofs.Common.{◌≡◌, max, drop}
-use Rattle.picture_places.specs.Places.{longest}
-use Rattle.picture_places.proofs.place.longest.Given as goal
-
-abbrev pub invariant-loop-name : goal.invariant-loop-name
-invariant-loop-name l = max l.longest (longest (drop l.name-index l.names)) ≡ longest l.names

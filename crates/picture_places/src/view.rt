@@ -1,9 +1,0 @@
-//! What a picture is drawn for.
-use schedule_marks::Part;
-
-/// The part of a schedule that is drawn, and where its first tick stands: what is to the left of that are names.
-#[derive(Clone, Copy)]
-pub struct View {
-    pub part: Part,
-    pub left: u16,
-}

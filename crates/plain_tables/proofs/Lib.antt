@@ -1,3 +1,0 @@
-pub mod Fews
-pub mod Arrives
-pub mod Effects

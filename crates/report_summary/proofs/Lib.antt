@@ -1,4 +1,0 @@
-pub mod Tallying
-pub mod Aging
-pub mod Bounding
-pub mod Telling

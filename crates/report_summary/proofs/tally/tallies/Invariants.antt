@@ -1,6 +1,0 @@
-use Rattle.std.proofs.Common.{◌≡◌, drop}
-use Rattle.report_summary.specs.Tallies.{tallied}
-use Rattle.report_summary.proofs.tally.tallies.Given as goal
-
-abbrev pub invariant-loop-i : goal.invariant-loop-i
-invariant-loop-i l = l.tallies.items ≡ tallied l.txns (drop l.i l.rows)

@@ -1,4 +1,0 @@
-pub mod Shown
-pub mod Releases
-pub mod Scripts
-pub mod Scenarios

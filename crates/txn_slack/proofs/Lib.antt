@@ -1,5 +1,0 @@
-pub mod Stepping
-pub mod Counts
-pub mod Looks
-pub mod Found
-pub mod Sparing

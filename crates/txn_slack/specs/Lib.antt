@@ -1,4 +1,0 @@
-pub mod Steps
-pub mod Slacks
-pub mod Spares
-pub mod Laws

@@ -1,5 +1,0 @@
-use Rattle.worked_histories.proofs.DerivedStamp.{holds}
-use Rattle.worked_histories.proofs.derived_stamp_holds.Goals as goal
-
-pub returns : goal.returns
-returns c = holds
