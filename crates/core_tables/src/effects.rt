@@ -83,17 +83,17 @@ fn settle(
     set: &CompiledSet,
     pending: &Pending,
     items: &mut Items,
-    tx: TxId,
     head: Head,
     op: Op,
     at: Tick,
 ) -> Option<End>
-    requires in_set { tx.0 < length set.now.txns }
-    requires row { tx.0 < length pending.now.rows }
+    requires in_set { head.job.tx.0 < length set.now.txns }
+    requires row { head.job.tx.0 < length pending.now.rows }
     requires facts { AreFactsOf set.now pending.now.facts }
-    ensures end { (row : RowSeen) → row_of pending.now.rows tx.0 ≡ Some row → row.job.tx.0 ≡ tx.0 → head ≡ head_of row → result ≡ end_by set.now row at op }
-    ensures items { (row : RowSeen) → row_of pending.now.rows tx.0 ≡ Some row → row.job.tx.0 ≡ tx.0 → head ≡ head_of row → items.new ≡ items_settled set.now row (end_by set.now row at op) items.old }
+    ensures end { (row : RowSeen) → row_of pending.now.rows head.job.tx.0 ≡ Some row → row.job.tx.0 ≡ head.job.tx.0 → head ≡ head_of row → result ≡ end_by set.now row at op }
+    ensures items { (row : RowSeen) → row_of pending.now.rows head.job.tx.0 ≡ Some row → row.job.tx.0 ≡ head.job.tx.0 → head ≡ head_of row → items.new ≡ items_settled set.now row (end_by set.now row at op) items.old }
 {
+    let tx = head.job.tx;
     match op {
         Op::Commit => {
             let work = pending.work(tx);
@@ -243,7 +243,7 @@ impl CoreTables {
     {
         let at = self.clock + 1;
         let head = self.pending.step(job.tx, op, &self.items)?;
-        let end = settle(set, &self.pending, &mut self.items, job.tx, head, op, at);
+        let end = settle(set, &self.pending, &mut self.items, head, op, at);
         close(&mut self.pending, &mut self.tallies, job.tx, end);
         end
     }

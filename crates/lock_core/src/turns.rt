@@ -13,8 +13,8 @@ ghost use Rattle.lock_core.specs.Stands.{Stands, IsCore};
 ghost use Rattle.lock_core.specs.Turns.{IsTurn, IsIdleRefusal};
 
 use board::{IdleReply, StepReply};
-use core_tables::CoreTables;
-use rt_base::{End, JobId, Op, Outcome, PlanRefused, Prio, Tick, TxId};
+use core_tables::{Blocker, CoreTables};
+use rt_base::{End, JobId, Op, Outcome, PlanRefused, Tick, TxId};
 use step_journal::{Entry, Journal};
 use txn_set::CompiledSet;
 
@@ -104,22 +104,21 @@ fn block(
     tables: &mut CoreTables,
     job: JobId,
     op: Op,
-    by: JobId,
-    ceiling: Prio,
+    by: Blocker,
 )
     requires core { IsCore (core_of set.now journal.old tables.old) }
-    requires blocked { (story : List Noted) → Stands (core_of set.now journal.old tables.old) story → IsBlocked set.now (state_of set.now story) job op by ceiling }
+    requires blocked { (story : List Noted) → Stands (core_of set.now journal.old tables.old) story → IsBlocked set.now (state_of set.now story) job op by.holder by.ceiling }
     requires roomy { length journal.old.kept < journal.old.room }
     ensures fixed { (journal.new.room ≡ journal.old.room) × (journal.new.first ≡ journal.old.first) }
-    ensures turn { (story : List Noted) → Stands (core_of set.now journal.old tables.old) story → IsTurn (core_of set.now journal.old tables.old) (core_of set.now journal.new tables.new) story (asking job op) (step_entry (now_of set.now story) job op (StepReply.Blocked by ceiling)) }
+    ensures turn { (story : List Noted) → Stands (core_of set.now journal.old tables.old) story → IsTurn (core_of set.now journal.old tables.old) (core_of set.now journal.new tables.new) story (asking job op) (step_entry (now_of set.now story) job op (StepReply.Blocked by.holder by.ceiling)) }
 {
     let tick = tables.now();
-    tables.wait(job, by);
+    tables.wait(job, by.holder);
     journal.push(Entry::Blocked {
         job,
         op,
-        by,
-        ceiling,
+        by: by.holder,
+        ceiling: by.ceiling,
         tick,
     });
 }
@@ -170,7 +169,11 @@ pub fn asked(
             StepReply::Done { outcome, over }
         }
         Some(StepReply::Blocked { by, ceiling }) => {
-            block(set, journal, tables, job, op, by, ceiling);
+            let blocker = Blocker {
+                holder: by,
+                ceiling,
+            };
+            block(set, journal, tables, job, op, blocker);
             StepReply::Blocked { by, ceiling }
         }
         Some(StepReply::NoJob { ended, last }) => StepReply::NoJob { ended, last },
@@ -256,7 +259,7 @@ pub fn ask(
             Some(outcome)
         }
         Some(b) => {
-            block(set, journal, tables, job, op, b.holder, b.ceiling);
+            block(set, journal, tables, job, op, b);
             None
         }
     }

@@ -2,6 +2,7 @@
 use Rattle.std.proofs.Common.{◌≡◌, ℕ, Bool, true, false, List, Option, Some, None, Result, Ok, Err, refl, sym, ap, subst, ◌∙◌}
 use Rattle.std.specs.Option.{option_map}
 use Rattle.item_model.specs.Work.{first_of_both}
+use Rattle.item_model.specs.declared.stored.Stored.{Stored}
 use Rattle.txn_set.specs.Set.{Set}
 use Rattle.txn_compiler.specs.declared.error.CompileError.{CompileError}
 use Rattle.txn_compiler.specs.declared.error.CompileError.TheVariants as compiling
@@ -29,6 +30,8 @@ use Rattle.schedule_marks.specs.declared.part.Part.{Part}
 use Rattle.schedule_marks.specs.declared.showing.Limits.{Limits}
 use Rattle.schedule_marks.specs.declared.showing.Shown.{Shown}
 use Rattle.schedule_marks.specs.Shown.{shown_of}
+use Rattle.picture_text.specs.Texts.{text_of}
+use Rattle.picture_command.specs.Page.{page_text}
 use Rattle.picture_command.specs.Parts.{part_of}
 use Rattle.io_edge.specs.declared.status.Status.{Status}
 use Rattle.io_edge.specs.declared.status.Status.TheVariants as statuses
@@ -125,6 +128,16 @@ pub is_drawn : (wanted : Wanted) (input : List ℕ) (d : Document) (status : Sta
 is_drawn wanted input d status text tells whole is picture =
     subst (λ (s : Status). PictureReply wanted input s text) (sym is)
     (record { document = d; tells = tells; legal = whole; picture = picture })
+
+-- a page is drawn where one is wanted, and else the picture alone
+pub page_drawn : (names : Names) (set : Set) (limits : Limits) (rows : List JobRow) (items own : List Stored) (part : Part) (shown : Shown) (page : Bool)
+    → items ≡ own → page ≡ true → page_text names set part limits rows items shown ≡ drawing names set limits rows own part shown page
+page_drawn names set limits rows items own part shown page i p =
+    ap (λ (l : List Stored). page_text names set part limits rows l shown) i ∙ ap (drawing names set limits rows own part shown) (sym p)
+
+pub picture_drawn : (names : Names) (set : Set) (limits : Limits) (rows : List JobRow) (items : List Stored) (part : Part) (shown : Shown) (page : Bool)
+    → page ≡ false → text_of names set part limits shown ≡ drawing names set limits rows items part shown page
+picture_drawn names set limits rows items part shown page p = ap (drawing names set limits rows items part shown) (sym p)
 
 -- what is drawn of the part, the rows and what is shown, as they were found
 pub whole_picture : (names : Names) (set : Set) (limits : Limits) (entries : List Entry) (wanted : Wanted) (part : Part)

@@ -1,5 +1,5 @@
 -- What the top call did from what it was answered.
-use Rattle.std.proofs.Common.{◌≡◌, ℕ, ◌≤◌, Bool, false, nat_lt, List, length, Option, Some, sym, subst}
+use Rattle.std.proofs.Common.{ℕ, ◌≤◌, Bool, List, length, Option, Some, sym, subst}
 use Rattle.std.proofs.lemmas.Bool.{le-ltb}
 use Rattle.io_edge.specs.declared.status.Status.{Status}
 use Rattle.picture_command.specs.declared.wanted.Wanted.{Wanted}

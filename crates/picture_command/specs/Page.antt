@@ -1,5 +1,5 @@
 -- A page: the tables, and the picture under names that stay.
-use Rattle.std.specs.Prelude.{ℕ, ◌+◌, ◌-◌, List, codes, decimal}
+use Rattle.std.specs.Prelude.{ℕ, ◌+◌, ◌-◌, List, codes}
 use Rattle.rt_base.specs.declared.name.Names.{Names}
 use Rattle.item_model.specs.declared.stored.Stored.{Stored}
 use Rattle.txn_set.specs.Set.{Set}

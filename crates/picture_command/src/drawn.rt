@@ -1,5 +1,5 @@
 //! The picture of a report.
-ghost use Rattle.std.specs.Prelude.{◌≡◌, ◌<◌, ◌≤◌, ◌^◌, length, None, true, IfOk};
+ghost use Rattle.std.specs.Prelude.{◌≡◌, ◌<◌, ◌≤◌, ◌^◌, length, None, IfOk};
 ghost use Rattle.step_journal.specs.History.{IsLegal, state_of};
 ghost use Rattle.job_rows.specs.Rows.{job_rows};
 ghost use Rattle.report_text.specs.IsHead.{IsHead, set_of};
@@ -7,11 +7,11 @@ ghost use Rattle.run_report.specs.declared.verdict.Verdict.TheVariants.{Legal as
 ghost use Rattle.run_report.specs.Verdict.{IsVerdict, Tells, set_refusal, report_for};
 ghost use Rattle.picture_command.specs.Limits.{limits_of};
 ghost use Rattle.picture_command.specs.Parts.{IsEarly};
-ghost use Rattle.picture_command.specs.Answers.{drawing, picture_of as picture_of_history, picture_in, is_ok as is_ok_status, PictureReply};
+ghost use Rattle.picture_command.specs.Answers.{picture_of as picture_of_history, picture_in, is_ok as is_ok_status, PictureReply};
 
 use crate::limits::with_limits;
 use crate::wanted::{Wanted, part_in};
-use crate::whole::page;
+use crate::whole::{Contents, page};
 use command_replies::{REPORT_LIMIT, Reply, replayed, written};
 use io_edge::Status;
 use item_model::Items;
@@ -21,7 +21,7 @@ use picture_text::picture;
 use report_text::{Document, DocumentError, Head, read_document};
 use rt_base::{List, Names, OutOfMemory};
 use run_report::compile_head;
-use schedule_marks::{Limits, Part, Shown, show};
+use schedule_marks::{Limits, show};
 use serial_replay::{ReplayError, last_items, replay};
 use std::alloc::Global;
 use step_journal::Entry;
@@ -62,57 +62,7 @@ fn items_of(alloc: Global, set: &CompiledSet, entries: &[Entry]) -> Result<Items
     }
 }
 
-// The page, with the last items of the history.
-fn page_of(
-    alloc: Global,
-    names: &Names,
-    set: &CompiledSet,
-    limits: &Limits,
-    rows: &[JobRow],
-    entries: &[Entry],
-    part: Part,
-    shown: &Shown,
-) -> Result<Vec<u8>, OutOfMemory>
-    requires legal { IsLegal set.now entries.now }
-    requires early { part.from < 2 ^ 63 }
-    ensures { IfOk result (λ text. text.items ≡ drawing names.now set.now limits.now rows.now (state_of set.now entries.now).items part shown.now true) }
-{
-    let items = items_of(alloc, set, entries)?;
-    page(
-        alloc,
-        names,
-        set,
-        part,
-        limits,
-        rows,
-        items.as_slice(),
-        shown,
-    )
-}
-
 // A page, or a picture alone.
-fn drawing_of(
-    alloc: Global,
-    names: &Names,
-    set: &CompiledSet,
-    limits: &Limits,
-    rows: &[JobRow],
-    entries: &[Entry],
-    part: Part,
-    shown: &Shown,
-    as_page: bool,
-) -> Result<Vec<u8>, OutOfMemory>
-    requires legal { IsLegal set.now entries.now }
-    requires early { part.from < 2 ^ 63 }
-    ensures { IfOk result (λ text. text.items ≡ drawing names.now set.now limits.now rows.now (state_of set.now entries.now).items part shown.now as_page) }
-{
-    if as_page {
-        page_of(alloc, names, set, limits, rows, entries, part, shown)
-    } else {
-        picture(alloc, names, set, part, limits, shown)
-    }
-}
-
 fn picture_of(
     alloc: Global,
     names: &Names,
@@ -126,20 +76,15 @@ fn picture_of(
     ensures { IfOk result (λ text. text.items ≡ picture_of_history names.now set.now limits.now entries.now wanted) }
 {
     let rows = rows_of(alloc, set, entries)?;
-    let rows = rows.as_slice();
     let part = part_in(wanted.ticks, entries);
-    let shown = show(alloc, set, part, limits, rows, entries)?;
-    drawing_of(
-        alloc,
-        names,
-        set,
-        limits,
-        rows,
-        entries,
-        part,
-        &shown,
-        wanted.page,
-    )
+    let shown = show(alloc, set, part, limits, rows.as_slice(), entries)?;
+    if wanted.page {
+        let items = items_of(alloc, set, entries)?;
+        let contents = Contents { rows, items, shown };
+        page(alloc, names, set, part, limits, &contents)
+    } else {
+        picture(alloc, names, set, part, limits, &shown)
+    }
 }
 
 // Why declarations that are not refused are not compiled.

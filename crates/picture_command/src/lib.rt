@@ -14,4 +14,4 @@ mod whole;
 pub use io_edge::{Status, Word};
 pub use top::draw_report;
 pub use wanted::{Ticks, Wanted};
-pub use whole::page;
+pub use whole::{Contents, page};

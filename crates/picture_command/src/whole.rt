@@ -5,12 +5,23 @@ ghost use Rattle.picture_command.specs.Page.{safe_head, sheet_style, page_title,
 use crate::figure::add_figure;
 use crate::items::add_items;
 use crate::jobs::add_txns;
-use item_model::Stored;
+use item_model::Items;
 use job_rows::JobRow;
-use rt_base::{Names, OutOfMemory};
+use rt_base::{List, Names, OutOfMemory};
 use schedule_marks::{Limits, Part, Shown, View, add, add_number, view_for};
 use std::alloc::Global;
 use txn_set::CompiledSet;
+
+/// What a page tells of a history.
+#[derive(Drop)]
+pub struct Contents {
+    /// The rows of all its jobs.
+    pub rows: List<JobRow>,
+    /// Its last items.
+    pub items: Items,
+    /// What is shown of the part.
+    pub shown: Shown,
+}
 
 // Nothing is loaded from elsewhere, and no script runs.
 fn add_safe_head(into: &mut Vec<u8>) -> Result<(), OutOfMemory>
@@ -85,17 +96,17 @@ fn add_page(
     set: &CompiledSet,
     view: View,
     limits: &Limits,
-    rows: &[JobRow],
-    items: &[Stored],
-    shown: &Shown,
+    contents: &Contents,
 ) -> Result<(), OutOfMemory>
     requires { view.part.from < 2 ^ 63 }
-    ensures { OnOk result (into.new.items ≡ into.old.items ++ page_of names.now set.now view limits.now rows.now items.now shown.now) }
+    ensures { OnOk result (into.new.items ≡ into.old.items ++ page_of names.now set.now view limits.now contents.now.rows contents.now.items contents.now.shown) }
 {
     add_head(into, view.part)?;
-    add_txns(into, names, set, limits.responses.as_slice(), rows)?;
-    add_figure(into, names, set, view, limits.ages.as_slice(), shown)?;
-    add_items(into, names, set, limits.ages.as_slice(), items)?;
+    let responses = limits.responses.as_slice();
+    let ages = limits.ages.as_slice();
+    add_txns(into, names, set, responses, contents.rows.as_slice())?;
+    add_figure(into, names, set, view, ages, &contents.shown)?;
+    add_items(into, names, set, ages, contents.items.as_slice())?;
     add(into, b"</body>\n</html>\n")?;
     Ok(())
 }
@@ -106,23 +117,12 @@ fn add_page_text(
     set: &CompiledSet,
     part: Part,
     limits: &Limits,
-    rows: &[JobRow],
-    items: &[Stored],
-    shown: &Shown,
+    contents: &Contents,
 ) -> Result<(), OutOfMemory>
     requires { part.from < 2 ^ 63 }
-    ensures { OnOk result (into.new.items ≡ into.old.items ++ page_text names.now set.now part limits.now rows.now items.now shown.now) }
+    ensures { OnOk result (into.new.items ≡ into.old.items ++ page_text names.now set.now part limits.now contents.now.rows contents.now.items contents.now.shown) }
 {
-    add_page(
-        into,
-        names,
-        set,
-        view_for(names, part),
-        limits,
-        rows,
-        items,
-        shown,
-    )
+    add_page(into, names, set, view_for(names, part), limits, contents)
 }
 
 /// The page of a part of a history, from the rows of all its jobs, its last items, and what is shown of the part. Its cost is that
@@ -133,14 +133,12 @@ pub fn page(
     set: &CompiledSet,
     part: Part,
     limits: &Limits,
-    rows: &[JobRow],
-    items: &[Stored],
-    shown: &Shown,
+    contents: &Contents,
 ) -> Result<Vec<u8>, OutOfMemory>
     requires { part.from < 2 ^ 63 }
-    ensures { IfOk result (λ text. text.items ≡ page_text names.now set.now part limits.now rows.now items.now shown.now) }
+    ensures { IfOk result (λ text. text.items ≡ page_text names.now set.now part limits.now contents.now.rows contents.now.items contents.now.shown) }
 {
     let mut text = Vec::new(alloc);
-    add_page_text(&mut text, names, set, part, limits, rows, items, shown)?;
+    add_page_text(&mut text, names, set, part, limits, contents)?;
     Ok(text)
 }

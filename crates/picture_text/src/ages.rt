@@ -8,8 +8,8 @@ use item_model::is_dated;
 use itoa::Buffer;
 use rt_base::{ItemId, Names, OutOfMemory, Tick};
 use schedule_marks::{
-    AgeRead, AgeSpan, Bound, View, add_fitting, add_line, add_rect, add_words, age_y, item_y, name,
-    top_tick, validity_or_none, x, y,
+    AgeRead, AgeSpan, Bound, Room, View, add_fitting, add_line, add_rect, add_words, age_y, item_y,
+    name, top_tick, validity_or_none, x, y,
 };
 use txn_set::CompiledSet;
 
@@ -49,25 +49,22 @@ pub(crate) fn add_bounds(
     Ok(())
 }
 
-// The line of a value's age from one tick to another.
+// The line of a value's age.
 fn add_age_line(
     into: &mut Vec<u8>,
     set: &CompiledSet,
     view: View,
-    item: ItemId,
-    stamp: Tick,
-    from: Tick,
-    to: Tick,
+    span: AgeSpan,
 ) -> Result<(), OutOfMemory>
-    ensures { OnOk result (into.new.items ≡ into.old.items ++ age_line set.now view item.0 stamp from to) }
+    ensures { OnOk result (into.new.items ≡ into.old.items ++ age_line set.now view span.item.0 span.stamp span.from span.to) }
 {
     add_line(
         into,
         b"ag",
-        x(view, from),
-        age_y(set, item, from.saturating_sub(stamp)),
-        x(view, to),
-        age_y(set, item, to.saturating_sub(stamp)),
+        x(view, span.from),
+        age_y(set, span.item, span.from.saturating_sub(span.stamp)),
+        x(view, span.to),
+        age_y(set, span.item, span.to.saturating_sub(span.stamp)),
     )
 }
 
@@ -76,17 +73,14 @@ fn add_age_lines(
     into: &mut Vec<u8>,
     set: &CompiledSet,
     view: View,
-    item: ItemId,
-    stamp: Tick,
-    from: Tick,
+    span: AgeSpan,
     top: Tick,
-    to: Tick,
 ) -> Result<(), OutOfMemory>
-    ensures { OnOk result (into.new.items ≡ into.old.items ++ age_lines set.now view item.0 stamp from top to) }
+    ensures { OnOk result (into.new.items ≡ into.old.items ++ age_lines set.now view span.item.0 span.stamp span.from top span.to) }
 {
-    add_age_line(into, set, view, item, stamp, from, top)?;
-    if top < to {
-        add_age_line(into, set, view, item, stamp, top, to)
+    add_age_line(into, set, view, AgeSpan { to: top, ..span })?;
+    if top < span.to {
+        add_age_line(into, set, view, AgeSpan { from: top, ..span })
     } else {
         Ok(())
     }
@@ -96,15 +90,13 @@ fn add_age_between(
     into: &mut Vec<u8>,
     set: &CompiledSet,
     view: View,
-    item: ItemId,
-    stamp: Tick,
-    from: Tick,
-    to: Tick,
+    span: AgeSpan,
 ) -> Result<(), OutOfMemory>
-    ensures { OnOk result (into.new.items ≡ into.old.items ++ age_between set.now view item.0 stamp from to) }
+    ensures { OnOk result (into.new.items ≡ into.old.items ++ age_between set.now view span.item.0 span.stamp span.from span.to) }
 {
-    let top = top_tick(validity_or_none(set, item), stamp, from, to);
-    add_age_lines(into, set, view, item, stamp, from, top, to)
+    let validity = validity_or_none(set, span.item);
+    let top = top_tick(validity, span.stamp, span.from, span.to);
+    add_age_lines(into, set, view, span, top)
 }
 
 // What of a value's time is in the part.
@@ -119,7 +111,7 @@ fn add_age(
 {
     let from = span.from.max(view.part.from);
     let to = span.to.min(view.part.to);
-    add_age_between(into, set, view, span.item, span.stamp, from, to)?;
+    add_age_between(into, set, view, AgeSpan { from, to, ..*span })?;
     Ok(())
 }
 
@@ -279,10 +271,14 @@ fn add_bound_word(
 {
     match bound {
         Some(bound) => {
-            let room = (left as u64).saturating_sub(10);
+            let room = Room {
+                x: 10,
+                y: y + 46,
+                width: (left as u64).saturating_sub(10),
+            };
             let mut digits = Buffer::new();
             let digits = digits.format(bound).as_bytes();
-            add_fitting(into, b"s", 10, y + 46, room, b"bound ", digits)
+            add_fitting(into, b"s", room, b"bound ", digits)
         }
         None => Ok(()),
     }
@@ -297,10 +293,14 @@ fn add_validity_word(
     requires { y ≤ 1000000 }
     ensures { OnOk result (into.new.items ≡ into.old.items ++ fitting (codes "s") 10 (y + 32) (left - 10) (codes "valid ") (decimal validity)) }
 {
-    let room = (left as u64).saturating_sub(10);
+    let room = Room {
+        x: 10,
+        y: y + 32,
+        width: (left as u64).saturating_sub(10),
+    };
     let mut digits = Buffer::new();
     let digits = digits.format(validity).as_bytes();
-    add_fitting(into, b"s", 10, y + 32, room, b"valid ", digits)
+    add_fitting(into, b"s", room, b"valid ", digits)
 }
 
 fn add_age_title(

@@ -1,36 +1,43 @@
 //! The elements of each mark.
-ghost use Rattle.std.specs.Prelude.{◌≡◌, ◌++◌, ◌≤◌, OnOk};
+ghost use Rattle.std.specs.Prelude.{◌≡◌, ◌++◌, ◌-◌, ◌≤◌, OnOk};
+ghost use Rattle.schedule_marks.specs.Places.{x_of, y_of};
 ghost use Rattle.picture_text.specs.Texts.{span, op_class, op_letter, letter_class, letter as letter_text, step_width, block, step_text, end_class, end_letter, disc, ended_text, lock_class, lock_text, ceiling_text, cut_by, label_end as end_of_label, wait_bars, wait_label, wait_text, refusal_text, release_text, deadline_text, mark_text, marks_text, link_text, link_of, links_text};
 
 use itoa::Buffer;
-use rt_base::{End, Names, Op, OutOfMemory, Tick, TxId};
+use rt_base::{End, JobId, Names, Op, OutOfMemory, Tick, TxId};
 use schedule_marks::{
-    Mark, View, add_circle, add_fitting, add_line, add_rect, add_word, ceiling_y, deadline, lock_y,
-    middle, name, width, x, y,
+    Mark, Part, Room, View, add_circle, add_fitting, add_line, add_rect, add_word, ceiling_y,
+    deadline, lock_y, middle, name, width, x, y,
 };
 use txn_set::CompiledSet;
 
-// A field over the ticks from one up to another.
+// Where the row of a job begins, and that of the job on which it waits.
+#[derive(Clone, Copy)]
+struct Rows {
+    own: u64,
+    other: u64,
+}
+
+// How many pixels some ticks have.
+fn pixels(view: View, ticks: Part) -> u64
+    ensures { result ≡ x_of view ticks.to - x_of view ticks.from }
+{
+    x(view, ticks.to).saturating_sub(x(view, ticks.from))
+}
+
+// A field over some ticks.
 fn add_span(
     into: &mut Vec<u8>,
     view: View,
     class: &[u8],
-    from: Tick,
-    to: Tick,
+    ticks: Part,
     y: u64,
     height: u64,
 ) -> Result<(), OutOfMemory>
-    ensures { OnOk result (into.new.items ≡ into.old.items ++ span view class.now from to y height) }
+    ensures { OnOk result (into.new.items ≡ into.old.items ++ span view class.now ticks.from ticks.to y height) }
 {
-    let left = x(view, from);
-    add_rect(
-        into,
-        class,
-        left,
-        y,
-        x(view, to).saturating_sub(left),
-        height,
-    )
+    let left = x(view, ticks.from);
+    add_rect(into, class, left, y, pixels(view, ticks), height)
 }
 
 fn class_of(op: Op) -> &'static [u8]
@@ -147,17 +154,19 @@ fn add_lock(
     view: View,
     item: &[u8],
     is_write: bool,
-    from: Tick,
-    to: Tick,
+    held: Part,
     y: u64,
 ) -> Result<(), OutOfMemory>
     requires { y ≤ 1000000 }
-    ensures { OnOk result (into.new.items ≡ into.old.items ++ lock_text view item.now is_write from to y) }
+    ensures { OnOk result (into.new.items ≡ into.old.items ++ lock_text view item.now is_write held.from held.to y) }
 {
-    let left = x(view, from);
-    let room = x(view, to).saturating_sub(left);
-    add_span(into, view, class_of_lock(is_write), from, to, y, 12)?;
-    add_fitting(into, b"s", left + 3, y + 10, room, item, b"")?;
+    let room = Room {
+        x: x(view, held.from) + 3,
+        y: y + 10,
+        width: pixels(view, held),
+    };
+    add_span(into, view, class_of_lock(is_write), held, y, 12)?;
+    add_fitting(into, b"s", room, item, b"")?;
     Ok(())
 }
 
@@ -211,16 +220,14 @@ fn label_end(tx: TxId, from: Tick, to: Tick, marks: &[Mark]) -> Tick
 fn add_wait_bars(
     into: &mut Vec<u8>,
     view: View,
-    from: Tick,
-    to: Tick,
-    y: u64,
-    other: u64,
+    waited: Part,
+    rows: Rows,
 ) -> Result<(), OutOfMemory>
-    requires { (y ≤ 1000000) × (other ≤ 1000000) }
-    ensures { OnOk result (into.new.items ≡ into.old.items ++ wait_bars view from to y other) }
+    requires { (rows.own ≤ 1000000) × (rows.other ≤ 1000000) }
+    ensures { OnOk result (into.new.items ≡ into.old.items ++ wait_bars view waited.from waited.to rows.own rows.other) }
 {
-    add_span(into, view, b"o", from, to, y + 21, 22)?;
-    add_span(into, view, b"i", from, to, other + 60, 12)
+    add_span(into, view, b"o", waited, rows.own + 21, 22)?;
+    add_span(into, view, b"i", waited, rows.other + 60, 12)
 }
 
 // Whose priority the other has, if there is room.
@@ -228,42 +235,46 @@ fn add_wait_label(
     into: &mut Vec<u8>,
     view: View,
     waiting: &[u8],
-    from: Tick,
-    to: Tick,
+    ticks: Part,
     y: u64,
 ) -> Result<(), OutOfMemory>
     requires { y ≤ 1000000 }
-    ensures { OnOk result (into.new.items ≡ into.old.items ++ wait_label view waiting.now from to y) }
+    ensures { OnOk result (into.new.items ≡ into.old.items ++ wait_label view waiting.now ticks.from ticks.to y) }
 {
-    let left = x(view, from);
-    let room = x(view, to).saturating_sub(left);
-    add_fitting(into, b"s", left + 3, y + 70, room, b"as ", waiting)
+    let room = Room {
+        x: x(view, ticks.from) + 3,
+        y: y + 70,
+        width: pixels(view, ticks),
+    };
+    add_fitting(into, b"s", room, b"as ", waiting)
 }
 
 fn add_wait(
     into: &mut Vec<u8>,
     view: View,
     waiting: &[u8],
-    from: Tick,
-    to: Tick,
+    waited: Part,
     until: Tick,
-    y: u64,
-    other: u64,
+    rows: Rows,
 ) -> Result<(), OutOfMemory>
-    requires { (y ≤ 1000000) × (other ≤ 1000000) }
-    ensures { OnOk result (into.new.items ≡ into.old.items ++ wait_text view waiting.now from to until y other) }
+    requires { (rows.own ≤ 1000000) × (rows.other ≤ 1000000) }
+    ensures { OnOk result (into.new.items ≡ into.old.items ++ wait_text view waiting.now waited.from waited.to until rows.own rows.other) }
 {
-    add_wait_bars(into, view, from, to, y, other)?;
-    add_wait_label(into, view, waiting, from, until, other)
+    let labelled = Part {
+        to: until,
+        ..waited
+    };
+    add_wait_bars(into, view, waited, rows)?;
+    add_wait_label(into, view, waiting, labelled, rows.other)
 }
 
 // From the step that is refused, and to that of the job that is waited on.
-fn add_refusal(into: &mut Vec<u8>, x: u64, y: u64, other: u64) -> Result<(), OutOfMemory>
-    requires { (y ≤ 1000000) × (other ≤ 1000000) }
-    ensures { OnOk result (into.new.items ≡ into.old.items ++ refusal_text x y other) }
+fn add_refusal(into: &mut Vec<u8>, x: u64, rows: Rows) -> Result<(), OutOfMemory>
+    requires { (rows.own ≤ 1000000) × (rows.other ≤ 1000000) }
+    ensures { OnOk result (into.new.items ≡ into.old.items ++ refusal_text x rows.own rows.other) }
 {
-    add_line(into, b"vs", x, y + 32, x, y + 44)?;
-    add_line(into, b"v", x, other + 12, x, other + 27)
+    add_line(into, b"vs", x, rows.own + 32, x, rows.own + 44)?;
+    add_line(into, b"v", x, rows.other + 12, x, rows.other + 27)
 }
 
 fn add_deadline(into: &mut Vec<u8>, x: u64, y: u64) -> Result<(), OutOfMemory>
@@ -285,11 +296,15 @@ fn add_release(
     requires { (x ≤ 1000000) × (y ≤ 1000000) }
     ensures { OnOk result (into.new.items ≡ into.old.items ++ release_text view deadline x y serial) }
 {
-    let room = (width(view) * deadline.min(1000)).saturating_sub(6);
+    let room = Room {
+        x: x + 6,
+        y: y + 14,
+        width: (width(view) * deadline.min(1000)).saturating_sub(6),
+    };
     let mut digits = Buffer::new();
     let digits = digits.format(serial as u64).as_bytes();
     add_line(into, b"u", x, y + 20, x, y + 4)?;
-    add_fitting(into, b"f", x + 6, y + 14, room, b"#", digits)
+    add_fitting(into, b"f", room, b"#", digits)
 }
 
 fn add_disc(into: &mut Vec<u8>, end: End, x: u64, y: u64) -> Result<(), OutOfMemory>
@@ -312,6 +327,17 @@ fn add_end(into: &mut Vec<u8>, width: u64, x: u64, y: u64, end: End) -> Result<(
     }
 }
 
+fn rows_of(set: &CompiledSet, job: JobId, by: JobId) -> Rows
+    ensures own { result.own ≡ y_of set.now job.tx.0 }
+    ensures other { result.other ≡ y_of set.now by.tx.0 }
+    ensures most { (result.own ≤ 1000000) × (result.other ≤ 1000000) }
+{
+    Rows {
+        own: y(set, job.tx),
+        other: y(set, by.tx),
+    }
+}
+
 fn add_mark(
     into: &mut Vec<u8>,
     names: &Names,
@@ -325,7 +351,7 @@ fn add_mark(
     match mark {
         Mark::Pending { job, from, to } => {
             let y = y(set, job.tx) + 20;
-            add_span(into, view, b"p", from, to, y, 24)
+            add_span(into, view, b"p", Part { from, to }, y, 24)
         }
         Mark::Lock {
             job,
@@ -337,7 +363,7 @@ fn add_mark(
         } => {
             let y = lock_y(set, job.tx, item, is_write);
             let name = name(names.items.as_slice(), item.0);
-            add_lock(into, view, name, is_write, from, to, y)
+            add_lock(into, view, name, is_write, Part { from, to }, y)
         }
         Mark::Ceiling { tick, ceiling } => {
             let y = ceiling_y(set, ceiling);
@@ -346,22 +372,14 @@ fn add_mark(
         Mark::Wait { job, by, from, to } => {
             let name = name(names.txns.as_slice(), job.tx.0);
             let until = label_end(by.tx, from, to, marks);
-            add_wait(
-                into,
-                view,
-                name,
-                from,
-                to,
-                until,
-                y(set, job.tx),
-                y(set, by.tx),
-            )
+            let rows = rows_of(set, job, by);
+            add_wait(into, view, name, Part { from, to }, until, rows)
         }
         Mark::Step { job, op, tick } => {
             add_step(into, width(view), op, x(view, tick), y(set, job.tx))
         }
         Mark::Refusal { job, by, tick, .. } => {
-            add_refusal(into, middle(view, tick), y(set, job.tx), y(set, by.tx))
+            add_refusal(into, middle(view, tick), rows_of(set, job, by))
         }
         Mark::Release { job, tick } => {
             let deadline = deadline(set, job.tx);
@@ -397,11 +415,11 @@ pub(crate) fn add_marks(
     Ok(())
 }
 
-fn add_link_line(into: &mut Vec<u8>, x: u64, y: u64, other: u64) -> Result<(), OutOfMemory>
-    requires { (y ≤ 1000000) × (other ≤ 1000000) }
-    ensures { OnOk result (into.new.items ≡ into.old.items ++ link_text x y other) }
+fn add_link_line(into: &mut Vec<u8>, x: u64, rows: Rows) -> Result<(), OutOfMemory>
+    requires { (rows.own ≤ 1000000) × (rows.other ≤ 1000000) }
+    ensures { OnOk result (into.new.items ≡ into.old.items ++ link_text x rows.own rows.other) }
 {
-    add_line(into, b"vb", x, y + 44, x, other + 12)
+    add_line(into, b"vb", x, rows.own + 44, x, rows.other + 12)
 }
 
 fn add_link(
@@ -414,7 +432,7 @@ fn add_link(
 {
     match mark {
         Mark::Refusal { job, by, tick, .. } => {
-            add_link_line(into, middle(view, tick), y(set, job.tx), y(set, by.tx))
+            add_link_line(into, middle(view, tick), rows_of(set, job, by))
         }
         Mark::Pending { .. } => Ok(()),
         Mark::Lock { .. } => Ok(()),

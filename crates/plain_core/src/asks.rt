@@ -1,5 +1,6 @@
 //! The answer to an operation of the running job, and the effect of a granted one.
 ghost use Rattle.std.specs.Prelude.{◌≡◌, ◌<◌, ◌≤◌, ◌^◌, ℕ, Some, length, is_some};
+ghost use Rattle.txn_set.specs.Set.{txn_of};
 ghost use Rattle.step_journal.specs.State.{Row as RowSeen, row_of, same_job};
 ghost use Rattle.step_journal.specs.Running.{job_row};
 ghost use Rattle.step_journal.specs.LockRule.{needs_lock};
@@ -21,7 +22,7 @@ use crate::tally::Tally;
 use crate::verdict::end_of_step;
 use crate::work::Work;
 use board::StepReply;
-use item_model::{ItemDecl, Stored};
+use item_model::ItemDecl;
 use rt_base::{End, JobId, Op, Tick};
 use txn_set::{CompiledSet, TxnDecl};
 
@@ -57,15 +58,7 @@ pub fn own_end(
     requires used { head.used < 2 ^ 63 }
     ensures { result ≡ own_end_by set.now txn.now now head work.now op }
 {
-    end_of_step(
-        set.items(),
-        set.together(),
-        txn,
-        work,
-        head.used + 1,
-        now + 1,
-        op,
-    )
+    end_of_step(set, txn, work, head.used + 1, now + 1, op)
 }
 
 fn over(own: Option<End>, due: bool) -> Option<End>
@@ -82,43 +75,45 @@ fn over(own: Option<End>, due: bool) -> Option<End>
 fn granted(
     set: &CompiledSet,
     txn: &TxnDecl,
-    items: &[Stored],
-    now: Tick,
+    tables: &Tables,
     head: Head,
     work: &Work,
     op: Op,
 ) -> StepReply
-    requires now { now < 2 ^ 63 }
+    requires now { tables.now.state.now < 2 ^ 63 }
     requires used { head.used < 2 ^ 63 }
-    ensures { result ≡ granted_by set.now txn.now items.now now head work.now op }
+    ensures { result ≡ granted_by set.now txn.now tables.now.state.items tables.now.state.now head work.now op }
 {
+    let now = tables.now();
     let own = own_end(set, txn, now, head, work, op);
     StepReply::Done {
-        outcome: outcome(items, work, op),
+        outcome: outcome(tables.items(), work, op),
         over: over(own, is_due(head.release, txn.deadline, now + 1)),
     }
 }
 
-/// The refusal that the operation of this slot's job meets, and else the answer to the granted step.
+/// The refusal that the operation of the running job meets, and else the answer to the granted step.
 fn ask(
     set: &CompiledSet,
-    txn: &TxnDecl,
     tables: &Tables,
-    slot: &Slot,
     kept: usize,
     room: usize,
     job: JobId,
     op: Op,
 ) -> StepReply
+    requires declared { job.tx.0 < length set.now.txns }
+    requires slot { job.tx.0 < length tables.now.state.rows }
     requires now { tables.now.state.now < 2 ^ 63 }
-    requires used { (row : RowSeen) → slot.now ≡ Some row → row.used < 2 ^ 63 }
-    ensures { result ≡ ask_by set.now txn.now tables.now kept room job op slot.now }
+    requires used { (row : RowSeen) → row_of tables.now.state.rows job.tx.0 ≡ Some row → row.used < 2 ^ 63 }
+    ensures { result ≡ ask_by set.now (txn_of set.now job.tx.0) tables.now kept room job op (row_of tables.now.state.rows job.tx.0) }
 {
+    let txn = set.txn(job.tx);
+    let slot = &tables.slots()[job.tx.0 as usize];
     match slot.head() {
         None => StepReply::NotYet { running: job },
         Some(head) => {
             let work = slot.work();
-            let granted = granted(set, txn, tables.items(), tables.now(), head, work, op);
+            let granted = granted(set, txn, tables, head, work, op);
             let locked = if needs_lock(work, op) {
                 refused(set.txns(), tables.slots(), head.job, granted)
             } else {
@@ -156,14 +151,11 @@ pub fn turn(
     requires used { (n : ℕ) (row : RowSeen) → row_of tables.now.state.rows n ≡ Some row → row.used < 2 ^ 63 }
     ensures { result ≡ turn_by set.now tables.now kept room job op (running_by set.now.txns tables.now.state.rows) }
 {
-    let slots = tables.slots();
-    match running(set.txns(), slots) {
+    match running(set.txns(), tables.slots()) {
         None => StepReply::NotYet { running: job },
         Some(r) => {
             if same_job(r, job) {
-                let at = job.tx.0 as usize;
-                let txn = &set.txns()[at];
-                ask(set, txn, tables, &slots[at], kept, room, job, op)
+                ask(set, tables, kept, room, job, op)
             } else {
                 StepReply::NotYet { running: r }
             }

@@ -91,15 +91,8 @@ impl PlainCore {
     {
         let earliest = self.earliest(tx);
         let serial = plans_at(self.tables.plans(), tx).number;
-        judged(
-            tick,
-            self.tables.now(),
-            earliest,
-            self.tables.planned().len(),
-            self.journal.len(),
-            self.journal.room(),
-            JobId { tx, serial },
-        )
+        let job = JobId { tx, serial };
+        judged(&self.tables, &self.journal, tick, earliest, job)
     }
 
     /// Plans a job, or refuses it.

@@ -3,7 +3,9 @@ ghost use Rattle.std.specs.Prelude.{◌≡◌, ◌+◌, ◌<◌, ◌≤◌, ◌^
 ghost use Rattle.txn_set.specs.Set.{no_txn};
 ghost use Rattle.board.specs.Answers.{plan_judged};
 
+use crate::tables::Tables;
 use rt_base::{JobId, PlanRefused, Plans, Tick, TxId};
+use step_journal::Journal;
 use txn_set::TxnDecl;
 
 /// The earliest tick for the next job of a transaction.
@@ -20,18 +22,18 @@ pub fn earliest(txns: &[TxnDecl], tx: TxId, plans: Plans) -> Tick
     }
 }
 
-/// The refusals in their order, and else the job.
+/// The refusals of a job for this tick in their order, and else the job.
 pub fn judged(
+    tables: &Tables,
+    journal: &Journal,
     tick: Tick,
-    now: Tick,
     earliest: Tick,
-    planned: usize,
-    kept: usize,
-    room: usize,
     job: JobId,
 ) -> Result<JobId, PlanRefused>
-    ensures { result ≡ plan_judged tick now earliest planned kept room job }
+    ensures { result ≡ plan_judged tick tables.now.state.now earliest (length tables.now.state.planned) (length journal.now.kept) journal.now.room job }
 {
+    let now = tables.now();
+    let room = journal.room();
     if tick < now {
         Err(PlanRefused::Past { now })
     } else if tick < earliest {
@@ -40,13 +42,13 @@ pub fn judged(
         Err(PlanRefused::TooFar {
             limit: 0x100_0000_0000,
         })
-    } else if planned >= 65536 {
+    } else if tables.planned().len() >= 65536 {
         Err(PlanRefused::CalendarFull { room: 65536 })
     } else if job.serial >= 0xffff_ffff {
         Err(PlanRefused::NoSerial {
             planned: 0xffff_ffff,
         })
-    } else if kept >= room {
+    } else if journal.len() >= room {
         Err(PlanRefused::Full { room })
     } else {
         Ok(job)

@@ -6,7 +6,7 @@ ghost use Rattle.plain_core.specs.Effects.{end_here, overrun_at};
 use crate::work::Work;
 use item_model::{ItemDecl, OutsideRead, first_apart, first_expired};
 use rt_base::{End, ItemId, Op, Tick, TogetherDecl};
-use txn_set::TxnDecl;
+use txn_set::{CompiledSet, TxnDecl};
 
 fn apart_reads(together: &[TogetherDecl], work: &Work) -> Option<(OutsideRead, OutsideRead)>
     ensures { result ≡ first_apart work.now together.now }
@@ -60,15 +60,14 @@ fn overrun(txn: &TxnDecl, used: u64) -> Option<End>
 /// How the step that ends at this tick ends a job that has used so many steps with it, if it does. A commit costs a
 /// scan of the job's reads for each declared read and each item of a relative set.
 pub fn end_of_step(
-    decls: &[ItemDecl],
-    together: &[TogetherDecl],
+    set: &CompiledSet,
     txn: &TxnDecl,
     work: &Work,
     used: u64,
     tick: Tick,
     op: Op,
 ) -> Option<End>
-    ensures { result ≡ end_here decls.now together.now txn.now work.now used tick op }
+    ensures { result ≡ end_here set.now.items set.now.together txn.now work.now used tick op }
 {
     match op {
         Op::Read(_) => overrun(txn, used),
@@ -76,7 +75,7 @@ pub fn end_of_step(
         Op::Compute => overrun(txn, used),
         Op::Commit => {
             let reads = txn.reads.as_slice();
-            Some(verdict(decls, together, reads, work, tick))
+            Some(verdict(set.items(), set.together(), reads, work, tick))
         }
         Op::Quit => Some(End::Quit),
     }

@@ -8,7 +8,7 @@ ghost use Rattle.report_export.specs.Texts.{txn_lines, item_lines, summary_of};
 
 use crate::ages::{ages, commits};
 use crate::tally::tallies;
-use crate::text::{add_age, add_txn};
+use crate::text::{Summed, add_age, add_txn};
 use job_rows::{JobRow, rows_of};
 use rt_base::{Names, OutOfMemory};
 use run_report::legal_has_rows;
@@ -21,21 +21,20 @@ use txn_set::CompiledSet;
 fn add_txns(
     alloc: Global,
     into: &mut Vec<u8>,
-    names: &Names,
-    set: &CompiledSet,
-    bounds: Option<&AdmittedSet>,
+    summed: Summed,
     rows: &[JobRow],
 ) -> Result<(), OutOfMemory>
-    requires names { NamesSet names.now set.now }
-    requires same { IfSome bounds (λ b. b.now ≡ set.now) }
-    requires rows { All (KnownRow names.now) rows.now }
-    ensures { OnOk result (into.new.items ≡ into.old.items ++ numbered (txn_lines names.now set.now (is_some bounds.entry) rows.now) 0 set.now.txns) }
+    requires names { NamesSet summed.names.now summed.set.now }
+    requires same { IfSome summed.bounds (λ b. b.now ≡ summed.set.now) }
+    requires rows { All (KnownRow summed.names.now) rows.now }
+    ensures { OnOk result (into.new.items ≡ into.old.items ++ numbered (txn_lines summed.entry.names.now summed.entry.set.now (is_some summed.entry.bounds) rows.now) 0 summed.entry.set.now.txns) }
 {
+    let set = summed.set;
     set.is_compiled();
     let txns = set.txns().len();
     let tallies = tallies(alloc, txns, rows)?;
     for i in 0..txns {
-        add_txn(into, names, set, bounds, i as u32, &tallies[i])?;
+        add_txn(into, summed, i as u32, &tallies[i])?;
     }
     Ok(())
 }
@@ -44,23 +43,22 @@ fn add_txns(
 fn add_items(
     alloc: Global,
     into: &mut Vec<u8>,
-    names: &Names,
-    set: &CompiledSet,
-    bounds: Option<&AdmittedSet>,
+    summed: Summed,
     rows: &[JobRow],
     entries: &[Entry],
 ) -> Result<(), OutOfMemory>
-    requires names { NamesSet names.now set.now }
-    requires same { IfSome bounds (λ b. b.now ≡ set.now) }
-    requires rows { All (KnownRow names.now) rows.now }
-    ensures { OnOk result (into.new.items ≡ into.old.items ++ numbered (item_lines names.now set.now (is_some bounds.entry) rows.now entries.now) 0 set.now.items) }
+    requires names { NamesSet summed.names.now summed.set.now }
+    requires same { IfSome summed.bounds (λ b. b.now ≡ summed.set.now) }
+    requires rows { All (KnownRow summed.names.now) rows.now }
+    ensures { OnOk result (into.new.items ≡ into.old.items ++ numbered (item_lines summed.entry.names.now summed.entry.set.now (is_some summed.entry.bounds) rows.now entries.now) 0 summed.entry.set.now.items) }
 {
+    let set = summed.set;
     set.is_compiled();
     let items = set.items();
     let commits = commits(alloc, set.txns().len(), rows)?;
     let worsts = ages(alloc, items.len(), commits.as_slice(), entries)?;
     for i in 0..items.len() {
-        add_age(into, names, set, bounds, i as u32, items[i].kind, worsts[i])?;
+        add_age(into, summed, i as u32, items[i].kind, worsts[i])?;
     }
     Ok(())
 }
@@ -87,15 +85,8 @@ pub fn summary(
     set.is_compiled();
     let rows = rows_of(alloc, set, entries)?;
     let mut text = Vec::new(alloc);
-    add_txns(alloc, &mut text, names, set, bounds, rows.as_slice())?;
-    add_items(
-        alloc,
-        &mut text,
-        names,
-        set,
-        bounds,
-        rows.as_slice(),
-        entries,
-    )?;
+    let summed = Summed { names, set, bounds };
+    add_txns(alloc, &mut text, summed, rows.as_slice())?;
+    add_items(alloc, &mut text, summed, rows.as_slice(), entries)?;
     Ok(text)
 }

@@ -16,6 +16,17 @@ use rt_base::{ItemId, Names, OutOfMemory, Tick, TxId};
 use set_admission::AdmittedSet;
 use txn_set::CompiledSet;
 
+/// What a summary is of: a set, its names, and, if it is admitted, its bounds.
+#[derive(Clone, Copy)]
+pub(crate) struct Summed<'a> {
+    /// The names.
+    pub names: &'a Names,
+    /// The set.
+    pub set: &'a CompiledSet,
+    /// Its bounds, if it is admitted.
+    pub bounds: Option<&'a AdmittedSet>,
+}
+
 // Adds a word and a number.
 fn put_count(into: &mut Vec<u8>, word: &[u8], n: u64)
     requires { vec_len into.old + length word.now + 22 ≤ vec_capacity into.old }
@@ -129,17 +140,16 @@ fn blocking(set: &CompiledSet, bounds: Option<&AdmittedSet>, tx: TxId) -> Option
 /// Adds the lines of a transaction.
 pub(crate) fn add_txn(
     into: &mut Vec<u8>,
-    names: &Names,
-    set: &CompiledSet,
-    bounds: Option<&AdmittedSet>,
+    summed: Summed,
     tx: u32,
     tally: &Tally,
 ) -> Result<(), OutOfMemory>
-    requires same { IfSome bounds (λ b. b.now ≡ set.now) }
-    requires name { tx < length names.now.txns }
-    requires tx { tx < length set.now.txns }
-    ensures { OnOk result (into.new.items ≡ into.old.items ++ tally_lines names.now set.now (is_some bounds.entry) tx tally.now) }
+    requires same { IfSome summed.bounds (λ b. b.now ≡ summed.set.now) }
+    requires name { tx < length summed.names.now.txns }
+    requires tx { tx < length summed.set.now.txns }
+    ensures { OnOk result (into.new.items ≡ into.old.items ++ tally_lines summed.entry.names.now summed.entry.set.now (is_some summed.entry.bounds) tx tally.now) }
 {
+    let Summed { names, set, bounds } = summed;
     add_counts(into, names, tx, tally)?;
     let bound = response(set, bounds, TxId(tx));
     add_worst(into, names, b"response", tx, tally.response, bound)?;
@@ -196,18 +206,16 @@ fn add_age_line(
 #[tactic(auto, using(crate::proofs::SumTelling::has_validity))]
 pub(crate) fn add_age(
     into: &mut Vec<u8>,
-    names: &Names,
-    set: &CompiledSet,
-    bounds: Option<&AdmittedSet>,
+    summed: Summed,
     item: u32,
     kind: ItemKind,
     found: Option<Tick>,
 ) -> Result<(), OutOfMemory>
-    requires same { IfSome bounds (λ b. b.now ≡ set.now) }
-    requires name { item < length names.now.items }
-    requires item { item < length set.now.items }
-    requires kind { validity_of set.now.items item ≡ validity_of_kind kind }
-    ensures { OnOk result (into.new.items ≡ into.old.items ++ age_text names.now item found (bound_in (is_some bounds.entry) (age_of set.now item)) (validity_of_kind kind)) }
+    requires same { IfSome summed.bounds (λ b. b.now ≡ summed.set.now) }
+    requires name { item < length summed.names.now.items }
+    requires item { item < length summed.set.now.items }
+    requires kind { validity_of summed.set.now.items item ≡ validity_of_kind kind }
+    ensures { OnOk result (into.new.items ≡ into.old.items ++ age_text summed.entry.names.now item found (bound_in (is_some summed.entry.bounds) (age_of summed.entry.set.now item)) (validity_of_kind kind)) }
 {
     let Some(found) = found else {
         return Ok(());
@@ -215,6 +223,6 @@ pub(crate) fn add_age(
     let Some(validity) = validity(kind) else {
         return Ok(());
     };
-    let bound = age_bound(set, bounds, ItemId(item));
-    add_age_line(into, names, item, found, bound, validity)
+    let bound = age_bound(summed.set, summed.bounds, ItemId(item));
+    add_age_line(into, summed.names, item, found, bound, validity)
 }

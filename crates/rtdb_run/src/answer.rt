@@ -15,7 +15,7 @@ use std::alloc::Global;
 use std::convert::AsStr;
 use std::sync::Wait;
 use std::thread::Threads;
-use txn_threads::Gate;
+use txn_threads::NoGate;
 
 // Whether the first word is `journal`.
 fn is_for_journal(words: &[Word]) -> bool
@@ -39,14 +39,13 @@ pub fn journal_path(words: &[Word]) -> Option<&str>
 
 /// What the program answers to the words, over the disk where the first of them is `journal`; no other words touch it. The
 /// disk is handed back. `run` and `load` may wait; every other command always returns.
-pub fn answer<R: Threads + Wait + Sync, S: Source, K: Sink, D: Disk, G: Gate + Sync>(
+pub fn answer<R: Threads + Wait + Sync, S: Source, K: Sink, D: Disk>(
     rt: &R,
     alloc: Global,
     words: &[Word],
     source: &mut S,
     sink: &mut K,
     disk: D,
-    gate: &G,
 ) -> (Status, D)
     // Which status, and what is written.
     ensures journal { is_for_journal_of words.now ≡ true
@@ -76,6 +75,6 @@ pub fn answer<R: Threads + Wait + Sync, S: Source, K: Sink, D: Disk, G: Gate + S
     if is_for_journal(words) {
         rtdb_journal(alloc, words, source, sink, disk)
     } else {
-        (rtdb(rt, alloc, words, source, sink, gate), disk)
+        (rtdb(rt, alloc, words, source, sink, &NoGate), disk)
     }
 }

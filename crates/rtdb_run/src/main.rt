@@ -10,7 +10,6 @@ use rt_base::OutOfMemory;
 use rtdb_command::Status;
 use std::env;
 use std::process::ExitCode;
-use txn_threads::NoGate;
 
 fn main(rt: HostRuntime) -> ExitCode {
     let words = match words_of(rt.alloc(), env::args(&rt)) {
@@ -20,14 +19,6 @@ fn main(rt: HostRuntime) -> ExitCode {
     let mut source = StdSource::new(rt.stdin());
     let mut sink = StdSink::new(rt.stdout());
     let disk = FileDisk::open(&rt, journal_path(&words));
-    let (status, _) = answer(
-        &rt,
-        rt.alloc(),
-        &words,
-        &mut source,
-        &mut sink,
-        disk,
-        &NoGate,
-    );
+    let (status, _) = answer(&rt, rt.alloc(), &words, &mut source, &mut sink, disk);
     exit_code(status)
 }

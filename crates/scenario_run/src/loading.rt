@@ -45,24 +45,34 @@ fn summary_on<R: Threads + Wait + Sync, B: Board + Send + Drop, G: Gate + Sync>(
     summary(alloc, board.set(), history.as_slice())
 }
 
+// A new board, the bodies that are to run on it, and for how many entries there is to be room.
+struct LoadRun<B> {
+    board: B,
+    bodies: Bodies,
+    room: usize,
+}
+
 // The summary of the run of bodies on a new board, by so many workers.
 fn summary_of<R: Threads + Wait + Sync, B: Board + Send + Drop, G: Gate + Sync>(
     rt: &R,
     alloc: Global,
     workers: Workers,
-    board: B,
-    bodies: Bodies,
-    entries: usize,
+    load: LoadRun<B>,
     gate: &G,
 ) -> Result<Vec<u8>, OutOfMemory>
-    requires opened { B.stands board [] }
-    requires room { 1024 < B.room board }
-    requires ready { IsReady (B.set board) bodies.scripts.items bodies.ticks.items bodies.own.items }
-    requires compiled { IsCompiled (B.set board) }
-    requires fixed { (tx : ℕ) → own_at bodies.own.items tx ≡ 0 }
-    requires entries { room_of_jobs (B.set board).txns (λ tx. length (ticks_of bodies.ticks.items tx) + own_at bodies.own.items tx) ≤ entries }
-    ensures { IfOk result (λ text. IsSummaryBy (workload (B.set board) (functions_of bodies.scripts.items) bodies.ticks.items) text.items) }
+    requires opened { B.stands load.board [] }
+    requires room { 1024 < B.room load.board }
+    requires ready { IsReady (B.set load.board) load.bodies.scripts.items load.bodies.ticks.items load.bodies.own.items }
+    requires compiled { IsCompiled (B.set load.board) }
+    requires fixed { (tx : ℕ) → own_at load.bodies.own.items tx ≡ 0 }
+    requires entries { room_of_jobs (B.set load.board).txns (λ tx. length (ticks_of load.bodies.ticks.items tx) + own_at load.bodies.own.items tx) ≤ load.room }
+    ensures { IfOk result (λ text. IsSummaryBy (workload (B.set load.board) (functions_of load.bodies.scripts.items) load.bodies.ticks.items) text.items) }
 {
+    let LoadRun {
+        board,
+        bodies,
+        room,
+    } = load;
     let Bodies {
         scripts,
         ticks,
@@ -76,7 +86,7 @@ fn summary_of<R: Threads + Wait + Sync, B: Board + Send + Drop, G: Gate + Sync>(
             return Err(OutOfMemory);
         }
     };
-    let text = summary_on(rt, alloc, run, entries, gate);
+    let text = summary_on(rt, alloc, run, room, gate);
     drop(ticks);
     drop(own);
     text
@@ -112,7 +122,14 @@ fn loaded<R: Threads + Wait + Sync, G: Gate + Sync>(
         }
     };
     match Core::new(alloc, set, BOARD_ROOM) {
-        Ok(board) => summary_of(rt, alloc, workers, board, bodies, room, gate),
+        Ok(board) => {
+            let load = LoadRun {
+                board,
+                bodies,
+                room,
+            };
+            summary_of(rt, alloc, workers, load, gate)
+        }
         Err((set, _)) => {
             drop(set);
             drop(bodies);

@@ -145,61 +145,72 @@ fn put_lists(
     put_items(out, "writes", names, decl.writes.as_slice())
 }
 
+// A transaction of a scenario.
+#[derive(Clone, Copy)]
+struct ScenarioTxn<'a> {
+    name: &'a Name,
+    decl: &'a TxnDecl,
+    script: &'a Script,
+    releases: &'a Releases,
+}
+
 // A transaction; `second` says that the text is version 2's.
-fn txn(
-    out: &mut Writer,
-    second: bool,
-    names: &[Name],
-    name: &Name,
-    decl: &TxnDecl,
-    body: &Script,
-    releases: &Releases,
-) -> Result<(), OutOfMemory>
-    requires reads { All (λ i. i.0 < length names.now) decl.now.reads }
-    requires writes { All (λ i. i.0 < length names.now) decl.now.writes }
-    requires good { IsTrue (list_all (is_good (length names.now)) (program_of body.now).ops) }
-    requires short { steps_of (program_of body.now).ops ≤ 10000 }
+fn txn(out: &mut Writer, second: bool, names: &[Name], one: ScenarioTxn) -> Result<(), OutOfMemory>
+    requires reads { All (λ i. i.0 < length names.now) one.decl.now.reads }
+    requires writes { All (λ i. i.0 < length names.now) one.decl.now.writes }
+    requires good { IsTrue (list_all (is_good (length names.now)) (program_of one.script.now).ops) }
+    requires short { steps_of (program_of one.script.now).ops ≤ 10000 }
     ensures data { OnOk result (Sends (txn_data second names.now (record {
-      name = name.now;
-      decl = decl.now;
-      program = program_of body.now;
-      releases = releases.now;
+      name = one.entry.name.now;
+      decl = one.entry.decl.now;
+      program = program_of one.entry.script.now;
+      releases = one.entry.releases.now;
     })) out.old out.new) }
-    ensures fits { OnOk result (ProgramHasIntegers (program_of body.now)) }
+    ensures fits { OnOk result (ProgramHasIntegers (program_of one.entry.script.now)) }
 {
     begin_object(out)?;
-    put_head(out, name, decl, releases)?;
-    put_numbers(out, second, decl)?;
-    put_lists(out, names, decl, body, releases)?;
+    put_head(out, one.name, one.decl, one.releases)?;
+    put_numbers(out, second, one.decl)?;
+    put_lists(out, names, one.decl, one.script, one.releases)?;
     end_object(out)
 }
 
-// Transactions with their names, scripts and releases.
+// The transactions of a scenario, in lists of one order.
+#[derive(Clone, Copy)]
+struct ScenarioTxns<'a> {
+    names: &'a [Name],
+    decls: &'a [TxnDecl],
+    scripts: &'a [Script],
+    releases: &'a [Releases],
+}
+
+// Transactions over items with these names.
 fn txn_list(
     out: &mut Writer,
     second: bool,
     names: &[Name],
-    txn_names: &[Name],
-    decls: &[TxnDecl],
-    scripts: &[Script],
-    releases: &[Releases],
+    txns: ScenarioTxns,
 ) -> Result<(), OutOfMemory>
-    requires { AreWritable names.now txn_names.now decls.now (map program_of scripts.now) releases.now }
+    requires { AreWritable names.now txns.names.now txns.decls.now (map program_of txns.scripts.now) txns.releases.now }
     ensures data { OnOk result (Sends (array_of (map (txn_data second names.now)
-        (written txn_names.now decls.now (map program_of scripts.now) releases.now))) out.old out.new) }
-    ensures fits { OnOk result (All (λ s. ProgramHasIntegers (program_of s)) scripts.now) }
+        (written txns.entry.names.now txns.entry.decls.now (map program_of txns.entry.scripts.now) txns.entry.releases.now))) out.old out.new) }
+    ensures fits { OnOk result (All (λ s. ProgramHasIntegers (program_of s)) txns.entry.scripts.now) }
 {
+    let ScenarioTxns {
+        names: txn_names,
+        decls,
+        scripts,
+        releases,
+    } = txns;
     begin_array(out)?;
     for i in 0..decls.len() {
-        txn(
-            out,
-            second,
-            names,
-            &txn_names[i],
-            &decls[i],
-            &scripts[i],
-            &releases[i],
-        )?;
+        let one = ScenarioTxn {
+            name: &txn_names[i],
+            decl: &decls[i],
+            script: &scripts[i],
+            releases: &releases[i],
+        };
+        txn(out, second, names, one)?;
     }
     end_array(out)
 }
@@ -211,9 +222,11 @@ pub(crate) fn txns(out: &mut Writer, second: bool, scenario: &Scenario) -> Resul
     ensures fits { OnOk result (All (λ s. ProgramHasIntegers (program_of s)) scenario.now.scripts) }
 {
     let names = scenario.names.items.as_slice();
-    let txn_names = scenario.names.txns.as_slice();
-    let decls = scenario.txns.as_slice();
-    let scripts = scenario.scripts.as_slice();
-    let releases = scenario.releases.as_slice();
-    txn_list(out, second, names, txn_names, decls, scripts, releases)
+    let txns = ScenarioTxns {
+        names: scenario.names.txns.as_slice(),
+        decls: scenario.txns.as_slice(),
+        scripts: scenario.scripts.as_slice(),
+        releases: scenario.releases.as_slice(),
+    };
+    txn_list(out, second, names, txns)
 }

@@ -3,15 +3,23 @@ ghost use Rattle.std.specs.Prelude.{◌≡◌, map};
 ghost use Rattle.std.specs.List.{list_any};
 ghost use Rattle.step_journal.specs.State.{same_job};
 ghost use Rattle.txn_set.specs.Ceilings.{greatest};
-ghost use Rattle.schedule_marks.specs.Marks.{until as until_in, until_of as until_in_rows, present_in, wait_in, wait_mark, ceiling_in, lock_mark, lock_by, is_lock_on, shows_lock, earlier_write, lock_until, lock_in, ceiling_by};
+ghost use Rattle.schedule_marks.specs.Marks.{until as until_in, until_of as until_in_rows, present_in, wait_in, wait_mark, ceiling_in, lock_mark as mark_of_lock, lock_by, is_lock_on, shows_lock, earlier_write, lock_until, lock_in, ceiling_by};
 ghost use Rattle.schedule_marks.specs.Seen.{seen_in};
 
 use crate::mark::Mark;
-use crate::part::{Part, meets};
+use crate::part::{Part, Window, meets};
 use job_rows::JobRow;
 use rt_base::{ItemId, JobId, Op, Outcome, Prio, Tick};
 use step_journal::Entry;
 use txn_set::CompiledSet;
+
+// A lock of a job on an item.
+#[derive(Clone, Copy)]
+struct ItemLock {
+    job: JobId,
+    item: ItemId,
+    is_write: bool,
+}
 
 /// The tick at which a job ended, or where the picture stops.
 pub(crate) fn until(stop: Tick, row: &JobRow) -> Tick
@@ -42,10 +50,10 @@ fn until_of(stop: Tick, rows: &[JobRow], job: JobId) -> Tick
 }
 
 /// The row of a job that was pending in the part or at one of its ends.
-pub(crate) fn present_row(part: Part, stop: Tick, row: &JobRow) -> Option<JobRow>
-    ensures { result ≡ present_in part stop row.now }
+pub(crate) fn present_row(window: Window, row: &JobRow) -> Option<JobRow>
+    ensures { result ≡ present_in window.part window.stop row.now }
 {
-    if row.release <= part.to && part.from <= until(stop, row) {
+    if row.release <= window.part.to && window.part.from <= until(window.stop, row) {
         Some(*row)
     } else {
         None
@@ -62,13 +70,13 @@ fn wait(part: Part, job: JobId, by: JobId, from: Tick, to: Tick) -> Option<Mark>
     }
 }
 
-pub(crate) fn wait_of(part: Part, stop: Tick, rows: &[JobRow], entry: &Entry) -> Option<Mark>
-    ensures { result ≡ wait_in part stop rows.now entry.now }
+pub(crate) fn wait_of(window: Window, rows: &[JobRow], entry: &Entry) -> Option<Mark>
+    ensures { result ≡ wait_in window.part window.stop rows.now entry.now }
 {
     match *entry {
         Entry::Blocked { job, by, tick, .. } => {
-            let to = until_of(stop, rows, job).min(until_of(stop, rows, by));
-            wait(part, job, by, tick, to)
+            let to = until_of(window.stop, rows, job).min(until_of(window.stop, rows, by));
+            wait(window.part, job, by, tick, to)
         }
         Entry::Planned { .. } => None,
         Entry::Step { .. } => None,
@@ -89,23 +97,15 @@ fn ceiling(set: &CompiledSet, item: ItemId, is_write: bool) -> Prio
     }
 }
 
-fn lock(
-    set: &CompiledSet,
-    part: Part,
-    job: JobId,
-    item: ItemId,
-    is_write: bool,
-    from: Tick,
-    to: Tick,
-) -> Option<Mark>
-    ensures { result ≡ lock_mark set.now part job item is_write from to }
+fn lock_mark(set: &CompiledSet, part: Part, lock: ItemLock, from: Tick, to: Tick) -> Option<Mark>
+    ensures { result ≡ mark_of_lock set.now part lock.job lock.item lock.is_write from to }
 {
     if meets(part, from, to) {
         Some(Mark::Lock {
-            job,
-            item,
-            is_write,
-            ceiling: ceiling(set, item, is_write),
+            job: lock.job,
+            item: lock.item,
+            is_write: lock.is_write,
+            ceiling: ceiling(set, lock.item, lock.is_write),
             from,
             to,
         })
@@ -115,12 +115,12 @@ fn lock(
 }
 
 /// The entry, where it is a step of a job that ends after the part begins.
-pub(crate) fn seen_step(part: Part, stop: Tick, rows: &[JobRow], entry: &Entry) -> Option<Entry>
-    ensures { result ≡ seen_in part stop rows.now entry.now }
+pub(crate) fn seen_step(window: Window, rows: &[JobRow], entry: &Entry) -> Option<Entry>
+    ensures { result ≡ seen_in window.part window.stop rows.now entry.now }
 {
     match *entry {
         Entry::Step { job, .. } => {
-            if part.from < until_of(stop, rows, job) {
+            if window.part.from < until_of(window.stop, rows, job) {
                 Some(*entry)
             } else {
                 None
@@ -162,8 +162,8 @@ fn is_lock(item: ItemId, is_write: bool, lock: Option<(ItemId, bool)>) -> bool
 }
 
 // Whether an entry is a step of the job that shows a lock on the item: a write lock if one is asked for, and else any.
-fn is_showing(job: JobId, item: ItemId, is_write: bool, entry: &Entry) -> bool
-    ensures { result ≡ shows_lock job item is_write entry.now }
+fn is_showing(lock: ItemLock, entry: &Entry) -> bool
+    ensures { result ≡ shows_lock lock.job lock.item lock.is_write entry.now }
 {
     match *entry {
         Entry::Step {
@@ -171,7 +171,7 @@ fn is_showing(job: JobId, item: ItemId, is_write: bool, entry: &Entry) -> bool
             op,
             outcome,
             ..
-        } => is_job(by, job) && is_lock(item, is_write, taken(op, outcome)),
+        } => is_job(by, lock.job) && is_lock(lock.item, lock.is_write, taken(op, outcome)),
         Entry::Planned { .. } => false,
         Entry::Blocked { .. } => false,
         Entry::Idle { .. } => false,
@@ -179,24 +179,28 @@ fn is_showing(job: JobId, item: ItemId, is_write: bool, entry: &Entry) -> bool
 }
 
 // Whether one of the entries is such a step.
-fn is_shown(job: JobId, item: ItemId, is_write: bool, entries: &[Entry]) -> bool
-    ensures { result ≡ list_any (shows_lock job item is_write) entries.now }
+fn is_shown(lock: ItemLock, entries: &[Entry]) -> bool
+    ensures { result ≡ list_any (shows_lock lock.job lock.item lock.is_write) entries.now }
 {
     for entry in entries {
-        if is_showing(job, item, is_write, entry) {
+        if is_showing(lock, entry) {
             return true;
         }
     }
     false
 }
 
-// The tick of the job's write of an item, if that is earlier than this one.
-fn earlier(job: JobId, item: ItemId, to: Tick, entry: &Entry) -> Tick
-    ensures { result ≡ earlier_write job item to entry.now }
+// The tick of the job's write of the item, if that is earlier than this one.
+fn earlier(lock: ItemLock, to: Tick, entry: &Entry) -> Tick
+    ensures { result ≡ earlier_write lock.job lock.item to entry.now }
 {
+    let write = ItemLock {
+        is_write: true,
+        ..lock
+    };
     match *entry {
         Entry::Step { tick, .. } => {
-            if is_showing(job, item, true, entry) {
+            if is_showing(write, entry) {
                 tick.min(to)
             } else {
                 to
@@ -209,15 +213,15 @@ fn earlier(job: JobId, item: ItemId, to: Tick, entry: &Entry) -> Tick
 }
 
 // Until when a lock is held whose job ends at a tick.
-fn held_until(job: JobId, item: ItemId, is_write: bool, end: Tick, after: &[Entry]) -> Tick
-    ensures { result ≡ lock_until job item is_write end after.now }
+fn held_until(lock: ItemLock, end: Tick, after: &[Entry]) -> Tick
+    ensures { result ≡ lock_until lock.job lock.item lock.is_write end after.now }
 {
-    if is_write {
+    if lock.is_write {
         return end;
     }
     let mut to = end;
     for entry in after {
-        to = earlier(job, item, to, entry);
+        to = earlier(lock, to, entry);
     }
     to
 }
@@ -226,14 +230,13 @@ fn held_until(job: JobId, item: ItemId, is_write: bool, end: Tick, after: &[Entr
 /// these entries only if the job is pending in the part after the entry.
 pub(crate) fn lock_of(
     set: &CompiledSet,
-    part: Part,
-    stop: Tick,
+    window: Window,
     rows: &[JobRow],
     before: &[Entry],
     after: &[Entry],
     entry: &Entry,
 ) -> Option<Mark>
-    ensures { result ≡ lock_in set.now part stop rows.now before.now after.now entry.now }
+    ensures { result ≡ lock_in set.now window.part window.stop rows.now before.now after.now entry.now }
 {
     match *entry {
         Entry::Step {
@@ -244,12 +247,17 @@ pub(crate) fn lock_of(
             ..
         } => match taken(op, outcome) {
             Some((item, is_write)) => {
-                let end = until_of(stop, rows, job);
-                if !meets(part, tick, end) || is_shown(job, item, is_write, before) {
+                let lock = ItemLock {
+                    job,
+                    item,
+                    is_write,
+                };
+                let end = until_of(window.stop, rows, job);
+                if !meets(window.part, tick, end) || is_shown(lock, before) {
                     return None;
                 }
-                let to = held_until(job, item, is_write, end, after);
-                lock(set, part, job, item, is_write, tick, to)
+                let to = held_until(lock, end, after);
+                lock_mark(set, window.part, lock, tick, to)
             }
             None => None,
         },

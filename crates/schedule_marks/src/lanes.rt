@@ -9,7 +9,7 @@ ghost use Rattle.step_journal.specs.Timing.{outside_read as read_by, read_in, ou
 ghost use Rattle.schedule_marks.specs.Lanes.{commits as is_commit, commit_tick as tick_of_commit, install_tick as tick_of_install, stamp_by as stamp_by_job, stamp_of as stamp_of_value, or_start, start_of as start_of_value, age_span as span_of_age, age_until, spans_from, dated_below, age_spans_to, age_spans_of, read_of_item, read_at, read_in_part, age_reads_of, bound_at, bound_in, bounds_of};
 
 use crate::lists::add;
-use crate::part::{Part, has_instant, meets};
+use crate::part::{Part, Window, has_instant, meets};
 use crate::whole::last_instant;
 use item_model::{ItemDecl, OutsideRead, is_dated, is_derived};
 use job_rows::JobRow;
@@ -42,6 +42,14 @@ pub struct AgeRead {
 pub struct Bound {
     pub job: JobId,
     pub tick: Tick,
+}
+
+// A value of an item that stood up to a tick: that of a job, or the one at the start.
+#[derive(Clone, Copy)]
+struct Standing {
+    item: ItemId,
+    by: Option<JobRow>,
+    to: Tick,
 }
 
 /// Whether an end is a commit.
@@ -229,28 +237,26 @@ fn start_of(by: Option<JobRow>) -> Tick
     }
 }
 
-// How long the value of this job stood, if in the part.
+// How long the value stood, if in the part.
 fn age_span(
     alloc: Global,
     set: &CompiledSet,
     part: Part,
     entries: &[Entry],
-    item: ItemId,
-    by: Option<JobRow>,
-    to: Tick,
+    value: Standing,
 ) -> Result<Option<AgeSpan>, OutOfMemory>
-    ensures { IfOk result (λ span. span ≡ age_until set.now part entries.now item.0 by to) }
+    ensures { IfOk result (λ span. span ≡ age_until set.now part entries.now value.item.0 value.by value.to) }
 {
-    let from = start_of(by);
-    if !meets(part, from, to) {
+    let from = start_of(value.by);
+    if !meets(part, from, value.to) {
         return Ok(None);
     }
-    let stamp = stamp_of(alloc, set, entries, item, by)?;
+    let stamp = stamp_of(alloc, set, entries, value.item, value.by)?;
     Ok(Some(AgeSpan {
-        item,
+        item: value.item,
         stamp,
         from,
-        to,
+        to: value.to,
     }))
 }
 
@@ -259,52 +265,49 @@ fn add_age_span(
     set: &CompiledSet,
     part: Part,
     entries: &[Entry],
-    item: ItemId,
-    by: Option<JobRow>,
-    to: Tick,
+    value: Standing,
 ) -> Result<(), OutOfMemory>
-    ensures { OnOk result (into.new.items ≡ into.old.items ++ option_to_list (age_until set.now part entries.now item.0 by to)) }
+    ensures { OnOk result (into.new.items ≡ into.old.items ++ option_to_list (age_until set.now part entries.now value.item.0 value.by value.to)) }
 {
-    let span = age_span(*into.allocator(), set, part, entries, item, by, to)?;
+    let span = age_span(*into.allocator(), set, part, entries, value)?;
     add(into, span)
 }
 
 fn add_spans_of(
     into: &mut Vec<AgeSpan>,
     set: &CompiledSet,
-    part: Part,
-    stop: Tick,
+    window: Window,
     rows: &[JobRow],
     entries: &[Entry],
     item: ItemId,
 ) -> Result<(), OutOfMemory>
-    ensures { OnOk result (into.new.items ≡ into.old.items ++ spans_from set.now part stop entries.now item.0 None rows.now) }
+    ensures { OnOk result (into.new.items ≡ into.old.items ++ spans_from set.now window.part window.stop entries.now item.0 None rows.now) }
 {
     let mut by = None;
     for row in rows {
-        if let Some(tick) = install_tick(set, item, row) {
-            add_age_span(into, set, part, entries, item, by, tick)?;
+        if let Some(to) = install_tick(set, item, row) {
+            add_age_span(into, set, window.part, entries, Standing { item, by, to })?;
             by = Some(*row);
         }
     }
-    add_age_span(into, set, part, entries, item, by, stop)
+    let to = window.stop;
+    add_age_span(into, set, window.part, entries, Standing { item, by, to })
 }
 
 fn add_all_spans(
     into: &mut Vec<AgeSpan>,
     set: &CompiledSet,
-    part: Part,
-    stop: Tick,
+    window: Window,
     rows: &[JobRow],
     entries: &[Entry],
 ) -> Result<(), OutOfMemory>
-    ensures { OnOk result (into.new.items ≡ into.old.items ++ age_spans_to set.now part stop rows.now entries.now) }
+    ensures { OnOk result (into.new.items ≡ into.old.items ++ age_spans_to set.now window.part window.stop rows.now entries.now) }
 {
     set.is_compiled();
     for i in 0..set.items().len() {
         let item = ItemId(i as u32);
         if is_dated(set.items(), item) {
-            add_spans_of(into, set, part, stop, rows, entries, item)?;
+            add_spans_of(into, set, window, rows, entries, item)?;
         }
     }
     Ok(())
@@ -323,7 +326,7 @@ pub fn age_spans(
 {
     let mut into = Vec::new(alloc);
     let stop = last_instant(part.to, entries);
-    add_all_spans(&mut into, set, part, stop, rows, entries)?;
+    add_all_spans(&mut into, set, Window { part, stop }, rows, entries)?;
     Ok(into)
 }
 

@@ -24,7 +24,8 @@ pub use place::{
 };
 pub use showing::{Limits, Shown, show};
 pub use svg::{
-    add, add_circle, add_count, add_fitting, add_line, add_number, add_rect, add_word, add_words,
+    Room, add, add_circle, add_count, add_fitting, add_line, add_number, add_rect, add_word,
+    add_words,
 };
 pub use view::View;
 pub use whole::{last_instant, marks};

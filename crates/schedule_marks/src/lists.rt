@@ -9,7 +9,7 @@ use crate::held::{ceiling_in_tick, lock_of, present_row, seen_step, wait_of};
 use crate::mark::{
     Mark, deadline_mark, end_mark, pending_mark, refusal_mark, release_mark, step_mark,
 };
-use crate::part::Part;
+use crate::part::{Part, Window};
 use job_rows::JobRow;
 use rt_base::{OutOfMemory, Tick};
 use std::alloc::Global;
@@ -29,29 +29,27 @@ pub(crate) fn add<T: Copy>(into: &mut Vec<T>, one: Option<T>) -> Result<(), OutO
 /// The rows of the jobs that were pending in the part or at one of its ends.
 pub(crate) fn present_rows(
     alloc: Global,
-    part: Part,
-    stop: Tick,
+    window: Window,
     rows: &[JobRow],
 ) -> Result<Vec<JobRow>, OutOfMemory>
-    ensures { IfOk result (λ v. v.items ≡ present part stop rows.now) }
+    ensures { IfOk result (λ v. v.items ≡ present window.part window.stop rows.now) }
 {
     let mut into = Vec::new(alloc);
     for row in rows {
-        add(&mut into, present_row(part, stop, row))?;
+        add(&mut into, present_row(window, row))?;
     }
     Ok(into)
 }
 
 pub(crate) fn add_pending(
     into: &mut Vec<Mark>,
-    part: Part,
-    stop: Tick,
+    window: Window,
     rows: &[JobRow],
 ) -> Result<(), OutOfMemory>
-    ensures { OnOk result (into.new.items ≡ into.old.items ++ filter_map (pending_in part stop) rows.now) }
+    ensures { OnOk result (into.new.items ≡ into.old.items ++ filter_map (pending_in window.part window.stop) rows.now) }
 {
     for row in rows {
-        add(into, pending_mark(part, stop, row))?;
+        add(into, pending_mark(window, row))?;
     }
     Ok(())
 }
@@ -59,16 +57,15 @@ pub(crate) fn add_pending(
 // The steps of the jobs that end after the part begins: no other entry shows a lock in it.
 fn seen_steps(
     alloc: Global,
-    part: Part,
-    stop: Tick,
+    window: Window,
     rows: &[JobRow],
     entries: &[Entry],
 ) -> Result<Vec<Entry>, OutOfMemory>
-    ensures { IfOk result (λ v. v.items ≡ filter_map (seen_in part stop rows.now) entries.now) }
+    ensures { IfOk result (λ v. v.items ≡ filter_map (seen_in window.part window.stop rows.now) entries.now) }
 {
     let mut into = Vec::new(alloc);
     for entry in entries {
-        add(&mut into, seen_step(part, stop, rows, entry))?;
+        add(&mut into, seen_step(window, rows, entry))?;
     }
     Ok(into)
 }
@@ -77,20 +74,16 @@ fn seen_steps(
 fn locks_along(
     alloc: Global,
     set: &CompiledSet,
-    part: Part,
-    stop: Tick,
+    window: Window,
     rows: &[JobRow],
     entries: &[Entry],
 ) -> Result<Vec<Mark>, OutOfMemory>
-    ensures { IfOk result (λ v. v.items ≡ locks_from set.now part stop rows.now [] entries.now) }
+    ensures { IfOk result (λ v. v.items ≡ locks_from set.now window.part window.stop rows.now [] entries.now) }
 {
     let mut into = Vec::new(alloc);
     for (i, entry) in entries.iter().enumerate() {
         let (before, after) = (&entries[..i], &entries[i + 1..]);
-        add(
-            &mut into,
-            lock_of(set, part, stop, rows, before, after, entry),
-        )?;
+        add(&mut into, lock_of(set, window, rows, before, after, entry))?;
     }
     Ok(into)
 }
@@ -100,15 +93,14 @@ fn locks_along(
 pub(crate) fn locks(
     alloc: Global,
     set: &CompiledSet,
-    part: Part,
-    stop: Tick,
+    window: Window,
     rows: &[JobRow],
     entries: &[Entry],
 ) -> Result<Vec<Mark>, OutOfMemory>
-    ensures { IfOk result (λ v. v.items ≡ locks_from set.now part stop rows.now [] entries.now) }
+    ensures { IfOk result (λ v. v.items ≡ locks_from set.now window.part window.stop rows.now [] entries.now) }
 {
-    let steps = seen_steps(alloc, part, stop, rows, entries)?;
-    locks_along(alloc, set, part, stop, rows, &steps)
+    let steps = seen_steps(alloc, window, rows, entries)?;
+    locks_along(alloc, set, window, rows, &steps)
 }
 
 fn add_ceiling(into: &mut Vec<Mark>, locks: &[Mark], tick: Tick) -> Result<(), OutOfMemory>
@@ -137,15 +129,14 @@ pub(crate) fn add_ceilings(
 
 pub(crate) fn add_waits(
     into: &mut Vec<Mark>,
-    part: Part,
-    stop: Tick,
+    window: Window,
     rows: &[JobRow],
     entries: &[Entry],
 ) -> Result<(), OutOfMemory>
-    ensures { OnOk result (into.new.items ≡ into.old.items ++ filter_map (wait_in part stop rows.now) entries.now) }
+    ensures { OnOk result (into.new.items ≡ into.old.items ++ filter_map (wait_in window.part window.stop rows.now) entries.now) }
 {
     for entry in entries {
-        add(into, wait_of(part, stop, rows, entry))?;
+        add(into, wait_of(window, rows, entry))?;
     }
     Ok(())
 }

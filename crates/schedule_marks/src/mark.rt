@@ -4,7 +4,7 @@ ghost use Rattle.txn_set.specs.Set.{txn_of};
 ghost use Rattle.schedule_marks.specs.Marks.{pending_in, step_in, refusal_in, release_in, deadline_in, end_in};
 
 use crate::held::until;
-use crate::part::{Part, has_instant, has_tick, meets};
+use crate::part::{Part, Window, has_instant, has_tick, meets};
 use job_rows::JobRow;
 use rt_base::{End, ItemId, JobId, Op, Prio, Tick, TxId};
 use step_journal::Entry;
@@ -73,11 +73,11 @@ pub enum Mark {
     },
 }
 
-pub(crate) fn pending_mark(part: Part, stop: Tick, row: &JobRow) -> Option<Mark>
-    ensures { result ≡ pending_in part stop row.now }
+pub(crate) fn pending_mark(window: Window, row: &JobRow) -> Option<Mark>
+    ensures { result ≡ pending_in window.part window.stop row.now }
 {
-    let to = until(stop, row);
-    if meets(part, row.release, to) {
+    let to = until(window.stop, row);
+    if meets(window.part, row.release, to) {
         Some(Mark::Pending {
             job: row.job,
             from: row.release,

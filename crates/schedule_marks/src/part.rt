@@ -11,6 +11,15 @@ pub struct Part {
     pub to: Tick,
 }
 
+/// The part that is looked at, and up to where there is something to see in it.
+#[derive(Clone, Copy)]
+pub(crate) struct Window {
+    /// The part.
+    pub part: Part,
+    /// The last instant of the history, or the part's end if that is earlier.
+    pub stop: Tick,
+}
+
 /// Whether the tick is one of the part.
 pub(crate) fn has_tick(part: Part, tick: Tick) -> bool
     ensures { result ≡ is_tick_of part tick }

@@ -7,6 +7,17 @@ use crate::place::letters_in;
 use itoa::Buffer;
 use rt_base::OutOfMemory;
 
+/// The place of a text that is left out where it has no room.
+#[derive(Clone, Copy, PartialEq, Eq, Debug)]
+pub struct Room {
+    /// Where the text begins.
+    pub x: u64,
+    /// Where its line stands.
+    pub y: u64,
+    /// How many pixels it may take.
+    pub width: u64,
+}
+
 /// Adds bytes.
 pub fn add(into: &mut Vec<u8>, bytes: &[u8]) -> Result<(), OutOfMemory>
     ensures { OnOk result (into.new.items ≡ into.old.items ++ bytes.now) }
@@ -130,20 +141,18 @@ pub fn add_count(
     add_words(into, class, x, y, word, Buffer::new().format(n).as_bytes())
 }
 
-/// Two words in a row, if they have room in so many pixels.
+/// Two words in a row, if they have room.
 pub fn add_fitting(
     into: &mut Vec<u8>,
     class: &[u8],
-    x: u64,
-    y: u64,
-    room: u64,
+    room: Room,
     first: &[u8],
     second: &[u8],
 ) -> Result<(), OutOfMemory>
-    ensures { OnOk result (into.new.items ≡ into.old.items ++ fitting class.now x y room first.now second.now) }
+    ensures { OnOk result (into.new.items ≡ into.old.items ++ fitting class.now room.x room.y room.width first.now second.now) }
 {
-    if first.len() as u64 + second.len() as u64 <= letters_in(room) {
-        add_words(into, class, x, y, first, second)
+    if first.len() as u64 + second.len() as u64 <= letters_in(room.width) {
+        add_words(into, class, room.x, room.y, first, second)
     } else {
         Ok(())
     }

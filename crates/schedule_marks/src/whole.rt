@@ -7,7 +7,7 @@ use crate::lists::{
     add_waits, locks, present_rows,
 };
 use crate::mark::Mark;
-use crate::part::Part;
+use crate::part::{Part, Window};
 use job_rows::JobRow;
 use rt_base::{OutOfMemory, Tick};
 use std::alloc::Global;
@@ -39,19 +39,18 @@ pub fn last_instant(to: Tick, entries: &[Entry]) -> Tick
 // What lasts: the jobs, the locks, the ceilings and the waits.
 fn add_spans(
     into: &mut Vec<Mark>,
-    part: Part,
-    stop: Tick,
+    window: Window,
     rows: &[JobRow],
     present: &[JobRow],
     locks: &[Mark],
     entries: &[Entry],
 ) -> Result<(), OutOfMemory>
-    ensures { OnOk result (into.new.items ≡ into.old.items ++ spans_with part stop rows.now present.now locks.now entries.now) }
+    ensures { OnOk result (into.new.items ≡ into.old.items ++ spans_with window.part window.stop rows.now present.now locks.now entries.now) }
 {
-    add_pending(into, part, stop, rows)?;
+    add_pending(into, window, rows)?;
     into.extend_from_slice(locks)?;
-    add_ceilings(into, part, locks)?;
-    add_waits(into, part, stop, present, entries)
+    add_ceilings(into, window.part, locks)?;
+    add_waits(into, window, present, entries)
 }
 
 // What happens at an instant or in a tick: the steps, the refusals, the releases, the deadlines and the ends.
@@ -74,18 +73,17 @@ fn add_instants(
 fn marks_until(
     alloc: Global,
     set: &CompiledSet,
-    part: Part,
-    stop: Tick,
+    window: Window,
     rows: &[JobRow],
     entries: &[Entry],
 ) -> Result<Vec<Mark>, OutOfMemory>
-    ensures { IfOk result (λ v. v.items ≡ marks_to set.now part stop rows.now entries.now) }
+    ensures { IfOk result (λ v. v.items ≡ marks_to set.now window.part window.stop rows.now entries.now) }
 {
-    let present = present_rows(alloc, part, stop, rows)?;
-    let locks = locks(alloc, set, part, stop, &present, entries)?;
+    let present = present_rows(alloc, window, rows)?;
+    let locks = locks(alloc, set, window, &present, entries)?;
     let mut into = Vec::new(alloc);
-    add_spans(&mut into, part, stop, rows, &present, &locks, entries)?;
-    add_instants(&mut into, set, part, rows, entries)?;
+    add_spans(&mut into, window, rows, &present, &locks, entries)?;
+    add_instants(&mut into, set, window.part, rows, entries)?;
     Ok(into)
 }
 
@@ -102,5 +100,5 @@ pub fn marks(
     ensures { IfOk result (λ v. v.items ≡ marks_of set.now part rows.now entries.now) }
 {
     let stop = last_instant(part.to, entries);
-    marks_until(alloc, set, part, stop, rows, entries)
+    marks_until(alloc, set, Window { part, stop }, rows, entries)
 }

@@ -16,6 +16,14 @@ use std::alloc::Global;
 use std::sync::ledger::Ledger;
 use txn_set::CompiledSet;
 
+// The level above the placed transactions, with the blocking at it.
+#[derive(Clone, Copy)]
+struct Level<'a> {
+    set: &'a CompiledSet,
+    prios: &'a [Prio],
+    blocking: u64,
+}
+
 // Whether a transaction stands above `tx`: another one without a priority.
 fn is_above(prios: &[Prio], other: usize, tx: usize) -> bool
     requires { other < length prios.now }
@@ -47,16 +55,21 @@ fn loads_above(
 }
 
 // What `tx`, its blocking and those above it may take of so many ticks.
-fn demand_of(set: &CompiledSet, prios: &[Prio], tx: usize, blocking: u64, ticks: Tick) -> u64
-    requires compiled { IsCompiled set.now }
-    requires one_each { length prios.now ≡ length set.now.txns }
-    requires tx { tx < length set.now.txns }
-    requires free { is_placed prios.now tx ≡ false }
-    requires blocking { blocking ≡ blocking_at (around_set set.now prios.now) 2 }
-    requires few { blocking ≤ 9999 }
+fn demand_of(level: Level, tx: usize, ticks: Tick) -> u64
+    requires compiled { IsCompiled level.set.now }
+    requires one_each { length level.prios.now ≡ length level.set.now.txns }
+    requires tx { tx < length level.set.now.txns }
+    requires free { is_placed level.prios.now tx ≡ false }
+    requires blocking { level.blocking ≡ blocking_at (around_set level.set.now level.prios.now) 2 }
+    requires few { level.blocking ≤ 9999 }
     requires ticks { ticks ≤ 2 ^ 30 }
-    ensures { result ≡ demand (trial_set set.now prios.now tx) tx ticks }
+    ensures { result ≡ demand (trial_set level.entry.set.now level.entry.prios.now tx) tx ticks }
 {
+    let Level {
+        set,
+        prios,
+        blocking,
+    } = level;
     let mut total = set.txn(TxId(tx as u32)).steps + blocking;
     for other in 0..prios.len() {
         if is_above(prios, other, tx) {
@@ -68,58 +81,49 @@ fn demand_of(set: &CompiledSet, prios: &[Prio], tx: usize, blocking: u64, ticks:
 }
 
 // Whether a window that was found for another transaction holds what `tx` may ask of it, and is within the limit.
-fn is_held(
-    set: &CompiledSet,
-    prios: &[Prio],
-    tx: usize,
-    blocking: u64,
-    most: Tick,
-    window: Tick,
-) -> bool
-    requires compiled { IsCompiled set.now }
-    requires one_each { length prios.now ≡ length set.now.txns }
-    requires tx { tx < length set.now.txns }
-    requires free { is_placed prios.now tx ≡ false }
-    requires blocking { blocking ≡ blocking_at (around_set set.now prios.now) 2 }
-    requires few { blocking ≤ 9999 }
-    requires most { most ≡ limit set.now tx }
+fn is_held(level: Level, tx: usize, most: Tick, window: Tick) -> bool
+    requires compiled { IsCompiled level.set.now }
+    requires one_each { length level.prios.now ≡ length level.set.now.txns }
+    requires tx { tx < length level.set.now.txns }
+    requires free { is_placed level.prios.now tx ≡ false }
+    requires blocking { level.blocking ≡ blocking_at (around_set level.set.now level.prios.now) 2 }
+    requires few { level.blocking ≤ 9999 }
+    requires most { most ≡ limit level.set.now tx }
     requires small { most ≤ 2 ^ 30 }
-    ensures { result ≡ true → passes_at set.now (limit set.now) prios.now tx ≡ true }
+    ensures { result ≡ true → passes_at level.entry.set.now (limit level.entry.set.now) level.entry.prios.now tx ≡ true }
 {
     if window == 0 || window > most {
         return false;
     }
-    demand_of(set, prios, tx, blocking, window) <= window
+    demand_of(level, tx, window) <= window
 }
 
 // Whether `tx`, which has no priority yet, has a response of at most so many ticks. One look. The window that was found last is tried
 // first.
 fn is_in_time<L: Ledger>(
     alloc: Global,
-    set: &CompiledSet,
-    prios: &[Prio],
+    level: Level,
     tx: usize,
-    blocking: u64,
     most: Tick,
     window: &mut Tick,
     steps: &mut Steps<L>,
 ) -> Result<bool, OutOfMemory>
-    requires compiled { IsCompiled set.now }
-    requires one_each { length prios.now ≡ length set.now.txns }
-    requires tx { tx < length set.now.txns }
-    requires free { is_placed prios.now tx ≡ false }
-    requires blocking { blocking ≡ blocking_at (around_set set.now prios.now) 2 }
-    requires few { blocking ≤ 9999 }
-    requires most { most ≡ limit set.now tx }
-    ensures passes { IfOk result (λ passed. passed ≡ passes_at set.now (limit set.now) prios.now tx) }
+    requires compiled { IsCompiled level.set.now }
+    requires one_each { length level.prios.now ≡ length level.set.now.txns }
+    requires tx { tx < length level.set.now.txns }
+    requires free { is_placed level.prios.now tx ≡ false }
+    requires blocking { level.blocking ≡ blocking_at (around_set level.set.now level.prios.now) 2 }
+    requires few { level.blocking ≤ 9999 }
+    requires most { most ≡ limit level.set.now tx }
+    ensures passes { IfOk result (λ passed. passed ≡ passes_at level.entry.set.now (limit level.entry.set.now) level.entry.prios.now tx) }
     ensures look { steps.new ≡ steps.old + 1 }
 {
     steps.look();
-    if is_held(set, prios, tx, blocking, most, *window) {
+    if is_held(level, tx, most, *window) {
         return Ok(true);
     }
-    let own = set.txn(TxId(tx as u32)).steps + blocking;
-    let mut loads = loads_above(alloc, set, prios, tx)?;
+    let own = level.set.txn(TxId(tx as u32)).steps + level.blocking;
+    let mut loads = loads_above(alloc, level.set, level.prios, tx)?;
     let found = loads.least_window(own, most);
     *window = found.unwrap_or(*window);
     Ok(found.is_some())
@@ -128,25 +132,23 @@ fn is_in_time<L: Ledger>(
 // Whether `tx` has no priority yet and passes. A look if it has none.
 fn passes<L: Ledger>(
     alloc: Global,
-    set: &CompiledSet,
-    prios: &[Prio],
+    level: Level,
     tx: usize,
-    blocking: u64,
     most: Tick,
     window: &mut Tick,
     steps: &mut Steps<L>,
 ) -> Result<bool, OutOfMemory>
-    requires compiled { IsCompiled set.now }
-    requires one_each { length prios.now ≡ length set.now.txns }
-    requires tx { tx < length set.now.txns }
-    requires blocking { blocking ≡ blocking_at (around_set set.now prios.now) 2 }
-    requires few { blocking ≤ 9999 }
-    requires most { most ≡ limit set.now tx }
-    ensures passes { IfOk result (λ passed. passed ≡ passes_at set.now (limit set.now) prios.now tx) }
-    ensures look { steps.new ≤ steps.old + (if prio_at prios.now tx == 0 then 1 else 0) }
+    requires compiled { IsCompiled level.set.now }
+    requires one_each { length level.prios.now ≡ length level.set.now.txns }
+    requires tx { tx < length level.set.now.txns }
+    requires blocking { level.blocking ≡ blocking_at (around_set level.set.now level.prios.now) 2 }
+    requires few { level.blocking ≤ 9999 }
+    requires most { most ≡ limit level.set.now tx }
+    ensures passes { IfOk result (λ passed. passed ≡ passes_at level.entry.set.now (limit level.entry.set.now) level.entry.prios.now tx) }
+    ensures look { steps.new ≤ steps.old + (if prio_at level.entry.prios.now tx == 0 then 1 else 0) }
 {
-    if is_free(prios, tx) {
-        is_in_time(alloc, set, prios, tx, blocking, most, window, steps)
+    if is_free(level.prios, tx) {
+        is_in_time(alloc, level, tx, most, window, steps)
     } else {
         Ok(false)
     }
@@ -172,8 +174,13 @@ pub fn first_passing<L: Ledger>(
 {
     set.is_compiled();
     let blocking = blocking_above(set, prios);
+    let level = Level {
+        set,
+        prios,
+        blocking,
+    };
     for tx in 0..prios.len() {
-        let passed = passes(alloc, set, prios, tx, blocking, limits[tx], window, steps)?;
+        let passed = passes(alloc, level, tx, limits[tx], window, steps)?;
         if passed {
             return Ok(Some(tx));
         }
@@ -194,11 +201,16 @@ pub fn unplaced_of(
 {
     set.is_compiled();
     let blocking = blocking_above(set, prios);
+    let level = Level {
+        set,
+        prios,
+        blocking,
+    };
     let mut rows = Vec::with_capacity(alloc, prios.len())?;
     for tx in 0..prios.len() {
         if is_free(prios, tx) {
             let limit = limits[tx];
-            let demand = demand_of(set, prios, tx, blocking, limit);
+            let demand = demand_of(level, tx, limit);
             rows.push(Unplaced {
                 tx: TxId(tx as u32),
                 limit,

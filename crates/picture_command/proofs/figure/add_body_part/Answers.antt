@@ -1,4 +1,4 @@
-use Rattle.std.proofs.Common.{ℕ, ap, ◌∙◌, codes, rules, ◌++◌, ◌-◌, ◌≡◌}
+use Rattle.std.proofs.Common.{ℕ, ap, ◌∙◌, codes, ◌++◌, ◌-◌, ◌≡◌}
 use Rattle.picture_command.specs.Page.{closing, cut, lower, opening, rest_width}
 use Rattle.schedule_marks.specs.Svg.{rect}
 use Rattle.picture_text.specs.Texts.{about, body_text, whole_height}

@@ -1,4 +1,4 @@
-use Rattle.std.proofs.Common.{ℕ, ap, ◌∙◌, codes, rules, ◌++◌, ◌-◌, ◌≡◌}
+use Rattle.std.proofs.Common.{ℕ, ap, ◌∙◌, codes, ◌++◌, ◌-◌, ◌≡◌}
 use Rattle.picture_command.specs.Page.{closing, cut, lower, opening}
 use Rattle.schedule_marks.specs.Svg.{rect}
 use Rattle.picture_text.specs.Texts.{titles_text, whole_height}

@@ -1,6 +1,4 @@
-use Rattle.plain_core.proofs.SlotReads.{row_read}
 use Rattle.plain_core.proofs.asks.turn.Goals as goal
 
 pub ask-requires-clause-used : goal.ask-requires-clause-used
-ask-requires-clause-used c =
-    λ row h. c.requires.used c.args.job.tx.0 row (row_read _ _ _ _ row c.slots-slots.ensures c.requires.slot c.index-slots-at.is h)
+ask-requires-clause-used c = λ row h. c.requires.used c.args.job.tx.0 row h

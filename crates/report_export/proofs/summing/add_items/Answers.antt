@@ -30,14 +30,14 @@ index-requires c =
 
 pub add_age-requires-clause-kind : goal.add_age-requires-clause-kind
 add_age-requires-clause-kind c =
-    validity_at c.args.set.now.items c.loop-i.i no_item (omega (arith, c.loop-i-test.true, ap length c.items-items.ensures))
+    validity_at c.args.summed.set.now.items c.loop-i.i no_item (omega (arith, c.loop-i-test.true, ap length c.items-items.ensures))
     ∙ ap (λ (l : List ItemDecl). validity_of_kind (get_or l c.loop-i.i no_item).kind) (sym c.items-items.ensures)
 
 pub loop-i-preserved : goal.loop-i-preserved
 loop-i-preserved c =
-    let names : Names = c.args.names.now in
-    let set : Set = c.args.set.now in
-    let admitted : Bool = is_some c.args.bounds in
+    let names : Names = c.args.summed.names.now in
+    let set : Set = c.args.summed.set.now in
+    let admitted : Bool = is_some c.args.summed.bounds in
     let rows : List JobRow = c.args.rows.now in
     let entries : List Entry = c.args.entries.now in
     let n : ℕ = length c.items-items.result.now in

@@ -22,9 +22,9 @@ index-requires c =
 
 pub loop-i-preserved : goal.loop-i-preserved
 loop-i-preserved c =
-    let names : Names = c.args.names.now in
-    let set : Set = c.args.set.now in
-    let admitted : Bool = is_some c.args.bounds in
+    let names : Names = c.args.summed.names.now in
+    let set : Set = c.args.summed.set.now in
+    let admitted : Bool = is_some c.args.summed.bounds in
     let rows : List JobRow = c.args.rows.now in
     let n : ℕ = length c.txns-txns.result.now in
     let i : ℕ = c.loop-i.i in

@@ -6,5 +6,5 @@ use Rattle.report_export.proofs.summing.add_txns.Given as goal
 
 abbrev pub invariant-loop-i : goal.invariant-loop-i
 invariant-loop-i l =
-    l.into.items ++ numbered (txn_lines l.names l.set (is_some l.bounds) l.rows) l.i (drop l.i l.set.txns)
-    ≡ l.fn.into.items ++ numbered (txn_lines l.names l.set (is_some l.bounds) l.rows) 0 l.set.txns
+    l.into.items ++ numbered (txn_lines l.summed.names.now l.summed.set.now (is_some l.summed.bounds) l.rows) l.i (drop l.i l.summed.set.now.txns)
+    ≡ l.fn.into.items ++ numbered (txn_lines l.summed.names.now l.summed.set.now (is_some l.summed.bounds) l.rows) 0 l.summed.set.now.txns

@@ -9,8 +9,8 @@ use Rattle.scenario_run.proofs.loading.summary_of.Goals as goal
 
 pub run_on-requires-clause-ready : goal.run_on-requires-clause-ready
 run_on-requires-clause-ready g c =
-    let bodies = c.args.bodies in
-    ready_as (g.B.Board.set c.args.board) bodies.scripts.items bodies.ticks.items c.deref.result.now bodies.own.items c.deref-2.result.now
+    let bodies = c.args.load.bodies in
+    ready_as (g.B.Board.set c.args.load.board) bodies.scripts.items bodies.ticks.items c.deref.result.now bodies.own.items c.deref-2.result.now
     c.deref.ensures.value c.deref-2.ensures.value c.requires.ready
 
 pub summary_on-text-requires-clause-compiled : goal.summary_on-text-requires-clause-compiled
@@ -22,16 +22,16 @@ summary_on-text-requires-clause-fixed g c κs within = λ tx.
 
 pub summary_on-text-requires-clause-entries : goal.summary_on-text-requires-clause-entries
 summary_on-text-requires-clause-entries g c κs within =
-    let bodies = c.args.bodies in
+    let bodies = c.args.load.bodies in
     let run = c.in-Ok.run' in
-    room_as c.args.entries (g.B.Board.set c.args.board) (g.B.Board.set run.board) bodies.ticks.items run.ticks.now bodies.own.items run.own.now
+    room_as c.args.load.room (g.B.Board.set c.args.load.board) (g.B.Board.set run.board) bodies.ticks.items run.ticks.now bodies.own.items run.own.now
     (ap g.B.Board.set c.in-Ok.ensures.board) (c.in-Ok.ensures.parts.1 ∙ c.deref.ensures.value) (c.in-Ok.ensures.parts.2 ∙ c.deref-2.ensures.value) c.requires.entries
 
 pub returns : goal.returns
 returns g c =
-    let bodies = c.args.bodies in
+    let bodies = c.args.load.bodies in
     let run = c.in-Ok.run' in
     IfOk-weaker c.summary_on-text.result _ _
-    (λ text h. moved (λ w own. IsSummaryBy w text.items) (g.B.Board.set run.board) (g.B.Board.set c.args.board) (functions_of run.bodies.items) (functions_of bodies.scripts.items) run.ticks.now bodies.ticks.items (own_at bodies.own.items) (own_at bodies.own.items)
+    (λ text h. moved (λ w own. IsSummaryBy w text.items) (g.B.Board.set run.board) (g.B.Board.set c.args.load.board) (functions_of run.bodies.items) (functions_of bodies.scripts.items) run.ticks.now bodies.ticks.items (own_at bodies.own.items) (own_at bodies.own.items)
     (ap g.B.Board.set c.in-Ok.ensures.board) (ap (λ v. functions_of v.items) c.in-Ok.ensures.parts.0) (c.in-Ok.ensures.parts.1 ∙ c.deref.ensures.value) refl h)
     c.summary_on-text.ensures

@@ -38,9 +38,9 @@ txn-requires-clause-short c = short_at _ _ _ _ _ c.requires c.loop-i.i c.index-s
 
 pub loop-i-preserved : goal.loop-i-preserved
 loop-i-preserved c =
-    let a : c.loop-i.i < length c.args.txn_names.now = omega (arith, c.requires.named, c.loop-i-test.true) in
-    let b : c.loop-i.i < length c.args.scripts.now = within _ _ _ _ _ c.requires c.loop-i.i c.loop-i-test.true in
-    let d : c.loop-i.i < length c.args.releases.now = omega (arith, c.requires.released, c.loop-i-test.true) in
+    let a : c.loop-i.i < length c.args.txns.names.now = omega (arith, c.requires.named, c.loop-i-test.true) in
+    let b : c.loop-i.i < length c.args.txns.scripts.now = within _ _ _ _ _ c.requires c.loop-i.i c.loop-i-test.true in
+    let d : c.loop-i.i < length c.args.txns.releases.now = omega (arith, c.requires.released, c.loop-i-test.true) in
     record {
       begun = one_more _ _ _ _ _ _ _ (ap (map (txn_data c.args.second c.args.names.now))
           (next_written _ _ _ _ c.loop-i.i c.index-txn_names-i.result c.index-decls-i.result c.index-scripts-i.result
@@ -57,6 +57,6 @@ returns-clause-data c = on_ok_weaker c.end_array.result (done _ _ _ _ _ (ap (map
 
 pub returns-clause-fits : goal.returns-clause-fits
 returns-clause-fits c = on_ok_weaker c.end_array.result (λ e. all_hold (λ s. ProgramHasIntegers (program_of s))
-    c.args.scripts.now c.loop-i.i
-    (omega (arith, length-map c.args.scripts.now program_of, c.requires.scripted, c.loop-i-test.false))
+    c.args.txns.scripts.now c.loop-i.i
+    (omega (arith, length-map c.args.txns.scripts.now program_of, c.requires.scripted, c.loop-i-test.false))
     c.loop-i.invariant.fits) c.end_array.ensures

@@ -9,9 +9,8 @@ use Rattle.scenario_writer.proofs.txns.txns.Goals as goal
 
 pub txn_list-requires : goal.txn_list-requires
 txn_list-requires c = writable_as (shown c.args.scenario.now) c.requires _ _ _ _ _ c.as_slice-names.ensures
-    c.as_slice-txn_names.ensures
-    c.as_slice-decls.ensures (ap (map program_of) c.as_slice-scripts.ensures) c.as_slice-releases.ensures
+    c.as_slice.ensures c.as_slice-2.ensures (ap (map program_of) c.as_slice-3.ensures) c.as_slice-4.ensures
 
 pub returns-clause-fits : goal.returns-clause-fits
 returns-clause-fits c = subst (λ (ss : List Script). OnOk c.txn_list.result (All (λ s. ProgramHasIntegers (program_of s)) ss))
-    c.as_slice-scripts.ensures c.txn_list.ensures.fits
+    c.as_slice-3.ensures c.txn_list.ensures.fits

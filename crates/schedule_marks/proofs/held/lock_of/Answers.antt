@@ -12,7 +12,7 @@ returns-then-not-meets c =
     let entry_is : c.args.entry.now ≡ Step s.job s.op s.outcome s.over s.tick = cc (s.is) in
     let taken : lock_by s.op s.outcome ≡ Some (t.item, t.is_write) = cc (t.ensures) in
     let end = c.until_of-end.result in
-    none_taken c.args.set.now c.args.part c.args.stop c.args.rows.now c.args.before.now c.args.after.now c.args.entry.now s.job s.op s.outcome s.over s.tick end t.item t.is_write entry_is taken (cc (c.until_of-end.ensures))
+    none_taken c.args.set.now c.args.window.part c.args.window.stop c.args.rows.now c.args.before.now c.args.after.now c.args.entry.now s.job s.op s.outcome s.over s.tick end t.item t.is_write entry_is taken (cc (c.until_of-end.ensures))
     (elim c.then-not-meets.branch [
       | then-not-meets-via-then-not-meets w ↦ inl (cc (c.meets.ensures, w.if-not-meets.true))
       | then-not-meets-via-else-not-meets+then-is_shown w ↦ inr (cc (w.is_shown.ensures, w.if-is_shown.true))
@@ -25,5 +25,5 @@ returns-else-is_shown c =
     let entry_is : c.args.entry.now ≡ Step s.job s.op s.outcome s.over s.tick = cc (s.is) in
     let taken : lock_by s.op s.outcome ≡ Some (t.item, t.is_write) = cc (t.ensures) in
     let end = c.until_of-end.result in
-    one_taken c.args.set.now c.args.part c.args.stop c.args.rows.now c.args.before.now c.args.after.now c.args.entry.now s.job s.op s.outcome s.over s.tick end t.item t.is_write entry_is taken (cc (c.until_of-end.ensures))
-    c.held_until-to.result c.lock.result (cc (c.is_shown.ensures, c.if-is_shown.false)) (cc (c.held_until-to.ensures)) (cc (c.lock.ensures))
+    one_taken c.args.set.now c.args.window.part c.args.window.stop c.args.rows.now c.args.before.now c.args.after.now c.args.entry.now s.job s.op s.outcome s.over s.tick end t.item t.is_write entry_is taken (cc (c.until_of-end.ensures))
+    c.held_until-to.result c.lock_mark.result (cc (c.is_shown.ensures, c.if-is_shown.false)) (cc (c.held_until-to.ensures)) (cc (c.lock_mark.ensures))

@@ -4,5 +4,5 @@ use Rattle.schedule_marks.proofs.lanes.add_spans_of.Given as goal
 
 abbrev pub invariant-loop-row : goal.invariant-loop-row
 invariant-loop-row l =
-    l.into.items ++ spans_from l.set l.part l.stop l.entries l.item.0 l.by (drop l.row-index l.rows)
-    ≡ l.fn.into.items ++ spans_from l.set l.part l.stop l.entries l.item.0 None l.rows
+    l.into.items ++ spans_from l.set l.window.part l.window.stop l.entries l.item.0 l.by (drop l.row-index l.rows)
+    ≡ l.fn.into.items ++ spans_from l.set l.window.part l.window.stop l.entries l.item.0 None l.rows

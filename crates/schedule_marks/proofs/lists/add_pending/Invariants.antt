@@ -4,4 +4,4 @@ use Rattle.schedule_marks.specs.Marks.{pending_in}
 use Rattle.schedule_marks.proofs.lists.add_pending.Given as goal
 
 abbrev pub invariant-loop-row : goal.invariant-loop-row
-invariant-loop-row l = l.into.items ++ filter_map (pending_in l.part l.stop) (drop l.row-index l.rows) ≡ l.fn.into.items ++ filter_map (pending_in l.part l.stop) l.rows
+invariant-loop-row l = l.into.items ++ filter_map (pending_in l.window.part l.window.stop) (drop l.row-index l.rows) ≡ l.fn.into.items ++ filter_map (pending_in l.window.part l.window.stop) l.rows

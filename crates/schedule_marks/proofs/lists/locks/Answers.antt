@@ -9,5 +9,5 @@ returns c =
     let set = c.args.set.now in
     let rows = c.args.rows.now in
     subst (λ (l : List Mark). IfOk c.locks_along.result (λ v. v.items ≡ l))
-    (ap (locks_along set c.args.part c.args.stop rows []) (c.deref.ensures.value ∙ c.in_ok-steps.ensures) ∙ seen_locks set c.args.part c.args.stop rows [] c.args.entries.now)
+    (ap (locks_along set c.args.window.part c.args.window.stop rows []) (c.deref.ensures.value ∙ c.in_ok-steps.ensures) ∙ seen_locks set c.args.window.part c.args.window.stop rows [] c.args.entries.now)
     c.locks_along.ensures

@@ -3,4 +3,4 @@ use Rattle.schedule_marks.specs.Marks.{locks_along}
 use Rattle.schedule_marks.proofs.lists.locks_along.Given as goal
 
 abbrev pub invariant-loop-i : goal.invariant-loop-i
-invariant-loop-i l = l.into.items ++ locks_along l.set l.part l.stop l.rows (take l.i l.entries) (drop l.i l.entries) ≡ locks_along l.set l.part l.stop l.rows [] l.entries
+invariant-loop-i l = l.into.items ++ locks_along l.set l.window.part l.window.stop l.rows (take l.i l.entries) (drop l.i l.entries) ≡ locks_along l.set l.window.part l.window.stop l.rows [] l.entries

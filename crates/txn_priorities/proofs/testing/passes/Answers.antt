@@ -8,5 +8,5 @@ use Rattle.txn_priorities.proofs.testing.passes.Goals as goal
 pub returns-else-is_free-clause-passes : goal.returns-else-is_free-clause-passes
 returns-else-is_free-clause-passes g c =
     sym
-    (passes-placed c.args.set.now (limit c.args.set.now) c.args.prios.now c.args.tx
-    (not-false (is_placed c.args.prios.now c.args.tx) (sym c.is_free.ensures ∙ c.if-is_free.false)))
+    (passes-placed c.args.level.set.now (limit c.args.level.set.now) c.args.level.prios.now c.args.tx
+    (not-false (is_placed c.args.level.prios.now c.args.tx) (sym c.is_free.ensures ∙ c.if-is_free.false)))

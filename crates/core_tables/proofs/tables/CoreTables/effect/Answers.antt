@@ -1,7 +1,9 @@
-use Rattle.std.proofs.Common.{ap, sym, ◌∙◌, subst, arith, length, List}
+use Rattle.std.proofs.Common.{◌≡◌, ℕ, ◌<◌, Some, ap, sym, ◌∙◌, subst, arith, length, List}
 use Rattle.std.proofs.lemmas.List.{with_items_is}
+use Rattle.step_journal.specs.State.{row_of}
 use Rattle.step_journal.specs.Step.{row_after}
 use Rattle.core_tables.specs.Rows.{AreFactsOf}
+use Rattle.core_tables.specs.declared.head.Head.{Head}
 use Rattle.core_tables.specs.declared.tally.Tally.{Tally}
 use Rattle.core_tables.specs.Seen.{tally_of}
 use Rattle.core_tables.specs.Changes.{tallies_settled}
@@ -50,17 +52,26 @@ step-requires-clause-used c =
 
 pub settle-end-requires-clause-in_set : goal.settle-end-requires-clause-in_set
 settle-end-requires-clause-in_set c =
+    let set = c.args.set.now in
     let some = c.requires.granted in
-    job_in_set c.args.set.now some.state c.args.job c.args.op some.legal some.granted
+    let are = at_view set _ _ some.state c.self.view_is some.are in
+    let was = row_here set _ some.state c.args.job c.args.op are some.legal some.granted in
+    let own = one_own set _ some.state c.args.job c.args.op are some.legal some.granted c.step.new.self (c.step.ensures.after some.granted.row was) in
+    let head = head_is c.step.result c.in_ok-head.head _ c.in_ok-head.was (c.step.ensures.head some.granted.row was) in
+    subst (λ (k : ℕ). k < length set.txns) (sym (ap (λ (h : Head). h.job.tx.0) head ∙ own)) (job_in_set set some.state c.args.job c.args.op some.legal some.granted)
 
 pub settle-end-requires-clause-row : goal.settle-end-requires-clause-row
 settle-end-requires-clause-row c =
     let set = c.args.set.now in
     let some = c.requires.granted in
     let are = at_view set _ _ some.state c.self.view_is some.are in
-    let one = c.step.ensures.after some.granted.row (row_here set _ some.state c.args.job c.args.op are some.legal some.granted) in
+    let was = row_here set _ some.state c.args.job c.args.op are some.legal some.granted in
+    let one = c.step.ensures.after some.granted.row was in
+    let own = one_own set _ some.state c.args.job c.args.op are some.legal some.granted c.step.new.self one in
+    let head = head_is c.step.result c.in_ok-head.head _ c.in_ok-head.was (c.step.ensures.head some.granted.row was) in
     omega (
       arith,
+      ap (λ (h : Head). h.job.tx.0) head ∙ own,
       job_in_set set some.state c.args.job c.args.op some.legal some.granted,
       (places set _ some.state are some.legal).rows,
       one_many set _ some.state c.args.job c.args.op are some.legal some.granted c.step.new.self one,
@@ -122,7 +133,9 @@ returns-clause-end c = λ s now legal g.
     let here = one_here set _ s c.args.job c.args.op are legal g c.step.new.self one in
     let own = one_own set _ s c.args.job c.args.op are legal g c.step.new.self one in
     let head = head_is c.step.result c.in_ok-head.head _ c.in_ok-head.was (c.step.ensures.head g.row was) in
-    end_at set _ s c.args.job c.args.op are legal g c.step.new.self one c.settle-end.result (c.settle-end.ensures.end (row_after s g.row c.args.op) here own head)
+    let same = ap (λ (h : Head). h.job.tx.0) head in
+    let there = subst (λ (k : ℕ). row_of c.step.new.self.rows k ≡ Some (row_after s g.row c.args.op)) (sym (same ∙ own)) here in
+    end_at set _ s c.args.job c.args.op are legal g c.step.new.self one c.settle-end.result (c.settle-end.ensures.end (row_after s g.row c.args.op) there (sym same) head)
 
 pub returns-clause-after : goal.returns-clause-after
 returns-clause-after c = λ s now legal g.
@@ -133,9 +146,11 @@ returns-clause-after c = λ s now legal g.
     let here = one_here set _ s c.args.job c.args.op are legal g c.step.new.self one in
     let own = one_own set _ s c.args.job c.args.op are legal g c.step.new.self one in
     let head = head_is c.step.result c.in_ok-head.head _ c.in_ok-head.was (c.step.ensures.head g.row was) in
+    let same = ap (λ (h : Head). h.job.tx.0) head in
+    let there = subst (λ (k : ℕ). row_of c.step.new.self.rows k ≡ Some (row_after s g.row c.args.op)) (sym (same ∙ own)) here in
     effected set _ s c.args.job c.args.op are legal g c.step.new.self one c.settle-end.result c.settle-end.new.items c.close.new.pending _
-    (c.settle-end.ensures.end (row_after s g.row c.args.op) here own head)
-    (c.settle-end.ensures.items (row_after s g.row c.args.op) here own head)
+    (c.settle-end.ensures.end (row_after s g.row c.args.op) there (sym same) head)
+    (c.settle-end.ensures.items (row_after s g.row c.args.op) there (sym same) head)
     (c.close.ensures.pending (row_after s g.row c.args.op) here)
     (with_items_is c.self.inside.tallies c.close.new.tallies (c.close.auto.tallies ∙ c.deref_mut.ensures.len)
     ∙ (c.close.ensures.tallies ∙ ap (tallies_settled c.args.job.tx.0 c.settle-end.result) c.deref_mut.ensures.value))
