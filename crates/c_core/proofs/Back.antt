@@ -1,5 +1,5 @@
 -- Each record is read back as what it was made of.
-use Rattle.std.proofs.Common.{◌≡◌, ℕ, ℤ, refl, ap, lit≤}
+use Rattle.std.proofs.Common.{◌≡◌, ℕ, ℤ, refl, ap, ◌∙◌, lit≤}
 use Rattle.std.specs.Prelude.{Option, None, Some, Ok, Err}
 use Rattle.rt_base.specs.declared.ids.JobId.{JobId}
 use Rattle.rt_base.specs.declared.operation.Op.{Op}
@@ -20,8 +20,9 @@ use Rattle.txn_compiler.specs.declared.error.Which.TheVariants as which
 use Rattle.txn_compiler.specs.declared.error.CompileError.TheVariants as rule
 use Rattle.set_admission.specs.declared.error.AdmitError.TheVariants as admission
 use Rattle.c_core.specs.declared.refusals.Refused.TheVariants as opening
-use Rattle.c_core.specs.Forms.{form_of_entry}
-use Rattle.c_core.specs.Back.{entry_of}
+use Rattle.c_core.specs.declared.forms.StepForm.{StepForm}
+use Rattle.c_core.specs.Forms.{form_of_job, form_of_step, with_op, bare_entry, form_of_entry}
+use Rattle.c_core.specs.Back.{end_of, outcome_of, entry_of}
 use Rattle.c_core.specs.Refusals.{number_of_which, which_of}
 use Rattle.c_core.specs.Rows.{IsKind, row_of_item, item_of_row}
 use Rattle.c_core.specs.Laws.{JobsComeBack, EndsComeBack, StepsComeBack, PlansComeBack, NextPlansComeBack, IdlesComeBack, EntriesComeBack, OperationsAreNamed, RefusalsComeBack, ItemsHaveRows}
@@ -83,33 +84,36 @@ operations_named kind op.Compute = refl
 operations_named kind op.Commit = refl
 operations_named kind op.Quit = refl
 
--- the entry of a granted step, by the operation and the outcome that it has
+-- the entry of a step, by its operation
+asked_back : (job : JobId) (asked : Op) (answer : StepForm) (tick : ℕ)
+    → entry_of (with_op asked (record (bare_entry 1) { job = form_of_job job; tick = tick; answer = answer })) ≡ entry.Step job asked (outcome_of answer) (end_of answer.over) tick
+asked_back job (op.Read item) answer tick = refl
+asked_back job (op.Write item value) answer tick = refl
+asked_back job op.Compute answer tick = refl
+asked_back job op.Commit answer tick = refl
+asked_back job op.Quit answer tick = refl
+
+-- the outcome and the end of a granted step
+told_back : (told : Outcome) (over : Option End) → outcome_of (form_of_step (reply.Done told over)) ≡ told
+told_back (outcome.Got v None) over = refl
+told_back (outcome.Got v (Some stamp)) over = refl
+told_back outcome.Put over = refl
+told_back outcome.Computed over = refl
+told_back outcome.Closed over = refl
+
+over_back : (told : Outcome) (over : Option End) → end_of (form_of_step (reply.Done told over)).over ≡ over
+over_back (outcome.Got v None) over = ends_back over
+over_back (outcome.Got v (Some stamp)) over = ends_back over
+over_back outcome.Put over = ends_back over
+over_back outcome.Computed over = ends_back over
+over_back outcome.Closed over = ends_back over
+
 step_back : (job : JobId) (asked : Op) (told : Outcome) (over : Option End) (tick : ℕ) → entry_of (form_of_entry (entry.Step job asked told over tick)) ≡ entry.Step job asked told over tick
-step_back job (op.Read item) (outcome.Got v None) over tick = ap (λ (e : Option End). entry.Step job (op.Read item) (outcome.Got v None) e tick) (ends_back over)
-step_back job (op.Read item) (outcome.Got v (Some stamp)) over tick = ap (λ (e : Option End). entry.Step job (op.Read item) (outcome.Got v (Some stamp)) e tick) (ends_back over)
-step_back job (op.Read item) outcome.Put over tick = ap (λ (e : Option End). entry.Step job (op.Read item) outcome.Put e tick) (ends_back over)
-step_back job (op.Read item) outcome.Computed over tick = ap (λ (e : Option End). entry.Step job (op.Read item) outcome.Computed e tick) (ends_back over)
-step_back job (op.Read item) outcome.Closed over tick = ap (λ (e : Option End). entry.Step job (op.Read item) outcome.Closed e tick) (ends_back over)
-step_back job (op.Write item value) (outcome.Got v None) over tick = ap (λ (e : Option End). entry.Step job (op.Write item value) (outcome.Got v None) e tick) (ends_back over)
-step_back job (op.Write item value) (outcome.Got v (Some stamp)) over tick = ap (λ (e : Option End). entry.Step job (op.Write item value) (outcome.Got v (Some stamp)) e tick) (ends_back over)
-step_back job (op.Write item value) outcome.Put over tick = ap (λ (e : Option End). entry.Step job (op.Write item value) outcome.Put e tick) (ends_back over)
-step_back job (op.Write item value) outcome.Computed over tick = ap (λ (e : Option End). entry.Step job (op.Write item value) outcome.Computed e tick) (ends_back over)
-step_back job (op.Write item value) outcome.Closed over tick = ap (λ (e : Option End). entry.Step job (op.Write item value) outcome.Closed e tick) (ends_back over)
-step_back job op.Compute (outcome.Got v None) over tick = ap (λ (e : Option End). entry.Step job op.Compute (outcome.Got v None) e tick) (ends_back over)
-step_back job op.Compute (outcome.Got v (Some stamp)) over tick = ap (λ (e : Option End). entry.Step job op.Compute (outcome.Got v (Some stamp)) e tick) (ends_back over)
-step_back job op.Compute outcome.Put over tick = ap (λ (e : Option End). entry.Step job op.Compute outcome.Put e tick) (ends_back over)
-step_back job op.Compute outcome.Computed over tick = ap (λ (e : Option End). entry.Step job op.Compute outcome.Computed e tick) (ends_back over)
-step_back job op.Compute outcome.Closed over tick = ap (λ (e : Option End). entry.Step job op.Compute outcome.Closed e tick) (ends_back over)
-step_back job op.Commit (outcome.Got v None) over tick = ap (λ (e : Option End). entry.Step job op.Commit (outcome.Got v None) e tick) (ends_back over)
-step_back job op.Commit (outcome.Got v (Some stamp)) over tick = ap (λ (e : Option End). entry.Step job op.Commit (outcome.Got v (Some stamp)) e tick) (ends_back over)
-step_back job op.Commit outcome.Put over tick = ap (λ (e : Option End). entry.Step job op.Commit outcome.Put e tick) (ends_back over)
-step_back job op.Commit outcome.Computed over tick = ap (λ (e : Option End). entry.Step job op.Commit outcome.Computed e tick) (ends_back over)
-step_back job op.Commit outcome.Closed over tick = ap (λ (e : Option End). entry.Step job op.Commit outcome.Closed e tick) (ends_back over)
-step_back job op.Quit (outcome.Got v None) over tick = ap (λ (e : Option End). entry.Step job op.Quit (outcome.Got v None) e tick) (ends_back over)
-step_back job op.Quit (outcome.Got v (Some stamp)) over tick = ap (λ (e : Option End). entry.Step job op.Quit (outcome.Got v (Some stamp)) e tick) (ends_back over)
-step_back job op.Quit outcome.Put over tick = ap (λ (e : Option End). entry.Step job op.Quit outcome.Put e tick) (ends_back over)
-step_back job op.Quit outcome.Computed over tick = ap (λ (e : Option End). entry.Step job op.Quit outcome.Computed e tick) (ends_back over)
-step_back job op.Quit outcome.Closed over tick = ap (λ (e : Option End). entry.Step job op.Quit outcome.Closed e tick) (ends_back over)
+step_back job asked told over tick =
+    let answer = form_of_step (reply.Done told over) in
+    asked_back job asked answer tick
+    ∙ ap (λ (o : Outcome). entry.Step job asked o (end_of answer.over) tick) (told_back told over)
+    ∙ ap (λ (e : Option End). entry.Step job asked told e tick) (over_back told over)
 
 pub entries_back : EntriesComeBack
 entries_back (entry.Planned tx tick) = refl

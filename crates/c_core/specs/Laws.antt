@@ -32,6 +32,13 @@ NextPlansComeBack = (answer : Result (JobId × ℕ) PlanRefused) → plan_next_o
 abbrev pub IdlesComeBack : Type 0
 IdlesComeBack = (answer : IdleReply) → idle_of (form_of_idle answer) ≡ answer
 
+-- what each call answers
+pub record AnswersComeBack : Type 0 where
+  pub steps : StepsComeBack
+  pub plans : PlansComeBack
+  pub next_plans : NextPlansComeBack
+  pub idles : IdlesComeBack
+
 abbrev pub EntriesComeBack : Type 0
 EntriesComeBack = (entry : Entry) → entry_of (form_of_entry entry) ≡ entry
 

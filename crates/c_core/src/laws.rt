@@ -1,15 +1,12 @@
 //! What is read back of a record is what it was made of.
-ghost use Rattle.c_core.specs.Laws.{JobsComeBack, EndsComeBack, StepsComeBack, PlansComeBack, NextPlansComeBack, IdlesComeBack, EntriesComeBack, OperationsAreNamed, RefusalsComeBack, ItemsHaveRows};
+ghost use Rattle.c_core.specs.Laws.{JobsComeBack, EndsComeBack, AnswersComeBack, EntriesComeBack, OperationsAreNamed, RefusalsComeBack, ItemsHaveRows};
 
 /// Nothing is lost between what a call answers and its record, between a refusal and its record, and each item can be
 /// declared by a row.
 pub fn records_lose_nothing()
     ensures jobs { JobsComeBack }
     ensures ends { EndsComeBack }
-    ensures steps { StepsComeBack }
-    ensures plans { PlansComeBack }
-    ensures next_plans { NextPlansComeBack }
-    ensures idles { IdlesComeBack }
+    ensures answers { AnswersComeBack }
     ensures entries { EntriesComeBack }
     ensures operations { OperationsAreNamed }
     ensures refusals { RefusalsComeBack }

@@ -1,5 +1,6 @@
--- That a log stands for a list of records on its disk.
-use Rattle.std.specs.Prelude.{◌≡◌, ◌⊎◌, ℕ, ◌+◌, ◌++◌, take, List, length, ⊤, Option, Some, None, IfSome, Bool, true, false, Result, Ok, Err}
+-- That a log stands for a list of records on its disk, and how it stops.
+use Rattle.std.specs.Prelude.{◌≡◌, ◌⊎◌, ℕ, ◌+◌, ◌≤◌, ◌++◌, ◌↔◌, take, List, length, ⊤, Option, Some, None, IfSome, IsSome, Bool, true, false, Result, Ok, Err, IsErrOf, OnErr, OnOk}
+use Rattle.io_edge.specs.Causes.{Rose}
 use Rattle.durable_disk.specs.declared.records.RecordFault.{RecordFault}
 use Rattle.durable_disk.specs.declared.records.RecordFault.TheVariants.{DiskFault, Stopped}
 use Rattle.durable_disk.specs.Records.{Reads, HasStaged, HasBodies}
@@ -42,3 +43,19 @@ Stands seen outcomes count true bodies =
 abbrev pub IsStaging : Option (List ℕ) → (List ℕ → Type 0) → List (List ℕ) → List (List ℕ) → Type 0
 IsStaging seen outcomes bodies more =
     IfSome seen (λ file. HasBodies file (bodies ++ more) (length bodies)) × EachLeft seen outcomes (λ c. Reads c bodies)
+
+-- A call of a log goes on, or stops the log: after Ok it goes on, and after a fault of the disk it has stopped. It answers that
+-- it had stopped exactly where it had, and then all stays as it was. There is no other error.
+pub record StopsAtFault {D T E : Type 0} (fault halted : E) (result : Result T E) (old new : RecordsSeen D) : Type 0 where
+  pub goes : OnOk result (new.stopped ≡ false)
+  pub stops : IsErrOf result fault → new.stopped ≡ true
+  pub stopped : IsErrOf result halted ↔ (old.stopped ≡ true)
+  pub unchanged : IsErrOf result halted → new ≡ old
+  pub no_other : OnErr result (IsErrOf result fault ⊎ IsErrOf result halted)
+
+-- A call of a log answers a fault only where the disk counted one. The disk's count of faults does not fall, and a disk that
+-- tells goes on telling.
+pub record TellsFaults {D T E : Type 0} (seen : D → Option (List ℕ)) (faults : D → ℕ) (fault : E) (result : Result T E) (old new : D) : Type 0 where
+  pub cause : IsErrOf result fault → Rose (faults old) (faults new)
+  pub later : faults old ≤ faults new
+  pub told : IsSome (seen old) ↔ IsSome (seen new)

@@ -1,10 +1,9 @@
 //! A disk over a file of the system. It tells nothing of its bytes, and no clause says that a real file is a disk.
-ghost use Rattle.std.specs.Prelude.{◌≡◌, ℕ, ◌-◌, ◌^◌, ◌≤◌, List, ⊤, None, length, IfOk, IfSome, OnErr, OnOk};
+ghost use Rattle.std.specs.Prelude.{◌≡◌, ℕ, ◌-◌, ◌^◌, ◌≤◌, List, ⊤, None, length, IfOk, IfSome, OnOk};
 ghost use Rattle.std.specs.Io.{ReadsAtMost};
-ghost use Rattle.io_edge.specs.Causes.{HasCause, counted};
 ghost use Rattle.durable_disk.specs.Images.{Torn};
 ghost use Rattle.durable_disk.specs.Device.{AfterWrite, BothTold, Elapses, Follows, IsRead, NoMore, Only};
-ghost use Rattle.durable_disk.specs.File.{any_image, any_since, untold};
+ghost use Rattle.durable_disk.specs.File.{CountsFault, any_image, any_since, untold};
 
 use crate::{Disk, counted_in};
 use io_edge::Failed;
@@ -205,10 +204,7 @@ impl<'a> Disk for FileDisk<'a> {
         ensures seen { untold ≡ untold }
         ensures crash { NoMore any_image any_image }
         ensures time { Elapses 0 0 any_since any_since any_image }
-        ensures cause { HasCause self.old self.new result }
-        ensures count { self.new ≤ 2 ^ 64 - 1 }
-        ensures fault { OnErr result (self.new ≡ counted self.old) }
-        ensures none { OnOk result (self.new ≡ self.old) }
+        ensures faults { CountsFault self.old self.new result }
     {
         match self.place.read(at, into) {
             Ok(count) => Ok(count),
@@ -220,10 +216,7 @@ impl<'a> Disk for FileDisk<'a> {
         ensures seen { BothTold (AfterWrite result at bytes.now) None None }
         ensures crash { Follows (Torn at (length bytes.now)) any_image any_image }
         ensures time { Elapses 0 0 any_since any_since any_image }
-        ensures cause { HasCause self.old self.new result }
-        ensures count { self.new ≤ 2 ^ 64 - 1 }
-        ensures fault { OnErr result (self.new ≡ counted self.old) }
-        ensures none { OnOk result (self.new ≡ self.old) }
+        ensures faults { CountsFault self.old self.new result }
     {
         let done = match self.place.made(self.rt, self.path) {
             Ok(opened) => opened.file.write_all_at(bytes, at).is_ok(),
@@ -241,10 +234,7 @@ impl<'a> Disk for FileDisk<'a> {
         ensures seen { untold ≡ untold }
         ensures crash { NoMore any_image any_image }
         ensures time { Elapses 0 0 any_since any_since any_image }
-        ensures cause { HasCause self.old self.new result }
-        ensures count { self.new ≤ 2 ^ 64 - 1 }
-        ensures fault { OnErr result (self.new ≡ counted self.old) }
-        ensures none { OnOk result (self.new ≡ self.old) }
+        ensures faults { CountsFault self.old self.new result }
     {
         if self.place.sync().is_ok() {
             Ok(())

@@ -1,10 +1,10 @@
 //! A log of records. A record's gate stands closed on the disk before anything is written behind it, and is opened by a
 //! write of its own.
-ghost use Rattle.std.specs.Prelude.{◌≡◌, ℕ, ◌+◌, ◌*◌, ◌<◌, ◌≤◌, ◌^◌, ◌++◌, ◌↔◌, [], ◌∷◌, List, Some, length, true, false, IfOk, IfErr, IfSome, IsErrOf, IsSome, IsTrue, OnErr, OnOk};
+ghost use Rattle.std.specs.Prelude.{◌≡◌, ℕ, ◌+◌, ◌*◌, ◌<◌, ◌≤◌, ◌^◌, ◌++◌, ◌↔◌, [], ◌∷◌, List, Some, length, false, IfOk, IfErr, IfSome, IsSome, IsTrue, OnErr, OnOk};
 ghost use Rattle.io_edge.specs.Causes.{Rose, HasCause};
 ghost use Rattle.durable_disk.specs.Device.{Elapses, LeavesOnly, NoMore, WritesWithin};
 ghost use Rattle.durable_disk.specs.Records.{HasBodies, HasFirst, IsBeforeOrAfter, Reads, slot_at, slot_of};
-ghost use Rattle.durable_disk.specs.Standing.{EachLeft, IsOkOrFault, IsSettled, IsStaged, IsStaging, Stands};
+ghost use Rattle.durable_disk.specs.Standing.{EachLeft, IsOkOrFault, IsSettled, IsStaged, IsStaging, Stands, StopsAtFault, TellsFaults};
 ghost use Rattle.durable_disk.specs.Found.{Finds};
 
 use crate::device::Disk;
@@ -210,15 +210,10 @@ impl<D: Disk> Records<D> {
             → IsSome (D.seen self.old.disk) → LeavesOnly D.moment D.left_since self.old.disk self.new.disk (IsBeforeOrAfter bodies body.now) }
         // Nothing is written but the record with its gate and the gate behind it, at each moment of the call.
         ensures within { WritesWithin D.seen D.may_leave D.moment D.left_since (256 * self.old.count) 257 self.old.disk self.new.disk }
-        ensures goes { OnOk result (self.new.stopped ≡ false) }
         ensures count { OnOk result (self.new.count ≡ self.old.count + 1) }
         ensures same { OnErr result (self.new.count ≡ self.old.count) }
-        ensures stops { IsErrOf result RecordFault.DiskFault → self.new.stopped ≡ true }
-        ensures stopped { IsErrOf result RecordFault.Stopped ↔ (self.old.stopped ≡ true) }
-        ensures unchanged { IsErrOf result RecordFault.Stopped → self.new ≡ self.old }
-        ensures cause { IsErrOf result RecordFault.DiskFault → Rose (D.faults self.old.disk) (D.faults self.new.disk) }
-        ensures later { D.faults self.old.disk ≤ D.faults self.new.disk }
-        ensures told { IsSome (D.seen self.old.disk) ↔ IsSome (D.seen self.new.disk) }
+        ensures halts { StopsAtFault RecordFault.DiskFault RecordFault.Stopped result self.old self.new }
+        ensures faults { TellsFaults D.seen D.faults RecordFault.DiskFault result self.old.disk self.new.disk }
     {
         if self.stopped {
             return Err(RecordFault::Stopped);
@@ -246,13 +241,8 @@ impl<D: Disk> Records<D> {
         ensures any_moment { (bodies : List (List ℕ)) → self.old.count ≡ length bodies → EachLeft (D.seen self.old.disk) (D.may_leave self.old.disk) (λ c. Reads c bodies) → IsSome (D.seen self.old.disk)
             → LeavesOnly D.moment D.left_since self.old.disk self.new.disk (λ c. Reads c bodies) }
         ensures count { self.new.count ≡ self.old.count }
-        ensures goes { OnOk result (self.new.stopped ≡ false) }
-        ensures stops { IsErrOf result RecordFault.DiskFault → self.new.stopped ≡ true }
-        ensures stopped { IsErrOf result RecordFault.Stopped ↔ (self.old.stopped ≡ true) }
-        ensures unchanged { IsErrOf result RecordFault.Stopped → self.new ≡ self.old }
-        ensures cause { IsErrOf result RecordFault.DiskFault → Rose (D.faults self.old.disk) (D.faults self.new.disk) }
-        ensures later { D.faults self.old.disk ≤ D.faults self.new.disk }
-        ensures told { IsSome (D.seen self.old.disk) ↔ IsSome (D.seen self.new.disk) }
+        ensures halts { StopsAtFault RecordFault.DiskFault RecordFault.Stopped result self.old self.new }
+        ensures faults { TellsFaults D.seen D.faults RecordFault.DiskFault result self.old.disk self.new.disk }
     {
         if self.stopped {
             return Err(RecordFault::Stopped);
@@ -275,13 +265,8 @@ impl<D: Disk> Records<D> {
             → LeavesOnly D.moment D.left_since self.old.disk self.new.disk (HasFirst bodies more) }
         ensures count { OnOk result (self.new.count ≡ self.old.count + n) }
         ensures same { OnErr result (self.new.count ≡ self.old.count) }
-        ensures goes { OnOk result (self.new.stopped ≡ false) }
-        ensures stops { IsErrOf result RecordFault.DiskFault → self.new.stopped ≡ true }
-        ensures stopped { IsErrOf result RecordFault.Stopped ↔ (self.old.stopped ≡ true) }
-        ensures unchanged { IsErrOf result RecordFault.Stopped → self.new ≡ self.old }
-        ensures cause { IsErrOf result RecordFault.DiskFault → Rose (D.faults self.old.disk) (D.faults self.new.disk) }
-        ensures later { D.faults self.old.disk ≤ D.faults self.new.disk }
-        ensures told { IsSome (D.seen self.old.disk) ↔ IsSome (D.seen self.new.disk) }
+        ensures halts { StopsAtFault RecordFault.DiskFault RecordFault.Stopped result self.old self.new }
+        ensures faults { TellsFaults D.seen D.faults RecordFault.DiskFault result self.old.disk self.new.disk }
     {
         if self.stopped {
             return Err(RecordFault::Stopped);

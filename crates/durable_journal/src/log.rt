@@ -1,7 +1,7 @@
 //! A log of entries on a disk.
-ghost use Rattle.std.specs.Prelude.{◌≡◌, ℕ, ◌+◌, ◌*◌, ◌<◌, ◌≤◌, ◌^◌, ◌++◌, ◌↔◌, ◌⊎◌, [], ◌∷◌, List as Many, length, true, false, IfOk, IfErr, IfSome, IsOk, IsErrOf, IsSome, OnErr, OnOk, vec_capacity};
+ghost use Rattle.std.specs.Prelude.{◌≡◌, ℕ, ◌+◌, ◌*◌, ◌<◌, ◌≤◌, ◌^◌, ◌++◌, ◌↔◌, [], ◌∷◌, List as Many, length, true, false, IfOk, IfErr, IfSome, IsOk, IsErrOf, IsSome, OnErr, OnOk, vec_capacity};
 ghost use Rattle.std.specs.List.{All, AllByRecursion};
-ghost use Rattle.io_edge.specs.Causes.{HasCause, Rose};
+ghost use Rattle.io_edge.specs.Causes.{HasCause};
 ghost use Rattle.rt_base.specs.Names.{AreNames};
 ghost use Rattle.rt_base.specs.declared.name.Names.{Names as Noting};
 ghost use Rattle.txn_set.specs.Set.{Set};
@@ -11,11 +11,10 @@ ghost use Rattle.journal_text.specs.Lines.{IsWritable, entry_line};
 ghost use Rattle.report_text.specs.Texts.{NamesSet};
 ghost use Rattle.durable_disk.specs.Device.{LeavesOnly, WritesWithin};
 ghost use Rattle.durable_disk.specs.Records.{HasFirst, Reads};
-ghost use Rattle.durable_disk.specs.Standing.{EachLeft, IsStaging, Stands};
+ghost use Rattle.durable_disk.specs.Standing.{EachLeft, IsStaging, Stands, StopsAtFault, TellsFaults};
 ghost use Rattle.durable_journal.specs.Format.{body_of as body_of_text, entry_bodies};
 ghost use Rattle.durable_journal.specs.Log.{Fits, GoesOn, HasSome, IsBeforeOrAfter, IsLeft, IsMemoryOrFault, IsOkOrFault, StandsFor};
-ghost use Rattle.durable_journal.specs.Opened.{ClosesAt, IfFull, IsEnd, IsJudged, IsOpened, IsRefused, Touches, TouchesAt, with_gate};
-ghost use Rattle.durable_journal.specs.Texts.{ended, unended, texts_from};
+ghost use Rattle.durable_journal.specs.Opened.{ClosesAt, HandsBack, IfFull, IsEnd, IsJudged, IsOpened, IsRefused, KeepsDisk, Touches, TouchesAt, with_gate};
 
 use crate::format::body_of;
 use crate::place::HEADER;
@@ -114,21 +113,11 @@ impl<D: Disk> Log<D> {
         // The log stands for the entries that are handed out.
         ensures stands { IfOk result (λ r. StandsFor D.seen D.may_leave names.now set.now r.0 r.1.items) }
         ensures goes { IfOk result (λ r. (r.0.stopped ≡ false) × (r.0.count ≡ length r.1.items + 1)) }
-        // A crash at any moment of the call leaves what a crash before it might have left, where the first closed gate is there.
-        ensures any_moment { IfOk result (λ r. IfSome (D.seen disk) (λ file. texts_from names.now 1 room [] file ≡ ended r.1.items
-            → LeavesOnly D.moment D.left_since disk r.0.disk (D.may_leave disk))) }
-        ensures any_moment_err { IfErr result (λ e. IfSome (D.seen disk) (λ file. ((es : Many Noted) → texts_from names.now 1 room [] file ≡ unended es → ⊥)
-            → LeavesOnly D.moment D.left_since disk e.0 (D.may_leave disk))) }
         // Nothing is written but the gate at the end of a good journal that has none there.
         ensures touched { IfOk result (λ r. IfSome (D.seen disk) (λ file. Touches D.seen D.may_leave D.moment D.left_since names.now set.now room file (λ now. now ≡ with_gate file) disk r.0.disk)) }
         ensures touched_err { IfErr result (λ e. IfSome (D.seen disk) (λ file. TouchesAt D.seen D.may_leave D.moment D.left_since names.now set.now room file e.1 disk e.0)) }
-        ensures told { IfOk result (λ r. IsSome (D.seen disk) ↔ IsSome (D.seen r.0.disk)) }
-        ensures told_err { IfErr result (λ e. IsSome (D.seen disk) ↔ IsSome (D.seen e.0)) }
-        ensures later { IfOk result (λ r. D.faults disk ≤ D.faults r.0.disk) }
-        ensures later_err { IfErr result (λ e. D.faults disk ≤ D.faults e.0) }
-        ensures cause { IfErr result (λ e. e.1 ≡ LogError.DiskFault → Rose (D.faults disk) (D.faults e.0)) }
-        ensures full { IfErr result (λ e. IfFull e.1 (λ first. length first ≡ room)) }
-        ensures goes_err { IfErr result (λ e. e.1 ≡ LogError.Stopped → ⊥) }
+        ensures kept { IfOk result (λ r. KeepsDisk D.seen D.may_leave D.moment D.left_since D.faults names.now room r.1.items disk r.0.disk) }
+        ensures handed_back { IfErr result (λ e. HandsBack D.seen D.may_leave D.moment D.left_since D.faults names.now room e.1 disk e.0) }
     {
         found_as_read();
         lines_both_ways();
@@ -174,16 +163,10 @@ impl<D: Disk> Log<D> {
         ensures any_moment { (entries : Many Noted) → IsLegal set.now (entries ++ entry ∷ []) → self.old.stopped ≡ false
             → StandsFor D.seen D.may_leave names.now set.now self.old entries → IsSome (D.seen self.old.disk)
             → LeavesOnly D.moment D.left_since self.old.disk self.new.disk (IsBeforeOrAfter names.now set.now entries entry) }
-        ensures goes { OnOk result (self.new.stopped ≡ false) }
         ensures count { OnOk result (self.new.count ≡ self.old.count + 1) }
         ensures uncounted { OnErr result (self.new.count ≡ self.old.count) }
-        ensures stops { IsErrOf result LogError.DiskFault → self.new.stopped ≡ true }
-        ensures stopped { IsErrOf result LogError.Stopped ↔ (self.old.stopped ≡ true) }
-        ensures unchanged { IsErrOf result LogError.Stopped → self.new ≡ self.old }
-        ensures no_other { OnErr result (IsErrOf result LogError.DiskFault ⊎ IsErrOf result LogError.Stopped) }
-        ensures cause { IsErrOf result LogError.DiskFault → Rose (D.faults self.old.disk) (D.faults self.new.disk) }
-        ensures later { D.faults self.old.disk ≤ D.faults self.new.disk }
-        ensures told { IsSome (D.seen self.old.disk) ↔ IsSome (D.seen self.new.disk) }
+        ensures halts { StopsAtFault LogError.DiskFault LogError.Stopped result self.old self.new }
+        ensures faults { TellsFaults D.seen D.faults LogError.DiskFault result self.old.disk self.new.disk }
     {
         found_as_read();
         lines_both_ways();
@@ -223,9 +206,7 @@ impl<D: Disk> Log<D> {
         ensures none { entries.now ≡ [] → IsOk result × (self.new ≡ self.old) }
         ensures stops { IsErrOf result LogError.DiskFault → self.new.stopped ≡ true }
         ensures no_other { self.old.stopped ≡ false → OnErr result (IsErrOf result LogError.DiskFault) }
-        ensures cause { IsErrOf result LogError.DiskFault → Rose (D.faults self.old.disk) (D.faults self.new.disk) }
-        ensures later { D.faults self.old.disk ≤ D.faults self.new.disk }
-        ensures told { IsSome (D.seen self.old.disk) ↔ IsSome (D.seen self.new.disk) }
+        ensures faults { TellsFaults D.seen D.faults LogError.DiskFault result self.old.disk self.new.disk }
     {
         found_as_read();
         lines_both_ways();
@@ -249,13 +230,8 @@ impl<D: Disk> Log<D> {
             → LeavesOnly D.moment D.left_since self.old.disk self.new.disk (λ c. Reads c bodies) }
         ensures fits { Fits names.now entry.now }
         ensures count { self.new.count ≡ self.old.count }
-        ensures goes { OnOk result (self.new.stopped ≡ false) }
-        ensures stops { IsErrOf result LogError.DiskFault → self.new.stopped ≡ true }
-        ensures stopped { IsErrOf result LogError.Stopped ↔ (self.old.stopped ≡ true) }
-        ensures no_other { OnErr result (IsErrOf result LogError.DiskFault ⊎ IsErrOf result LogError.Stopped) }
-        ensures cause { IsErrOf result LogError.DiskFault → Rose (D.faults self.old.disk) (D.faults self.new.disk) }
-        ensures later { D.faults self.old.disk ≤ D.faults self.new.disk }
-        ensures told { IsSome (D.seen self.old.disk) ↔ IsSome (D.seen self.new.disk) }
+        ensures halts { StopsAtFault LogError.DiskFault LogError.Stopped result self.old self.new }
+        ensures faults { TellsFaults D.seen D.faults LogError.DiskFault result self.old.disk self.new.disk }
     {
         let body = body_in(&mut self.line, &mut self.numerals, names, entry);
         match self.records.stage_next(ahead, &body) {
@@ -278,9 +254,7 @@ impl<D: Disk> Log<D> {
         ensures same { OnOk result (self.new.stopped ≡ self.old.stopped) }
         ensures stops { IsErrOf result LogError.DiskFault → self.new.stopped ≡ true }
         ensures no_other { self.old.stopped ≡ false → OnErr result (IsErrOf result LogError.DiskFault) }
-        ensures cause { IsErrOf result LogError.DiskFault → Rose (D.faults self.old.disk) (D.faults self.new.disk) }
-        ensures later { D.faults self.old.disk ≤ D.faults self.new.disk }
-        ensures told { IsSome (D.seen self.old.disk) ↔ IsSome (D.seen self.new.disk) }
+        ensures faults { TellsFaults D.seen D.faults LogError.DiskFault result self.old.disk self.new.disk }
     {
         for (i, entry) in entries.iter().enumerate() {
             self.stage_entry(names, i as u64, entry)?;
@@ -296,13 +270,8 @@ impl<D: Disk> Log<D> {
         ensures any_moment { (bodies more : Many (Many ℕ)) → self.old.count ≡ length bodies → n ≡ length more → IsStaging (D.seen self.old.disk) (D.may_leave self.old.disk) bodies more → IsSome (D.seen self.old.disk)
             → LeavesOnly D.moment D.left_since self.old.disk self.new.disk (HasFirst bodies more) }
         ensures count { OnOk result (self.new.count ≡ self.old.count + n) }
-        ensures goes { OnOk result (self.new.stopped ≡ false) }
-        ensures stops { IsErrOf result LogError.DiskFault → self.new.stopped ≡ true }
-        ensures stopped { IsErrOf result LogError.Stopped ↔ (self.old.stopped ≡ true) }
-        ensures no_other { OnErr result (IsErrOf result LogError.DiskFault ⊎ IsErrOf result LogError.Stopped) }
-        ensures cause { IsErrOf result LogError.DiskFault → Rose (D.faults self.old.disk) (D.faults self.new.disk) }
-        ensures later { D.faults self.old.disk ≤ D.faults self.new.disk }
-        ensures told { IsSome (D.seen self.old.disk) ↔ IsSome (D.seen self.new.disk) }
+        ensures halts { StopsAtFault LogError.DiskFault LogError.Stopped result self.old self.new }
+        ensures faults { TellsFaults D.seen D.faults LogError.DiskFault result self.old.disk self.new.disk }
     {
         match self.records.open_staged(n) {
             Ok(()) => Ok(()),

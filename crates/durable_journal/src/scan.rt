@@ -1,13 +1,11 @@
 //! Reading the entries of a journal from its disk.
 ghost use Rattle.std.specs.Prelude.{◌≡◌, ◌+◌, ◌-◌, ◌<◌, ◌≤◌, ◌^◌, [], length, IfOk, IfSome, IsErrOf, OnOk};
-ghost use Rattle.std.specs.List.{AllByRecursion};
 ghost use Rattle.io_edge.specs.Causes.{Rose};
 ghost use Rattle.rt_base.specs.Names.{AreNames};
 ghost use Rattle.durable_disk.specs.Device.{LeavesOnly, NoMore, Only};
 ghost use Rattle.durable_disk.specs.Records.{slot_at};
-ghost use Rattle.durable_journal.specs.Log.{Fits};
 ghost use Rattle.durable_journal.specs.Texts.{IsHeader, texts_from};
-ghost use Rattle.durable_journal.specs.Opened.{Passes, Scanned, texts_by};
+ghost use Rattle.durable_journal.specs.Opened.{AreRead, Passes, Scanned, texts_by};
 
 use crate::place::{Place, read_head, read_place};
 use durable_disk::Disk;
@@ -63,9 +61,7 @@ fn read_entries<D: Disk>(
     room: usize,
 ) -> Result<(Vec<Entry>, Stop), ScanFault>
     ensures texts { IfOk result (λ r. IfSome (D.seen disk.old) (λ file. texts_by r.1 r.0.items ≡ texts_from names.now 1 room [] file)) }
-    ensures within { IfOk result (λ r. (length r.0.items ≤ room) × (length r.0.items ≤ 2 ^ 47)) }
-    ensures full { IfOk result (λ r. r.1 ≡ Stop.More → length r.0.items ≡ room) }
-    ensures fit { IfOk result (λ r. AllByRecursion (Fits names.now) r.0.items) }
+    ensures read { IfOk result (λ r. AreRead names.now room r.1 r.0.items) }
     ensures passes { Passes D.seen D.may_leave D.moment D.left_since disk.old disk.new }
     ensures headed { IsErrOf result ScanFault.NoHeader → ⊥ }
     ensures cause { IsErrOf result ScanFault.DiskFault → Rose (D.faults disk.old) (D.faults disk.new) }
@@ -110,9 +106,7 @@ pub fn scan_disk<D: Disk>(
     requires few_items { length names.now.items < 2 ^ 32 }
     requires few_txns { length names.now.txns < 2 ^ 32 }
     ensures scanned { IfOk result (λ r. IfSome (D.seen disk.old) (λ file. Scanned names.now room file r.1 r.0.items)) }
-    ensures within { IfOk result (λ r. (length r.0.items ≤ room) × (length r.0.items ≤ 2 ^ 47)) }
-    ensures full { IfOk result (λ r. r.1 ≡ Stop.More → length r.0.items ≡ room) }
-    ensures fit { IfOk result (λ r. AllByRecursion (Fits names.now) r.0.items) }
+    ensures read { IfOk result (λ r. AreRead names.now room r.1 r.0.items) }
     ensures settled { OnOk result (Only (D.seen disk.new) (D.may_leave disk.new)) }
     ensures passes { Passes D.seen D.may_leave D.moment D.left_since disk.old disk.new }
     ensures no_header { IsErrOf result ScanFault.NoHeader → IfSome (D.seen disk.old) (λ file. IsHeader (slot_at 0 file) → ⊥) }

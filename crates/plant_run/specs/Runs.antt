@@ -1,8 +1,9 @@
 -- What a run leaves: when it was handed on whole, when the out stopped, and when it wanted memory.
 use Rattle.std.specs.Prelude.{◌≡◌, ℕ, List, [], ◌++◌, take, drop, slice_index_or}
-use Rattle.txn_set.specs.Set.{IsCompiled}
+use Rattle.txn_set.specs.Set.{Set, IsCompiled}
 use Rattle.step_journal.specs.declared.entry.Entry.{Entry}
 use Rattle.law_histories.specs.Sim.{Workload, IsSim}
+use Rattle.sim_run.specs.Boards.{IsFixed}
 use Rattle.sim_run.specs.Workloads.{AreAccepted, IsObedient}
 use Rattle.sim_run.specs.Runs.{IsWhole, IsStopped}
 use Rattle.law_runs.specs.Histories.{IsRunSoFar, IsRunOf}
@@ -11,6 +12,10 @@ use Rattle.law_runs.specs.Plannable.{ArePlannable}
 -- how many jobs a transaction plans itself
 abbrev pub own_at : List ℕ → ℕ → ℕ
 own_at own tx = slice_index_or own tx 0
+
+-- the board is handed back with no entry left in it, and with the set and the room that it had
+abbrev pub IsHandedBack : {B : Type 0} → (kept : B → List Entry) → (set : B → Set) → (room : B → ℕ) → B → B → Type 0
+IsHandedBack kept set room was is = (kept is ≡ []) × IsFixed set room was is
 
 -- a run of the workload, for which the board stands, and which the out got whole
 pub record IsWholeRun (w : Workload) (own : ℕ → ℕ) (stands got got' : List Entry → Type 0) : Type 0 where

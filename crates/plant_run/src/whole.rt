@@ -1,14 +1,13 @@
 //! The whole run.
-ghost use Rattle.std.specs.Prelude.{◌≡◌, ◌≤◌, [], IfOk, IsErrOf};
+ghost use Rattle.std.specs.Prelude.{◌≤◌, [], IfOk, IsErrOf};
 ghost use Rattle.std.specs.Prelude.{List as Many};
 ghost use Rattle.io_edge.specs.Causes.{Rose};
 ghost use Rattle.step_journal.specs.declared.entry.Entry.{Entry as Noted};
 ghost use Rattle.step_journal.specs.History.{IsLegal};
 ghost use Rattle.sim_run.specs.Outs.{StaysGood, LosesNone};
-ghost use Rattle.sim_run.specs.Boards.{IsFixed};
 ghost use Rattle.sim_run.specs.Handed.{CanTake};
 ghost use Rattle.plant_run.specs.Ready.{CanRun, workload_in, own_in};
-ghost use Rattle.plant_run.specs.Runs.{IsWholeRun, IsStoppedRun, IsShortRun};
+ghost use Rattle.plant_run.specs.Runs.{IsHandedBack, IsWholeRun, IsStoppedRun, IsShortRun};
 
 use crate::alone::run_alone;
 use crate::deal::Crew;
@@ -45,8 +44,7 @@ pub fn run_workers<
     requires nothing_lost { O.lost out.old [] }
     requires good { (history : Many Noted) → IsLegal (B.set run.board) history → CanTake (O.got out.old) (O.good out.old) history }
     ensures whole { IfOk result (λ b. IsWholeRun (workload_in B.set Y.gives run.entry) (own_in run.entry) (B.stands b) (O.got out.old) (O.got out.new)) }
-    ensures left { IfOk result (λ b. B.kept b ≡ []) }
-    ensures fixed { IfOk result (λ b. IsFixed B.set B.room run.entry.board b) }
+    ensures left { IfOk result (λ b. IsHandedBack B.kept B.set B.room run.entry.board b) }
     ensures none_lost { LosesNone O.lost out.new result }
     ensures stopped { IsErrOf result RunFault.Writing → IsStoppedRun (workload_in B.set Y.gives run.entry) (own_in run.entry) (O.got out.old) (O.got out.new) (O.lost out.new) }
     ensures short { IsErrOf result RunFault.Memory → IsShortRun (workload_in B.set Y.gives run.entry) (own_in run.entry) (O.got out.old) (O.got out.new) (O.lost out.new) }

@@ -202,14 +202,21 @@ fn judge_parts(
         left: around.left,
         after: around.after,
     };
-    match judge_reported(alloc, &names, &set, told)? {
-        Found::Legal(items) => Ok(Judged::Legal(LegalReport {
+    match judge_reported(alloc, &names, &set, told) {
+        Ok(Found::Legal(items)) => Ok(Judged::Legal(LegalReport {
             names,
             set,
             entries,
             items,
         })),
-        Found::Other(verdict) => Ok(Judged::Other(verdict)),
+        Ok(Found::Other(verdict)) => {
+            drop((names, set, entries));
+            Ok(Judged::Other(verdict))
+        }
+        Err(error) => {
+            drop((names, set, entries));
+            Err(error)
+        }
     }
 }
 
@@ -236,7 +243,10 @@ fn judge_mode(
     set.is_compiled();
     admitted_unless_refused();
     match admit(alloc, set) {
-        Err((_, error)) => not_admitted(error),
+        Err((set, error)) => {
+            drop((names, set, entries));
+            not_admitted(error)
+        }
         Ok(set) => judge_parts(alloc, names, ReportedSet::Admitted(set), entries, around),
     }
 }
@@ -305,7 +315,10 @@ pub fn check_document(alloc: Global, bytes: &[u8]) -> Result<Verdict, OutOfMemor
         return Ok(Verdict::Legal);
     }
     match judge_document(alloc, bytes)? {
-        Judged::Legal(_report) => Ok(Verdict::Legal),
+        Judged::Legal(report) => {
+            drop(report);
+            Ok(Verdict::Legal)
+        }
         Judged::Other(verdict) => Ok(verdict),
     }
 }

@@ -62,8 +62,14 @@ pub fn accepts<L: Ledger>(
         Err(error) => return Ok(Some(not_compiled(error)?)),
     };
     match admit(alloc, scaled) {
-        Ok(_) => Ok(None),
-        Err((_, error)) => Ok(Some(not_admitted(error)?)),
+        Ok(admitted) => {
+            drop(admitted);
+            Ok(None)
+        }
+        Err((scaled, error)) => {
+            drop(scaled);
+            Ok(Some(not_admitted(error)?))
+        }
     }
 }
 

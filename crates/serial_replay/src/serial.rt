@@ -54,9 +54,13 @@ pub fn last_items(alloc: Global, set: &CompiledSet, entries: &[Entry]) -> Result
 {
     let mut board = new_board(alloc, set)?;
     match again(&mut board, entries) {
-        Some(index) => Err(ReplayError::NotLegal { index }),
+        Some(index) => {
+            drop(board);
+            Err(ReplayError::NotLegal { index })
+        }
         None => {
-            let (items, _) = board.into_parts();
+            let (items, set) = board.into_parts();
+            drop(set);
             Ok(items)
         }
     }

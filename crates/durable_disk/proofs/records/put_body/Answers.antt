@@ -1,4 +1,4 @@
-use Rattle.std.proofs.Common.{ℕ, ◌+◌, ◌*◌, List, length, arith}
+use Rattle.std.proofs.Common.{ℕ, ◌+◌, ◌*◌, List, arith}
 use Rattle.durable_disk.specs.Records.{Reads}
 use Rattle.durable_disk.proofs.RecordMoments.{started, goes_on}
 use Rattle.durable_disk.proofs.Calls.{each_told, told_after}

@@ -19,8 +19,8 @@ returns-in-Ok-admit-clause-barrier g c =
     (declared c.args.set.now c.args.percent _ _ _ _ _ _ c.in_ok-items.ensures.items c.items.ensures c.in_ok-txns.ensures c.txns.ensures c.in_ok-together.ensures c.together.ensures)
     _ c.in-Ok.ensures.set c.in-Ok.ensures.passed c.in-Ok-admit.ensures.admitted
 
-pub returns-clause-barrier : goal.returns-clause-barrier
-returns-clause-barrier g c =
+pub returns-in_ok-not_admitted-in-Err-admit-clause-barrier : goal.returns-in_ok-not_admitted-in-Err-admit-clause-barrier
+returns-in_ok-not_admitted-in-Err-admit-clause-barrier g c =
     rw c.in_ok-not_admitted-in-Err-admit.ensures.cause
     (bars_admit c.args.set.now c.args.percent c.is_compiled.ensures _
     (declared c.args.set.now c.args.percent _ _ _ _ _ _ c.in_ok-items.ensures.items c.items.ensures c.in_ok-txns.ensures c.txns.ensures c.in_ok-together.ensures c.together.ensures)

@@ -52,7 +52,7 @@ returns-clause-any_moment g c before legal goes s told =
     (c.stage_all.ensures.any_moment bodies rest.0 staging told)
     (λ image r. none_opens c.lines_both_ways.ensures c.found_as_read.ensures.found names c.requires.names.0 c.requires.names.1 set before es s.fit legal image r) in
     run_on d.moment d.left_since old.disk mid.disk c.open_all.new.self.disk (HasSome names set before es) (HasFirst bodies more) first
-    (c.open_all.ensures.any_moment bodies more (c.stage_all.ensures.count ∙ rest.0) (omega (arith, length-bodies names es)) (c.in_ok-stage_all.ensures.staged bodies rest.0 staging) (c.stage_all.ensures.told.0 told))
+    (c.open_all.ensures.any_moment bodies more (c.stage_all.ensures.count ∙ rest.0) (omega (arith, length-bodies names es)) (c.in_ok-stage_all.ensures.staged bodies rest.0 staging) (c.stage_all.ensures.faults.told.0 told))
     (λ image some. some_opens c.lines_both_ways.ensures c.found_as_read.ensures.found names c.requires.names.0 c.requires.names.1 set before es s.fit legal image c.in_ok-stage_all.ensures.fit some)
 
 pub returns-clause-stands : goal.returns-clause-stands
@@ -63,7 +63,7 @@ returns-clause-stands g c =
     let mid = c.stage_all.new.self in
     let new = c.open_all.new.self in
     let es = c.args.entries.now in
-    on_ok_going c.open_all.result mid.stopped c.open_all.ensures.stopped c.open_all.ensures.stands c.open_all.ensures.count (λ going stands count before legal s.
+    on_ok_going c.open_all.result mid.stopped c.open_all.ensures.halts.stopped c.open_all.ensures.stands c.open_all.ensures.count (λ going stands count before legal s.
     let bodies = bodies_of names before in
     let more = entry_bodies names es in
     let rest = at_rest (d.seen old.disk) (d.may_leave old.disk) old.count old.stopped bodies (sym c.in_ok-stage_all.ensures.same ∙ going) s.records in

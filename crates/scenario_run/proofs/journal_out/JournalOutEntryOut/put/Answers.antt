@@ -45,7 +45,7 @@ returns-clause-taken g c = λ story got.
     put_taken d.seen d.may_leave d.moment d.left_since names set begun.disk out.log there kept e c.some_from-known.result.now going legal known c.in_default.ensures
     new (c.in-Ok.ensures.goes going.goes) c.in-Ok.ensures.stands (λ none. (c.append_all.ensures.none none).1) moments in (
       c.append.ensures.items ∙ ap (λ (l : List Entry). l ++ e) got.0,
-      of_now d.seen d.may_leave d.moment d.left_since begun names set there out.room out.log.disk got.1 new.disk c.append_all.ensures.told,
+      of_now d.seen d.may_leave d.moment d.left_since begun names set there out.room out.log.disk got.1 new.disk c.append_all.ensures.faults.told,
       taken_at out.standing _ (goes out.standing begun.there kept c.requires.nothing_lost.0)
           (going_back d.seen d.may_leave d.moment d.left_since begun names set there out.room out.log.disk got.1 new kept e story got.0 taken),
     )
