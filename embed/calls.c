@@ -22,9 +22,15 @@ static const rtdb_transaction transactions[] = {
     {.priority = 1, .reads_at = 1, .reads = 1, .writes_at = 2, .writes = 1, .period = 20, .offset = 8, .deadline = 20, .steps = 4},
 };
 static const rtdb_together sets[] = {{1, 2, 5}};
+static const rtdb_tables tables = {items, 2, transactions, 2, sets, 0, numbers, 3};
+static const rtdb_operation read_first = {RTDB_READ, 0, 0}, compute = {RTDB_COMPUTE, 0, 0}, commit = {RTDB_COMMIT, 0, 0};
 
+/* The same tables with these transactions. */
 static rtdb_status open_set(rtdb *db, const rtdb_transaction *rows, size_t count, size_t room, rtdb_refusal *refusal) {
-    return rtdb_open(db, items, 2, rows, count, sets, 0, numbers, 3, room, refusal);
+    rtdb_tables other = tables;
+    other.transactions = rows;
+    other.transaction_count = count;
+    return rtdb_open(db, &other, room, refusal);
 }
 
 static int refusal_is(rtdb_refusal r, uint32_t rule, uint64_t a, uint64_t b, uint64_t c) {
@@ -49,7 +55,7 @@ static void closed(void) {
     IS(rtdb_age(&db, 0, &ticks) == RTDB_CLOSED && rtdb_now(&db, &ticks) == RTDB_CLOSED && ticks == 7);
     IS(rtdb_plan(&db, 0, 0, &time) == RTDB_CLOSED && rtdb_plan_next(&db, 0, &time) == RTDB_CLOSED);
     IS(rtdb_idle(&db, &time) == RTDB_CLOSED && time.reply == 7 && time.tick == 7);
-    IS(rtdb_step(&db, job, RTDB_COMMIT, 0, 0, &answer) == RTDB_CLOSED);
+    IS(rtdb_step(&db, job, commit, &answer) == RTDB_CLOSED);
     IS(rtdb_running(&db, &job) == RTDB_CLOSED && rtdb_pending(&db, 0, &job) == RTDB_CLOSED && job.serial == 7);
     IS(rtdb_ended(&db, 0, &count) == RTDB_CLOSED && count == 7);
     IS(rtdb_peek(&db, 0, &stored) == RTDB_CLOSED && stored.value == 7);
@@ -64,12 +70,18 @@ static void refusals(void) {
     rtdb_transaction rows[2];
     rtdb_item bad[2] = {{RTDB_SENSOR, 20, 0}, {3, 0, 0}};
     IS(open_set(&db, transactions, 2, RTDB_MOST_ROOM + 1, &r) == RTDB_NO_ROOM && refusal_is(r, 0, 0, 0, 0));
-    IS(rtdb_open(&db, bad, 2, transactions, 2, sets, 0, numbers, 3, 8, &r) == RTDB_BAD_TABLE && refusal_is(r, RTDB_BAD_KIND, 1, 0, 0));
-    IS(rtdb_open(&db, items, 1, transactions, 2, sets, 0, numbers, 3, 8, &r) == RTDB_BAD_TABLE && refusal_is(r, RTDB_BAD_NUMBER, 2, 0, 0));
-    IS(rtdb_open(&db, items, 2, transactions, 2, sets, 0, numbers, 2, 8, &r) == RTDB_BAD_TABLE && refusal_is(r, RTDB_BAD_TRANSACTION, 1, 0, 0));
+    rtdb_tables bad_kind = tables, one_item = tables, few_numbers = tables, bad_set = tables, one_set = tables;
+    bad_kind.items = bad;
+    IS(rtdb_open(&db, &bad_kind, 8, &r) == RTDB_BAD_TABLE && refusal_is(r, RTDB_BAD_KIND, 1, 0, 0));
+    one_item.item_count = 1;
+    IS(rtdb_open(&db, &one_item, 8, &r) == RTDB_BAD_TABLE && refusal_is(r, RTDB_BAD_NUMBER, 2, 0, 0));
+    few_numbers.id_count = 2;
+    IS(rtdb_open(&db, &few_numbers, 8, &r) == RTDB_BAD_TABLE && refusal_is(r, RTDB_BAD_TRANSACTION, 1, 0, 0));
     rtdb_together outside = {2, 2, 5};
-    IS(rtdb_open(&db, items, 2, transactions, 2, &outside, 1, numbers, 3, 8, &r) == RTDB_BAD_TABLE && refusal_is(r, RTDB_BAD_TOGETHER_ROW, 0, 0, 0));
-    IS(rtdb_open(&db, items, 2, transactions, 2, sets, 1, numbers, 3, 8, &r) == RTDB_NOT_COMPILED && refusal_is(r, RTDB_BAD_TOGETHER, 0, 0, 0));
+    bad_set.together = &outside;
+    bad_set.together_count = one_set.together_count = 1;
+    IS(rtdb_open(&db, &bad_set, 8, &r) == RTDB_BAD_TABLE && refusal_is(r, RTDB_BAD_TOGETHER_ROW, 0, 0, 0));
+    IS(rtdb_open(&db, &one_set, 8, &r) == RTDB_NOT_COMPILED && refusal_is(r, RTDB_BAD_TOGETHER, 0, 0, 0));
     memcpy(rows, transactions, sizeof rows);
     rows[1].priority = 2;
     IS(open_set(&db, rows, 2, 8, &r) == RTDB_NOT_COMPILED && refusal_is(r, RTDB_SAME_PRIORITY, 0, 1, 0));
@@ -144,22 +156,23 @@ static void plans(rtdb *db) {
 
 static void steps(rtdb *db) {
     rtdb_step_answer answer = {0};
+    rtdb_operation none = {5, 0, 0}, write = {RTDB_WRITE, 0, 42};
     rtdb_job job = {0}, other = {1, 0};
     rtdb_stored stored = {0};
     uint32_t count = 0;
     IS(rtdb_running(db, &job) == RTDB_OK && job.transaction == 0 && job.serial == 0);
     IS(rtdb_pending(db, 0, &job) == RTDB_OK && rtdb_pending(db, 1, &job) == RTDB_NOTHING && rtdb_pending(db, 2, &job) == RTDB_NO_TRANSACTION);
-    IS(rtdb_step(db, other, RTDB_COMPUTE, 0, 0, &answer) == RTDB_OK && answer.reply == RTDB_NO_JOB && answer.count == 0);
-    IS(rtdb_step(db, job, 5, 0, 0, &answer) == RTDB_NO_OPERATION);
+    IS(rtdb_step(db, other, compute, &answer) == RTDB_OK && answer.reply == RTDB_NO_JOB && answer.count == 0);
+    IS(rtdb_step(db, job, none, &answer) == RTDB_NO_OPERATION);
     other.transaction = 2;
-    IS(rtdb_step(db, other, RTDB_COMMIT, 0, 0, &answer) == RTDB_NO_TRANSACTION);
-    IS(rtdb_step(db, job, RTDB_READ, 0, 0, &answer) == RTDB_OK && answer.reply == RTDB_UNDECLARED && answer.item == 0);
-    IS(rtdb_step(db, job, RTDB_COMMIT, 0, 0, &answer) == RTDB_OK && answer.reply == RTDB_UNWRITTEN && answer.item == 0);
-    IS(rtdb_step(db, job, RTDB_WRITE, 0, 42, &answer) == RTDB_OK && answer.reply == RTDB_DONE && answer.outcome == RTDB_PUT);
+    IS(rtdb_step(db, other, commit, &answer) == RTDB_NO_TRANSACTION);
+    IS(rtdb_step(db, job, read_first, &answer) == RTDB_OK && answer.reply == RTDB_UNDECLARED && answer.item == 0);
+    IS(rtdb_step(db, job, commit, &answer) == RTDB_OK && answer.reply == RTDB_UNWRITTEN && answer.item == 0);
+    IS(rtdb_step(db, job, write, &answer) == RTDB_OK && answer.reply == RTDB_DONE && answer.outcome == RTDB_PUT);
     IS(answer.over.kind == RTDB_NOT_ENDED && rtdb_peek(db, 0, &stored) == RTDB_OK && stored.value == 3);
-    IS(rtdb_step(db, job, RTDB_COMMIT, 0, 0, &answer) == RTDB_OK && answer.outcome == RTDB_CLOSED_JOB && answer.over.kind == RTDB_COMMITTED);
+    IS(rtdb_step(db, job, commit, &answer) == RTDB_OK && answer.outcome == RTDB_CLOSED_JOB && answer.over.kind == RTDB_COMMITTED);
     IS(rtdb_peek(db, 0, &stored) == RTDB_OK && stored.value == 42 && stored.stamp == 0 && rtdb_peek(db, 2, &stored) == RTDB_NO_ITEM);
-    IS(rtdb_step(db, job, RTDB_COMMIT, 0, 0, &answer) == RTDB_OK && answer.reply == RTDB_NO_JOB && answer.count == 1 && answer.over.kind == RTDB_COMMITTED);
+    IS(rtdb_step(db, job, commit, &answer) == RTDB_OK && answer.reply == RTDB_NO_JOB && answer.count == 1 && answer.over.kind == RTDB_COMMITTED);
     IS(rtdb_ended(db, 0, &count) == RTDB_OK && count == 1 && rtdb_ended(db, 2, &count) == RTDB_NO_TRANSACTION);
     IS(rtdb_running(db, &job) == RTDB_NOTHING);
 }
@@ -207,15 +220,19 @@ static void trial(void) {
     rtdb_step_answer answer = {0};
     rtdb_job job = {1, 0};
     rtdb_transaction rows[2];
+    rtdb_tables late = tables;
     uint64_t ticks = 7;
     memcpy(rows, transactions, sizeof rows);
     rows[1].steps = 30;
     IS(open_set(&db, rows, 2, 64, &r) == RTDB_NOT_ADMITTED && db.at == NULL);
     r.rule = 9;
-    IS(rtdb_open_trial(&db, items, 1, rows, 2, sets, 0, numbers, 3, 64, &r) == RTDB_BAD_TABLE && refusal_is(r, RTDB_BAD_NUMBER, 2, 0, 0));
+    late.transactions = rows;
+    late.item_count = 1;
+    IS(rtdb_open_trial(&db, &late, 64, &r) == RTDB_BAD_TABLE && refusal_is(r, RTDB_BAD_NUMBER, 2, 0, 0));
+    late.item_count = 2;
     r.rule = 9;
-    IS(rtdb_open_trial(&db, items, 2, rows, 2, sets, 0, numbers, 3, 64, &r) == RTDB_OK && r.rule == 9);
-    IS(rtdb_open_trial(&db, items, 2, rows, 2, sets, 0, numbers, 3, 64, &r) == RTDB_OPEN && r.rule == 9);
+    IS(rtdb_open_trial(&db, &late, 64, &r) == RTDB_OK && r.rule == 9);
+    IS(rtdb_open_trial(&db, &late, 64, &r) == RTDB_OPEN && r.rule == 9);
     IS(rtdb_response(&db, 0, &ticks) == RTDB_NOT_ADMITTED && rtdb_blocking(&db, 7, &ticks) == RTDB_NOT_ADMITTED);
     IS(rtdb_age(&db, 7, &ticks) == RTDB_NOT_ADMITTED && ticks == 7);
     rtdb_margin_answer margin = {0};
@@ -224,7 +241,7 @@ static void trial(void) {
     IS(refusal_is(margin.refusal, RTDB_NOT_SCHEDULABLE, 0, 1 + 10, 0));
     IS(rtdb_plan(&db, 1, 0, &time) == RTDB_OK && time.reply == RTDB_PLANNED);
     while (answer.over.kind == RTDB_NOT_ENDED) {
-        IS(rtdb_step(&db, job, RTDB_COMPUTE, 0, 0, &answer) == RTDB_OK && answer.reply == RTDB_DONE);
+        IS(rtdb_step(&db, job, compute, &answer) == RTDB_OK && answer.reply == RTDB_DONE);
         if (failed) break;
     }
     IS(answer.over.kind == RTDB_LATE && rtdb_now(&db, &ticks) == RTDB_OK && ticks == 20);

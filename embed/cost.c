@@ -13,6 +13,7 @@ static const rtdb_item items[] = {{RTDB_SENSOR, 100000, 0}};
 static const uint32_t numbers[] = {0};
 static const rtdb_transaction transactions[] = {{1, 0, 0, 0, 1, 20000, 0, 20000, 10000, 0}};
 static const rtdb_together no_sets[1] = {{0, 0, 0}};
+static const rtdb_tables tables = {items, 1, transactions, 1, no_sets, 0, numbers, 1};
 
 struct run {
     rtdb db;
@@ -26,7 +27,7 @@ struct run {
 };
 
 static int step(struct run *r, uint32_t operation, int64_t value) {
-    return rtdb_step(&r->db, r->job, operation, 0, value, &r->answer) == RTDB_OK && r->answer.reply == RTDB_DONE;
+    return rtdb_step(&r->db, r->job, (rtdb_operation){operation, 0, value}, &r->answer) == RTDB_OK && r->answer.reply == RTDB_DONE;
 }
 
 static int job(struct run *r, long k) {
@@ -53,7 +54,7 @@ static int now(struct run *r, long k) {
 
 static int refused(struct run *r, long k) {
     (void)k;
-    return rtdb_step(&r->db, r->job, RTDB_READ, 0, 0, &r->answer) == RTDB_OK && r->answer.reply == RTDB_UNDECLARED;
+    return rtdb_step(&r->db, r->job, (rtdb_operation){RTDB_READ, 0, 0}, &r->answer) == RTDB_OK && r->answer.reply == RTDB_UNDECLARED;
 }
 
 static int compute(struct run *r, long k) {
@@ -96,7 +97,7 @@ int main(int count, char **words) {
     while (strcmp(words[1], calls[at].name) != 0) {
         if (++at == sizeof calls / sizeof calls[0]) return 2;
     }
-    if (rtdb_open(&r.db, items, 1, transactions, 1, no_sets, 0, numbers, 1, 8192, &refusal) != RTDB_OK) return 1;
+    if (rtdb_open(&r.db, &tables, 8192, &refusal) != RTDB_OK) return 1;
     if (calls[at].repeat != job_times && rtdb_plan(&r.db, 0, 0, &r.time) != RTDB_OK) return 1;
     if (!calls[at].repeat(&r, atol(words[2]))) return 1;
     return rtdb_close(&r.db) == RTDB_OK ? 0 : 1;

@@ -1,4 +1,4 @@
-/* Drives the generated set of n transactions as the program core_bench does, by the same calls, and prints the same line: so the
+/* Drives the generated set of n transactions as core_tests does, by the same calls, and prints the same line: so the
  * instructions of the two, and the entries a second, compare what the calls by a handle cost beside those of the board.
  *
  *   drive N JOBS PLANS     N is 1 to 64; JOBS of each transaction, N times JOBS is at most 65,536; PLANS is ahead, where all
@@ -53,7 +53,8 @@ static rtdb_status opened(struct plant *p, size_t room) {
         if (odd) numbers[used++] = n;
     }
     items[n] = (rtdb_item){RTDB_STATE, 0, 0};
-    return rtdb_open(&p->db, items, n + 1, transactions, n, no_sets, 0, numbers, used, room, &refusal);
+    rtdb_tables tables = {items, n + 1, transactions, n, no_sets, 0, numbers, used};
+    return rtdb_open(&p->db, &tables, room, &refusal);
 }
 
 static int plan_next(struct plant *p, uint32_t tx) {
@@ -69,7 +70,7 @@ static void plan_first(struct plant *p, uint32_t tx, uint32_t count) {
 
 /* The job asks for an operation. */
 static rtdb_status asked(struct plant *p, uint32_t operation, uint32_t item, int64_t value) {
-    return rtdb_step(&p->db, p->job, operation, item, value, &p->answer);
+    return rtdb_step(&p->db, p->job, (rtdb_operation){operation, item, value}, &p->answer);
 }
 
 /* The running job asks for the operation at its place. */

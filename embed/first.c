@@ -14,13 +14,14 @@ static const rtdb_transaction transactions[] = {
 /* What the sampler writes, what the controller reads, what it writes. */
 static const uint32_t numbers[] = {LEVEL, LEVEL, VALVE};
 static const rtdb_together no_sets[1] = {{0, 0, 0}};
+static const rtdb_tables tables = {items, 2, transactions, 2, no_sets, 0, numbers, 3};
 /* What a job of each asks for, in order. */
 static const uint32_t bodies[2][3] = {{RTDB_WRITE, RTDB_COMMIT}, {RTDB_READ, RTDB_WRITE, RTDB_COMMIT}};
 
 int main(void) {
     rtdb db = RTDB_INIT;
     rtdb_refusal why = {0};
-    rtdb_status status = rtdb_open(&db, items, 2, transactions, 2, no_sets, 0, numbers, 3, 64, &why);
+    rtdb_status status = rtdb_open(&db, &tables, 64, &why);
     if (status != RTDB_OK) return (int)status;
 
     rtdb_time time = {0};
@@ -33,10 +34,10 @@ int main(void) {
     for (unsigned k = 0; k < 2; k++) rtdb_plan(&db, CONTROLLER, 8 + 20 * k, &time);
     do {
         while (rtdb_running(&db, &job) == RTDB_OK) {
-            uint32_t t = job.transaction, operation = bodies[t][granted[t]];
-            uint32_t item = t == CONTROLLER && operation == RTDB_WRITE ? VALVE : LEVEL;
-            int64_t value = t == SAMPLER ? 52 + 4 * (int64_t)job.serial : got - 50;
-            if (rtdb_step(&db, job, operation, item, value, &answer) != RTDB_OK) return 1;
+            uint32_t t = job.transaction;
+            rtdb_operation next = {bodies[t][granted[t]], LEVEL, t == SAMPLER ? 52 + 4 * (int64_t)job.serial : got - 50};
+            if (t == CONTROLLER && next.operation == RTDB_WRITE) next.item = VALVE;
+            if (rtdb_step(&db, job, next, &answer) != RTDB_OK) return 1;
             if (answer.reply == RTDB_BLOCKED) continue;
             if (answer.reply != RTDB_DONE) return 1;
             if (answer.outcome == RTDB_GOT) got = answer.value;

@@ -25,8 +25,7 @@ static const rtdb_transaction alike[] = {
 };
 static const rtdb_together sets[] = {{4, 2, 60}};
 
-typedef rtdb_status (*opening)(rtdb *, const rtdb_item *, size_t, const rtdb_transaction *, size_t, const rtdb_together *, size_t,
-                               const uint32_t *, size_t, size_t, rtdb_refusal *);
+typedef rtdb_status (*opening)(rtdb *, const rtdb_tables *, size_t, rtdb_refusal *);
 
 static const struct {
     const char *name;
@@ -52,7 +51,7 @@ static int use(rtdb *db) {
         rtdb_job job = {0, 0};
         bad += rtdb_plan_next(db, k % 2, &time) != RTDB_OK;
         while (rtdb_running(db, &job) == RTDB_OK) {
-            bad += rtdb_step(db, job, RTDB_QUIT, 0, 0, &answer) != RTDB_OK;
+            bad += rtdb_step(db, job, (rtdb_operation){RTDB_QUIT, 0, 0}, &answer) != RTDB_OK;
         }
         bad += rtdb_idle(db, &time) != RTDB_OK;
         bad += rtdb_drain(db, entries, 64, &moved) != RTDB_OK;
@@ -77,12 +76,13 @@ static int margins(rtdb *db) {
 /* Refuses the growths 0, 1 and so on, until an opening comes to its answer without the one that is refused. That answer has to be
  * the wanted one, and to have come after just as many growths, so each was refused once. */
 static int try_each(size_t which) {
+    rtdb_tables tables = {items, 3, tries[which].transactions, 2, sets, 1, numbers, 6};
     int bad = 0;
     for (refused = 0;; refused++) {
         rtdb db = RTDB_INIT;
         rtdb_refusal refusal = {9, 9, 9, 9, 9};
         growths = 0;
-        rtdb_status status = tries[which].open(&db, items, 3, tries[which].transactions, 2, sets, 1, numbers, 6, 256, &refusal);
+        rtdb_status status = tries[which].open(&db, &tables, 256, &refusal);
         long taken = growths;
         int is_last = taken <= refused;
         int good = is_last ? status == tries[which].status && refusal.rule == tries[which].rule && taken == refused

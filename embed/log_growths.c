@@ -34,7 +34,7 @@ static int run_tank(void) {
     rtdb db = RTDB_INIT;
     rtdb_refusal refusal = {0, 0, 0, 0, 0};
     struct counts counts = {0, 0, 0, 0, 0};
-    if (rtdb_open(&db, items, 2, transactions, 2, no_sets, 0, numbers, 3, ROOM, &refusal) != RTDB_OK) return 0;
+    if (rtdb_open(&db, &tables, ROOM, &refusal) != RTDB_OK) return 0;
     if (!plan(&db, SAMPLER, 4, &counts) || !plan(&db, CONTROLLER, 2, &counts) || !run(&db, &counts)) return 0;
     return rtdb_drain(&db, entries, ROOM, &entry_count) == RTDB_OK && rtdb_close(&db) == RTDB_OK;
 }

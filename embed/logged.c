@@ -54,7 +54,7 @@ static int run_tank(void) {
     rtdb db = RTDB_INIT;
     rtdb_refusal refusal = {0, 0, 0, 0, 0};
     struct counts counts = {0, 0, 0, 0, 0};
-    if (rtdb_open(&db, items, 2, transactions, 2, no_sets, 0, numbers, 3, MOST, &refusal) != RTDB_OK) return 0;
+    if (rtdb_open(&db, &tables, MOST, &refusal) != RTDB_OK) return 0;
     if (!plan(&db, SAMPLER, 4, &counts) || !plan(&db, CONTROLLER, 2, &counts) || !run(&db, &counts)) return 0;
     if (rtdb_drain(&db, entries, MOST, &entry_count) != RTDB_OK) return 0;
     return rtdb_close(&db) == RTDB_OK;

@@ -23,6 +23,8 @@ static const rtdb_transaction transactions[] = {
 
 static const rtdb_together no_sets[1] = {{0, 0, 0}};
 
+static const rtdb_tables tables = {items, 2, transactions, 2, no_sets, 0, numbers, 3};
+
 /* A thread: its seat, and how many jobs it is to run to their ends. */
 struct worker {
     rtdb_seat seat;
@@ -32,20 +34,20 @@ struct worker {
 };
 
 /* The operation that a job asks for after so many that were granted. */
-static rtdb_status ask(struct worker *w, uint32_t serial, unsigned granted, int64_t level, rtdb_step_answer *answer) {
+static rtdb_operation next(const struct worker *w, uint32_t serial, unsigned granted, int64_t level) {
     if (w->transaction == SAMPLER) {
-        if (granted == 0) return rtdb_seat_step(&w->seat, serial, RTDB_WRITE, LEVEL, (int64_t)serial * 4 + 52, answer);
-        return rtdb_seat_step(&w->seat, serial, RTDB_COMMIT, 0, 0, answer);
+        if (granted == 0) return (rtdb_operation){RTDB_WRITE, LEVEL, (int64_t)serial * 4 + 52};
+        return (rtdb_operation){RTDB_COMMIT, 0, 0};
     }
     switch (granted) {
     case 0:
-        return rtdb_seat_step(&w->seat, serial, RTDB_READ, LEVEL, 0, answer);
+        return (rtdb_operation){RTDB_READ, LEVEL, 0};
     case 1:
-        return rtdb_seat_step(&w->seat, serial, RTDB_COMPUTE, 0, 0, answer);
+        return (rtdb_operation){RTDB_COMPUTE, 0, 0};
     case 2:
-        return rtdb_seat_step(&w->seat, serial, RTDB_WRITE, VALVE, level > 50 ? level - 50 : 0, answer);
+        return (rtdb_operation){RTDB_WRITE, VALVE, level > 50 ? level - 50 : 0};
     default:
-        return rtdb_seat_step(&w->seat, serial, RTDB_COMMIT, 0, 0, answer);
+        return (rtdb_operation){RTDB_COMMIT, 0, 0};
     }
 }
 
@@ -55,7 +57,7 @@ static int run_job(struct worker *w, uint32_t serial) {
     int64_t level = 0;
     for (;;) {
         rtdb_step_answer answer = {0, 0, {0, 0}, 0, 0, 0, 0, 0, 0, {0, 0, 0, 0}};
-        rtdb_status status = ask(w, serial, granted, level, &answer);
+        rtdb_status status = rtdb_seat_step(&w->seat, serial, next(w, serial, granted, level), &answer);
         if (status == RTDB_BUSY) {
             sched_yield();
             continue;
@@ -132,6 +134,7 @@ static int count(rtdb_seat *operator_seat, struct counts *counts) {
 /* What each seat may not call, and what a closed handle answers. */
 static int try_refusals(rtdb_seat *operator_seat, struct worker *w) {
     rtdb_seat closed = RTDB_SEAT_INIT;
+    rtdb_operation commit = {RTDB_COMMIT, 0, 0}, none = {9, 0, 0};
     rtdb_step_answer answer = {0, 0, {0, 0}, 0, 0, 0, 0, 0, 0, {0, 0, 0, 0}};
     rtdb_time time = {0, {0, 0}, 0, 0};
     rtdb_stored stored = {0, 0};
@@ -139,7 +142,7 @@ static int try_refusals(rtdb_seat *operator_seat, struct worker *w) {
     size_t moved = 7;
     uint32_t transaction = 7;
     uint64_t front = 7;
-    return rtdb_seat_step(&closed, 0, RTDB_COMMIT, 0, 0, &answer) == RTDB_CLOSED
+    return rtdb_seat_step(&closed, 0, commit, &answer) == RTDB_CLOSED
            && rtdb_seat_plan(&closed, 0, 0, &time) == RTDB_CLOSED
            && rtdb_seat_plan_next(&closed, 0, &time) == RTDB_CLOSED
            && rtdb_seat_idle(&closed, &time) == RTDB_CLOSED
@@ -151,9 +154,9 @@ static int try_refusals(rtdb_seat *operator_seat, struct worker *w) {
            && rtdb_seat_open(operator_seat, &w->seat, &transaction) == RTDB_OPEN
            && rtdb_seat_open(operator_seat, &closed, &transaction) == RTDB_NOTHING
            && rtdb_seat_open(&w->seat, &closed, &transaction) == RTDB_NOTHING
-           && rtdb_seat_step(operator_seat, 0, RTDB_COMMIT, 0, 0, &answer) == RTDB_WRONG_SEAT
+           && rtdb_seat_step(operator_seat, 0, commit, &answer) == RTDB_WRONG_SEAT
            && rtdb_seat_drain(&w->seat, &entry, 1, &moved) == RTDB_WRONG_SEAT
-           && rtdb_seat_step(&w->seat, 0, 9, 0, 0, &answer) == RTDB_NO_OPERATION
+           && rtdb_seat_step(&w->seat, 0, none, &answer) == RTDB_NO_OPERATION
            && rtdb_seat_plan(&w->seat, 2, 0, &time) == RTDB_NO_TRANSACTION
            && rtdb_seat_plan_next(&w->seat, 2, &time) == RTDB_NO_TRANSACTION
            && rtdb_seat_peek(&w->seat, 2, &stored) == RTDB_NO_ITEM
@@ -167,7 +170,7 @@ int main(void) {
     struct counts counts = {0, 0, 0, 0, 0, 0, 0};
     rtdb_stored valve = {0, 0};
     pthread_t threads[2];
-    if (rtdb_plant_open(&operator_seat, items, 2, transactions, 2, no_sets, 0, numbers, 3, 64, &refusal) != RTDB_OK) return 1;
+    if (rtdb_plant_open(&operator_seat, &tables, 64, &refusal) != RTDB_OK) return 1;
     for (uint32_t t = 2; t-- > 0;) { /* the last transaction's seat comes first */
         uint32_t which = 0;
         if (rtdb_seat_open(&operator_seat, &workers[t].seat, &which) != RTDB_OK || which != t) return 2;

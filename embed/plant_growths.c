@@ -12,11 +12,12 @@ static const rtdb_transaction transactions[] = {
     {1, 1, 1, 2, 2, 20, 0, 20, 4, 0},
 };
 static const rtdb_together sets[] = {{4, 2, 60}};
+static const rtdb_tables tables = {items, 3, transactions, 2, sets, 1, numbers, 6};
 
 /* Opens the plant with all its seats, and answers whether it could; a seat is tried again, with memory. */
 static int open_all(rtdb_seat *operator_seat, rtdb_seat seats[2], int *bad) {
     rtdb_refusal refusal = {9, 9, 9, 9, 9};
-    rtdb_status status = rtdb_plant_open(operator_seat, items, 3, transactions, 2, sets, 1, numbers, 6, 256, &refusal);
+    rtdb_status status = rtdb_plant_open(operator_seat, &tables, 256, &refusal);
     if (status != RTDB_OK) {
         *bad += status != RTDB_NO_MEMORY || operator_seat->at != NULL || held != 0;
         return 0;
@@ -44,7 +45,7 @@ static int use(rtdb_seat *operator_seat, rtdb_seat seats[2]) {
     for (uint32_t k = 0; k < 200; k++) {
         bad += rtdb_seat_plan_next(&seats[k % 2], k % 2, &time) != RTDB_OK;
         bad += rtdb_seat_idle(operator_seat, &time) != RTDB_OK;
-        bad += rtdb_seat_step(&seats[k % 2], k / 2, RTDB_QUIT, 0, 0, &answer) != RTDB_OK || answer.reply != RTDB_DONE;
+        bad += rtdb_seat_step(&seats[k % 2], k / 2, (rtdb_operation){RTDB_QUIT, 0, 0}, &answer) != RTDB_OK || answer.reply != RTDB_DONE;
         bad += rtdb_seat_peek(&seats[k % 2], 2, &stored) != RTDB_OK;
         bad += rtdb_seat_drain(operator_seat, entries, 64, &moved) != RTDB_OK;
     }

@@ -39,6 +39,8 @@ static const rtdb_transaction transactions[] = {
 
 static const rtdb_together no_sets[1] = {{0, 0, 0}};
 
+static const rtdb_tables tables = {items, ITEMS, transactions, TRANSACTIONS, no_sets, 0, numbers, sizeof numbers / sizeof numbers[0]};
+
 /* The same set with its names, as the journal's log wants it. */
 static const char text[] =
     "rtdb report 1\n"
@@ -228,17 +230,6 @@ static int read_setpoint(struct plant *p) {
 
 /* ---- the bodies ---- */
 
-struct request {
-    uint32_t operation;
-    uint32_t item;
-    int64_t value;
-};
-
-static struct request request_of(uint32_t operation, uint32_t item, int64_t value) {
-    struct request r = {operation, item, value};
-    return r;
-}
-
 /* The valve is open by half, and by more or less where the level lies above or below the setpoint. */
 static int64_t opening(int64_t level, int64_t setpoint) {
     int64_t percent = 50 + (level - setpoint) / 2;
@@ -246,21 +237,21 @@ static int64_t opening(int64_t level, int64_t setpoint) {
 }
 
 /* The next operation of a transaction's body. */
-static struct request next(const struct plant *p, uint32_t transaction) {
+static rtdb_operation next(const struct plant *p, uint32_t transaction) {
     const struct progress *at = &p->at[transaction];
     uint32_t last = (uint32_t)transactions[transaction].steps - 1;
-    if (at->granted == last) return request_of(RTDB_COMMIT, 0, 0);
+    if (at->granted == last) return (rtdb_operation){RTDB_COMMIT, 0, 0};
     switch (transaction) {
     case SAMPLER:
-        return request_of(RTDB_WRITE, LEVEL, p->water);
+        return (rtdb_operation){RTDB_WRITE, LEVEL, p->water};
     case CONTROLLER:
-        if (at->granted < 2) return request_of(RTDB_READ, at->granted == 0 ? LEVEL : SETPOINT, 0);
-        if (at->granted == 2) return request_of(RTDB_COMPUTE, 0, 0);
-        return request_of(RTDB_WRITE, VALVE, opening(at->read[0], at->read[1]));
+        if (at->granted < 2) return (rtdb_operation){RTDB_READ, at->granted == 0 ? LEVEL : SETPOINT, 0};
+        if (at->granted == 2) return (rtdb_operation){RTDB_COMPUTE, 0, 0};
+        return (rtdb_operation){RTDB_WRITE, VALVE, opening(at->read[0], at->read[1])};
     case OPERATOR:
-        return request_of(RTDB_WRITE, SETPOINT, p->setpoint);
+        return (rtdb_operation){RTDB_WRITE, SETPOINT, p->setpoint};
     default:
-        return request_of(RTDB_READ, at->granted == 0 ? LEVEL : at->granted == 1 ? VALVE : SETPOINT, 0);
+        return (rtdb_operation){RTDB_READ, at->granted == 0 ? LEVEL : at->granted == 1 ? VALVE : SETPOINT, 0};
     }
 }
 
@@ -306,9 +297,9 @@ static int step(struct plant *p, struct reality *r) {
     memset(&answer, 0, sizeof answer);
     do {
         if (rtdb_running(&p->db, &job) != RTDB_OK) return fail("no job runs");
-        struct request q = next(p, job.transaction);
+        rtdb_operation asked = next(p, job.transaction);
         struct timespec before = now();
-        if (rtdb_step(&p->db, job, q.operation, q.item, q.value, &answer) != RTDB_OK) return fail("no such step");
+        if (rtdb_step(&p->db, job, asked, &answer) != RTDB_OK) return fail("no such step");
         int64_t took = between(before, now());
         if (took > r->longest) r->longest = took;
     } while (answer.reply == RTDB_BLOCKED);
@@ -357,7 +348,7 @@ static int run(struct plant *p, struct reality *r, uint64_t ticks) {
 
 static int open_plant(struct plant *p) {
     rtdb_refusal refusal = {0, 0, 0, 0, 0};
-    rtdb_status status = rtdb_open(&p->db, items, ITEMS, transactions, TRANSACTIONS, no_sets, 0, numbers, sizeof numbers / sizeof numbers[0], ROOM, &refusal);
+    rtdb_status status = rtdb_open(&p->db, &tables, ROOM, &refusal);
     if (status != RTDB_OK) {
         fprintf(stderr, "refused: status %u, rule %u\n", (unsigned)status, (unsigned)refusal.rule);
         return 0;

@@ -113,13 +113,14 @@ static void open_set(const char *wanted) {
     static char told[MOST_TEXT];
     rtdb db = RTDB_INIT;
     rtdb_refusal refusal = {77, 77, 77, 77, 77};
-    rtdb_status status = rtdb_open(&db, items, item_count, transactions, transaction_count, sets, set_count, numbers, number_count, room, &refusal);
+    rtdb_tables tables = {items, item_count, transactions, transaction_count, sets, set_count, numbers, number_count};
+    rtdb_status status = rtdb_open(&db, &tables, room, &refusal);
     if (status == RTDB_OK) check(refusal.rule == 77 && refusal.c == 77, "a refusal is written", "left as it was");
     put_answer(told, status, refusal);
     check(strcmp(told, wanted) == 0, told, wanted);
     check((status == RTDB_OK) == (db.at != NULL), "the handle is open", "closed");
     if (status == RTDB_OK) check(rtdb_close(&db) == RTDB_OK, "it does not close", "OK");
-    rtdb_status tried = rtdb_open_trial(&db, items, item_count, transactions, transaction_count, sets, set_count, numbers, number_count, room, &refusal);
+    rtdb_status tried = rtdb_open_trial(&db, &tables, room, &refusal);
     check(tried == (status == RTDB_NOT_ADMITTED ? RTDB_OK : status), "a trial has another status", wanted);
     check((tried == RTDB_OK) == (rtdb_close(&db) == RTDB_OK) && db.at == NULL, "a trial does not close", wanted);
     item_count = transaction_count = set_count = number_count = 0;

@@ -120,8 +120,8 @@ static void open_set(const char *mode) {
     rtdb_refusal refusal = {0, 0, 0, 0, 0};
     char told[MOST_TEXT];
     int is_trial = strcmp(mode, "trial") == 0;
-    rtdb_status status = (is_trial ? rtdb_open_trial : rtdb_open)(
-        &db, items, item_names.count, transactions, transaction_names.count, sets, set_count, numbers, number_count, ROOM, &refusal);
+    rtdb_tables tables = {items, item_names.count, transactions, transaction_names.count, sets, set_count, numbers, number_count};
+    rtdb_status status = (is_trial ? rtdb_open_trial : rtdb_open)(&db, &tables, ROOM, &refusal);
     if (status == RTDB_OK) return;
     snprintf(told, sizeof told, "status %u, rule %u", (unsigned)status, (unsigned)refusal.rule);
     stop("the set is refused", told);
@@ -244,13 +244,13 @@ static int ask(char **f) {
     rtdb_job job = job_of(f[1]), running = {0, 0};
     rtdb_step_answer answer;
     uint64_t now = 0;
-    uint32_t operation = operation_of(f[3]);
-    uint32_t item = operation <= RTDB_WRITE ? place_of(&item_names, f[4]) : 0;
-    int64_t value = operation == RTDB_WRITE ? value_of(f[5]) : 0;
+    rtdb_operation asked = {operation_of(f[3]), 0, 0};
+    if (asked.operation <= RTDB_WRITE) asked.item = place_of(&item_names, f[4]);
+    if (asked.operation == RTDB_WRITE) asked.value = value_of(f[5]);
     memset(&answer, 0, sizeof answer);
     if (rtdb_running(&db, &running) != RTDB_OK || running.transaction != job.transaction || running.serial != job.serial) stop("another job runs", f[1]);
     if (rtdb_now(&db, &now) != RTDB_OK || now != number_of(f[2])) stop("another time", f[2]);
-    if (rtdb_step(&db, job, operation, item, value, &answer) != RTDB_OK) stop("no such step", f[0]);
+    if (rtdb_step(&db, job, asked, &answer) != RTDB_OK) stop("no such step", f[0]);
     if (answer.reply == RTDB_STEP_FULL) return 1;
     if (answer.reply != (strcmp(f[0], "step") == 0 ? RTDB_DONE : RTDB_BLOCKED)) stop("another reply", f[0]);
     return 0;

@@ -7,8 +7,8 @@
  * so are the rules of the protocol (docs/PROVED.md).
  *
  * What a caller owes; nothing checks it:
- *   1. A pointer parameter is not null, also where its count is 0, and points to memory that may be read, and written
- *      where it is not const, until the call returns. No two parameters of a call overlap.
+ *   1. A pointer that a call is given, as a parameter or in an rtdb_tables, is not null, also where its count is 0, and
+ *      points to memory that may be read, and written where it is not const, until the call returns. No two of them overlap.
  *   2. What is written to has a value before: begin each record as {0}.
  *   3. A handle begins as RTDB_INIT, that of a seat as RTDB_SEAT_INIT. It is changed by these functions alone, and is not
  *      copied while it is open.
@@ -103,6 +103,18 @@ typedef struct rtdb_together {
     uint64_t within;
 } rtdb_together;
 
+/* The tables of a set. `ids` is the table of numbers, in which the lists of all rows stand. A call that is given them keeps none. */
+typedef struct rtdb_tables {
+    const rtdb_item *items;
+    size_t item_count;
+    const rtdb_transaction *transactions;
+    size_t transaction_count;
+    const rtdb_together *together;
+    size_t together_count;
+    const uint32_t *ids;
+    size_t id_count;
+} rtdb_tables;
+
 /* Why no database is opened: the first rule that is broken, and the first place that breaks it. */
 typedef struct rtdb_refusal {
     uint32_t rule;  /* RTDB_BAD_KIND and the others; 0 where the status alone says it */
@@ -142,15 +154,11 @@ enum {
  * RTDB_NOT_COMPILED, RTDB_NOT_ADMITTED, in this order, with the first cause in `refusal`; RTDB_NO_MEMORY may come in place of
  * each. After each but RTDB_OK the handle is as it was.
  * Takes all memory that the database needs. Costs the analysis of the set. */
-rtdb_status rtdb_open(rtdb *db, const rtdb_item *items, size_t item_count, const rtdb_transaction *transactions,
-                      size_t transaction_count, const rtdb_together *together, size_t together_count,
-                      const uint32_t *numbers, size_t number_count, size_t room, rtdb_refusal *refusal);
+rtdb_status rtdb_open(rtdb *db, const rtdb_tables *tables, size_t room, rtdb_refusal *refusal);
 
 /* The same of a set that is not to be admitted: RTDB_NOT_ADMITTED does not come, jobs may be late, what they read may be too
  * old, and there are no bounds. The rules of the protocol hold as ever. */
-rtdb_status rtdb_open_trial(rtdb *db, const rtdb_item *items, size_t item_count, const rtdb_transaction *transactions,
-                            size_t transaction_count, const rtdb_together *together, size_t together_count,
-                            const uint32_t *numbers, size_t number_count, size_t room, rtdb_refusal *refusal);
+rtdb_status rtdb_open_trial(rtdb *db, const rtdb_tables *tables, size_t room, rtdb_refusal *refusal);
 
 /* Gives the memory back and closes the handle. Answers RTDB_OK or RTDB_CLOSED. */
 rtdb_status rtdb_close(rtdb *db);
@@ -244,6 +252,13 @@ enum {
     RTDB_QUIT = 4
 };
 
+/* What a job asks for. A read and a write take the item, a write the value; else they say nothing. */
+typedef struct rtdb_operation {
+    uint32_t operation; /* RTDB_READ and the others */
+    uint32_t item;
+    int64_t value;
+} rtdb_operation;
+
 /* How a job ended. Only a committed job's writes are installed. A field that the kind does not name is 0. */
 typedef struct rtdb_end {
     uint32_t kind;
@@ -294,12 +309,11 @@ enum {
     RTDB_CLOSED_JOB = 3 /* of a commit and of a quit */
 };
 
-/* A job asks for an operation. A read and a write take the item, a write the value; else they say nothing.
+/* A job asks for an operation.
  * RTDB_DONE appends an entry, takes a tick, and releases what is planned for the next one; RTDB_BLOCKED appends an entry, and
  * comes to a job at most once, and only while it holds no lock. Each other reply leaves all as it was.
  * Costs a bounded number of look-ups; a step that ends a job those for each of its locks. */
-rtdb_status rtdb_step(rtdb *db, rtdb_job job, uint32_t operation, uint32_t item, int64_t value,
-                      rtdb_step_answer *answer);
+rtdb_status rtdb_step(rtdb *db, rtdb_job job, rtdb_operation operation, rtdb_step_answer *answer);
 
 /* These three read a table. RTDB_CLOSED, RTDB_NO_TRANSACTION and RTDB_NOTHING leave what they would write as it was. */
 
@@ -369,10 +383,7 @@ typedef struct rtdb_seat {
 /* Opens a plant over the set of the tables, as `rtdb_open` does: the handle is that of the operator's seat, which has the seats
  * of all transactions. Answers as `rtdb_open`, and leaves the handle as it was where that does.
  * Takes all memory that the plant needs, but that of further seats. */
-rtdb_status rtdb_plant_open(rtdb_seat *operator_seat, const rtdb_item *items, size_t item_count,
-                            const rtdb_transaction *transactions, size_t transaction_count,
-                            const rtdb_together *together, size_t together_count, const uint32_t *numbers,
-                            size_t number_count, size_t room, rtdb_refusal *refusal);
+rtdb_status rtdb_plant_open(rtdb_seat *operator_seat, const rtdb_tables *tables, size_t room, rtdb_refusal *refusal);
 
 /* Opens the seat of the last transaction whose seat was not opened: `transaction` says which. So the seats come in the order of
  * falling numbers, each once. Answers RTDB_CLOSED by a closed handle of the operator, RTDB_OPEN where `seat` is open,
@@ -386,8 +397,7 @@ rtdb_status rtdb_seat_close(rtdb_seat *seat);
 
 /* A job of the seat's transaction asks for an operation, as of `rtdb_step`. RTDB_WRONG_SEAT by the operator's seat,
  * RTDB_NO_OPERATION. Where another job runs (RTDB_NOT_YET), or a job that blocks it (RTDB_BLOCKED), ask again later. */
-rtdb_status rtdb_seat_step(rtdb_seat *seat, uint32_t serial, uint32_t operation, uint32_t item, int64_t value,
-                           rtdb_step_answer *answer);
+rtdb_status rtdb_seat_step(rtdb_seat *seat, uint32_t serial, rtdb_operation operation, rtdb_step_answer *answer);
 
 /* As `rtdb_plan`, `rtdb_plan_next` and `rtdb_idle`, by any seat and for any transaction. RTDB_NO_TRANSACTION of the first two. */
 rtdb_status rtdb_seat_plan(rtdb_seat *seat, uint32_t transaction, uint64_t tick, rtdb_time *answer);

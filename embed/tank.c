@@ -24,6 +24,8 @@ static const rtdb_transaction transactions[] = {
 /* There is no relative set, but the pointer is not null. */
 static const rtdb_together no_sets[1] = {{0, 0, 0}};
 
+static const rtdb_tables tables = {items, 2, transactions, 2, no_sets, 0, numbers, 3};
+
 /* How far the job of a transaction is. */
 struct progress {
     uint32_t serial;
@@ -35,35 +37,26 @@ struct counts {
     unsigned plans, steps, refusals, idles, committed;
 };
 
-struct request {
-    uint32_t operation;
-    uint32_t item;
-    int64_t value;
-};
-
-static struct request request_of(uint32_t operation, uint32_t item, int64_t value) {
-    struct request r;
-    r.operation = operation;
-    r.item = item;
-    r.value = value;
-    return r;
+static rtdb_operation operation_of(uint32_t operation, uint32_t item, int64_t value) {
+    rtdb_operation asked = {operation, item, value};
+    return asked;
 }
 
 /* The next operation of the body. */
-static struct request next(const struct progress *at, uint32_t transaction) {
+static rtdb_operation next(const struct progress *at, uint32_t transaction) {
     if (transaction == SAMPLER) {
         int64_t level = (int64_t)at->serial * 4 + 52;
-        return at->granted == 0 ? request_of(RTDB_WRITE, LEVEL, level) : request_of(RTDB_COMMIT, 0, 0);
+        return at->granted == 0 ? operation_of(RTDB_WRITE, LEVEL, level) : operation_of(RTDB_COMMIT, 0, 0);
     }
     switch (at->granted) {
     case 0:
-        return request_of(RTDB_READ, LEVEL, 0);
+        return operation_of(RTDB_READ, LEVEL, 0);
     case 1:
-        return request_of(RTDB_COMPUTE, 0, 0);
+        return operation_of(RTDB_COMPUTE, 0, 0);
     case 2:
-        return request_of(RTDB_WRITE, VALVE, at->level > 50 ? at->level - 50 : 0);
+        return operation_of(RTDB_WRITE, VALVE, at->level > 50 ? at->level - 50 : 0);
     default:
-        return request_of(RTDB_COMMIT, 0, 0);
+        return operation_of(RTDB_COMMIT, 0, 0);
     }
 }
 
@@ -86,8 +79,7 @@ static int ask(rtdb *db, rtdb_job job, struct progress *at, struct counts *count
         at->serial = job.serial;
         at->granted = 0;
     }
-    struct request r = next(at, job.transaction);
-    if (rtdb_step(db, job, r.operation, r.item, r.value, &answer) != RTDB_OK) return 0;
+    if (rtdb_step(db, job, next(at, job.transaction), &answer) != RTDB_OK) return 0;
     switch (answer.reply) {
     case RTDB_DONE:
         counts->steps++;
@@ -124,7 +116,7 @@ int main(void) {
     rtdb db = RTDB_INIT;
     rtdb_refusal refusal = {0, 0, 0, 0, 0};
     struct counts counts = {0, 0, 0, 0, 0};
-    rtdb_status status = rtdb_open(&db, items, 2, transactions, 2, no_sets, 0, numbers, 3, 64, &refusal);
+    rtdb_status status = rtdb_open(&db, &tables, 64, &refusal);
     if (status != RTDB_OK) {
         printf("refused: status %u, rule %u: %llu %llu %llu\n", (unsigned)status, (unsigned)refusal.rule,
                (unsigned long long)refusal.a, (unsigned long long)refusal.b, (unsigned long long)refusal.c);

@@ -5,7 +5,7 @@ use crate::errors::{
 };
 use crate::ffi;
 use crate::replies::{
-    entry_of, idle_of, job_of, numbers_of, planned_of, reply_of, Entry, IdleReply, Op, StepReply,
+    entry_of, idle_of, job_of, operation_of, planned_of, reply_of, Entry, IdleReply, Op, StepReply,
 };
 
 // A drain hands over no more entries at once.
@@ -116,12 +116,11 @@ impl Database {
     ///
     /// The job is of no transaction of the set.
     pub fn step(&mut self, job: JobId, op: Op) -> Result<StepReply, NotOfTheSet> {
-        let (operation, item, value) = numbers_of(op);
         let job = ffi::Job {
             transaction: job.tx.0,
             serial: job.serial,
         };
-        let answer = self.handle.step(job, operation, item, value);
+        let answer = self.handle.step(job, operation_of(op));
         answer.map(reply_of).map_err(not_of_the_set)
     }
 

@@ -134,7 +134,7 @@ impl Declarations {
             items: &self.items,
             transactions: &self.transactions,
             together: &self.together,
-            numbers: &self.numbers,
+            ids: &self.numbers,
         }
     }
 }

@@ -43,6 +43,19 @@ pub(crate) struct Together {
     pub(crate) within: u64,
 }
 
+// The tables of a set as C has them, each a pointer and a count.
+#[repr(C)]
+struct RawTables {
+    items: *const Item,
+    item_count: usize,
+    transactions: *const Transaction,
+    transaction_count: usize,
+    together: *const Together,
+    together_count: usize,
+    ids: *const u32,
+    id_count: usize,
+}
+
 #[repr(C)]
 #[derive(Clone, Copy, Default)]
 pub(crate) struct Refusal {
@@ -67,6 +80,14 @@ pub(crate) struct Time {
     pub(crate) job: Job,
     pub(crate) tick: u64,
     pub(crate) count: u64,
+}
+
+#[repr(C)]
+#[derive(Clone, Copy)]
+pub(crate) struct Operation {
+    pub(crate) operation: u32,
+    pub(crate) item: u32,
+    pub(crate) value: i64,
 }
 
 #[repr(C)]
@@ -122,29 +143,11 @@ pub(crate) struct Margin {
 }
 
 extern "C" {
-    fn rtdb_open(
-        db: *mut Raw,
-        items: *const Item,
-        item_count: usize,
-        transactions: *const Transaction,
-        transaction_count: usize,
-        together: *const Together,
-        together_count: usize,
-        numbers: *const u32,
-        number_count: usize,
-        room: usize,
-        refusal: *mut Refusal,
-    ) -> u32;
+    fn rtdb_open(db: *mut Raw, tables: *const RawTables, room: usize, refusal: *mut Refusal)
+        -> u32;
     fn rtdb_open_trial(
         db: *mut Raw,
-        items: *const Item,
-        item_count: usize,
-        transactions: *const Transaction,
-        transaction_count: usize,
-        together: *const Together,
-        together_count: usize,
-        numbers: *const u32,
-        number_count: usize,
+        tables: *const RawTables,
         room: usize,
         refusal: *mut Refusal,
     ) -> u32;
@@ -161,14 +164,7 @@ extern "C" {
     fn rtdb_drain(db: *mut Raw, into: *mut Entry, places: usize, moved: *mut usize) -> u32;
     fn rtdb_kept(db: *mut Raw, kept: *mut usize, drained: *mut u64) -> u32;
     fn rtdb_idle(db: *mut Raw, answer: *mut Time) -> u32;
-    fn rtdb_step(
-        db: *mut Raw,
-        job: Job,
-        operation: u32,
-        item: u32,
-        value: i64,
-        answer: *mut StepAnswer,
-    ) -> u32;
+    fn rtdb_step(db: *mut Raw, job: Job, operation: Operation, answer: *mut StepAnswer) -> u32;
     fn rtdb_running(db: *mut Raw, job: *mut Job) -> u32;
     fn rtdb_peek(db: *mut Raw, item: u32, stored: *mut Stored) -> u32;
     fn rtdb_now(db: *mut Raw, tick: *mut u64) -> u32;
@@ -201,7 +197,23 @@ pub(crate) struct Tables<'a> {
     pub(crate) items: &'a [Item],
     pub(crate) transactions: &'a [Transaction],
     pub(crate) together: &'a [Together],
-    pub(crate) numbers: &'a [u32],
+    pub(crate) ids: &'a [u32],
+}
+
+impl Tables<'_> {
+    // It points to these tables.
+    fn raw(&self) -> RawTables {
+        RawTables {
+            items: self.items.as_ptr(),
+            item_count: self.items.len(),
+            transactions: self.transactions.as_ptr(),
+            transaction_count: self.transactions.len(),
+            together: self.together.as_ptr(),
+            together_count: self.together.len(),
+            ids: self.ids.as_ptr(),
+            id_count: self.ids.len(),
+        }
+    }
 }
 
 // In each call the handle is this one's own, no other call uses it, since it is not `Sync`, and each answer is a local that has
@@ -216,22 +228,8 @@ impl Handle {
         let mut raw = Raw { at: null_mut() };
         let mut refusal = Refusal::default();
         let open = if admitted { rtdb_open } else { rtdb_open_trial };
-        // SAFETY: each pointer and count is that of a slice, and the others are of locals.
-        let status = unsafe {
-            open(
-                &mut raw,
-                tables.items.as_ptr(),
-                tables.items.len(),
-                tables.transactions.as_ptr(),
-                tables.transactions.len(),
-                tables.together.as_ptr(),
-                tables.together.len(),
-                tables.numbers.as_ptr(),
-                tables.numbers.len(),
-                room,
-                &mut refusal,
-            )
-        };
+        // SAFETY: each pointer and count of the tables is that of a slice, and the others are of locals.
+        let status = unsafe { open(&mut raw, &tables.raw(), room, &mut refusal) };
         match status {
             0 => Ok(Handle(UnsafeCell::new(raw))),
             _ => Err((status, refusal)),
@@ -270,17 +268,11 @@ impl Handle {
         count
     }
 
-    pub(crate) fn step(
-        &mut self,
-        job: Job,
-        operation: u32,
-        item: u32,
-        value: i64,
-    ) -> Result<StepAnswer, u32> {
+    pub(crate) fn step(&mut self, job: Job, operation: Operation) -> Result<StepAnswer, u32> {
         let mut answer = StepAnswer::default();
         // SAFETY: as above.
         told(
-            unsafe { rtdb_step(self.0.get(), job, operation, item, value, &mut answer) },
+            unsafe { rtdb_step(self.0.get(), job, operation, &mut answer) },
             answer,
         )
     }

@@ -9,7 +9,7 @@ use std::path::Path;
 use crate::declarations::{JobId, TxId};
 use crate::errors::{open_error, OpenError};
 use crate::ffi;
-use crate::replies::{entry_of, End, Entry, Op, Outcome};
+use crate::replies::{entry_of, operation_of, End, Entry, Op, Outcome};
 
 // A piece has no more entries.
 const PIECE: usize = 64;
@@ -194,17 +194,11 @@ fn outcome_form(outcome: Outcome, over: Option<End>) -> ffi::StepAnswer {
 }
 
 fn with_op(op: Op, form: ffi::Entry) -> ffi::Entry {
-    let (operation, item, value) = match op {
-        Op::Read(item) => (0, item.0, 0),
-        Op::Write(item, value) => (1, item.0, value),
-        Op::Compute => (2, 0, 0),
-        Op::Commit => (3, 0, 0),
-        Op::Quit => (4, 0, 0),
-    };
+    let asked = operation_of(op);
     ffi::Entry {
-        operation,
-        item,
-        value,
+        operation: asked.operation,
+        item: asked.item,
+        value: asked.value,
         ..form
     }
 }

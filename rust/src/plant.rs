@@ -8,7 +8,7 @@ use crate::declarations::{Declarations, ItemId, JobId, TxId};
 use crate::errors::{open_error, NotOfTheSet, OpenError, PlanError};
 use crate::ffi;
 use crate::ffi::seats::SeatHandle;
-use crate::replies::{entry_of, idle_of, numbers_of, planned_of, reply_of};
+use crate::replies::{entry_of, idle_of, operation_of, planned_of, reply_of};
 use crate::replies::{Entry, IdleReply, Op, StepReply};
 
 // A drain hands over no more entries at once.
@@ -93,8 +93,7 @@ impl Seat {
     ///
     /// Another seat has the turn.
     pub fn step(&mut self, serial: u32, op: Op) -> Result<StepReply, Busy> {
-        let (operation, item, value) = numbers_of(op);
-        let answer = self.seat.step(serial, operation, item, value);
+        let answer = self.seat.step(serial, operation_of(op));
         answer.map(reply_of).map_err(|_| Busy)
     }
 }

@@ -17,14 +17,19 @@ pub enum Op {
     Quit,
 }
 
-// The number of an operation, its item and its value.
-pub(crate) fn numbers_of(op: Op) -> (u32, u32, i64) {
-    match op {
+// An operation as its number, its item and its value.
+pub(crate) fn operation_of(op: Op) -> ffi::Operation {
+    let (operation, item, value) = match op {
         Op::Read(item) => (0, item.0, 0),
         Op::Write(item, value) => (1, item.0, value),
         Op::Compute => (2, 0, 0),
         Op::Commit => (3, 0, 0),
         Op::Quit => (4, 0, 0),
+    };
+    ffi::Operation {
+        operation,
+        item,
+        value,
     }
 }
 

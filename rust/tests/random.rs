@@ -139,7 +139,7 @@ impl Run {
         let mut answer = generated::step();
         let status = self
             .handle
-            .step(raw::job_record(job), raw::code_of(op), &mut answer);
+            .step(raw::job_record(job), raw::operation_record(op), &mut answer);
         if !self.has_tx(job.tx.0) {
             assert_eq!((status, answer), (raw::NO_TRANSACTION, generated::step()));
             assert_eq!(self.database.step(job, op), Err(NotOfTheSet::Transaction));
@@ -164,11 +164,11 @@ impl Run {
     }
 
     // An operation whose number names none, which is told before the transaction is looked at.
-    fn no_operation(&mut self, job: JobId, code: u32) {
+    fn no_operation(&mut self, job: JobId, operation: u32) {
         let mut answer = generated::step();
         let status = self
             .handle
-            .step(raw::job_record(job), (code, 0, 0), &mut answer);
+            .step(raw::job_record(job), raw::numbered(operation), &mut answer);
         assert_eq!((status, answer), (raw::NO_OPERATION, generated::step()));
     }
 
@@ -329,7 +329,7 @@ impl Run {
             h.plan(0, 0, &mut time),
             h.plan_next(0, &mut time),
             h.idle(&mut time),
-            h.step(job, (9, 0, 0), &mut step),
+            h.step(job, raw::numbered(9), &mut step),
             h.running(&mut job),
             h.pending(0, &mut job),
             h.ended(0, &mut count),

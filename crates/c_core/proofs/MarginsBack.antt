@@ -1,6 +1,6 @@
 -- Each margin is read back.
 use Rattle.std.proofs.Common.{◌≡◌, ℕ, refl, ap}
-use Rattle.std.specs.Prelude.{Option, None, Some}
+use Rattle.std.specs.Prelude.{Option, Some}
 use Rattle.txn_compiler.specs.declared.error.Which.TheVariants as which
 use Rattle.txn_compiler.specs.declared.error.CompileError.TheVariants as rule
 use Rattle.set_admission.specs.declared.error.AdmitError.TheVariants as admission
@@ -11,26 +11,10 @@ use Rattle.c_core.specs.Margins.{form_of_margin}
 use Rattle.c_core.specs.MarginLaws.{barrier_of, MarginsComeBack}
 
 barrier_back : (percent : ℕ) (barrier : Option Barrier) → IsCause barrier → barrier_of (form_of_margin (record { percent = percent; barrier = barrier })) ≡ barrier
-barrier_back percent None cause = refl
-barrier_back percent (Some (Compile (rule.TooManyItems count))) cause = refl
-barrier_back percent (Some (Compile (rule.TooManyTxns count))) cause = refl
-barrier_back percent (Some (Compile (rule.SamePrio a b))) cause = refl
 barrier_back percent (Some (Compile (rule.BadTimes tx which.Prio))) cause = refl
-barrier_back percent (Some (Compile (rule.BadTimes tx which.Steps))) cause = refl
-barrier_back percent (Some (Compile (rule.BadTimes tx which.Period))) cause = refl
-barrier_back percent (Some (Compile (rule.BadTimes tx which.Deadline))) cause = refl
-barrier_back percent (Some (Compile (rule.BadTimes tx which.Offset))) cause = refl
-barrier_back percent (Some (Compile (rule.BadTimes tx which.Quiet))) cause = refl
-barrier_back percent (Some (Compile (rule.NoWriter item))) cause = refl
-barrier_back percent (Some (Compile (rule.TwoWriters item a b))) cause = refl
-barrier_back percent (Some (Compile (rule.CyclicDerivation item))) cause = refl
 barrier_back percent (Some (Compile rule.OutOfMemory)) cause = absurd (cause.0 refl)
-barrier_back percent (Some (Compile (rule.TooManySets count))) cause = refl
-barrier_back percent (Some (Compile (rule.BadTogether set))) cause = refl
-barrier_back percent (Some (Admit (admission.NotSchedulable tx demand))) cause = refl
-barrier_back percent (Some (Admit (admission.TooOld tx item age))) cause = refl
 barrier_back percent (Some (Admit admission.OutOfMemory)) cause = absurd (cause.1 refl)
-barrier_back percent (Some (Admit (admission.TooApart tx set age))) cause = refl
+barrier_back percent barrier cause = refl
 
 pub margins_back : MarginsComeBack
 margins_back margin cause = ap (λ (b : Option Barrier). record margin { barrier = b }) (barrier_back margin.percent margin.barrier cause)

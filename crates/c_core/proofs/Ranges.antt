@@ -11,7 +11,7 @@ use Rattle.txn_set.specs.declared.decl.TxnDecl.{TxnDecl}
 use Rattle.c_core.specs.declared.tables.ItemRow.{ItemRow}
 use Rattle.c_core.specs.declared.tables.TxnRow.{TxnRow}
 use Rattle.c_core.specs.declared.tables.TogetherRow.{TogetherRow}
-use Rattle.c_core.specs.Rows.{ids_at, item_of_row, txn_of_row, together_of_row, set_of_tables}
+use Rattle.c_core.specs.Rows.{ids_at, item_of_row, txn_of_row, together_of_row}
 
 AreBelow : ℕ → List ItemId → Type 0
 AreBelow n items = All (λ i. i.0 < n) items
@@ -22,7 +22,7 @@ ids-below n ids at count h =
     All-map Q named (take count (drop at ids)) (All-take P count (drop at ids) (All-drop P at ids h))
 
 pub in_range : (items : List ItemRow) (txns : List TxnRow) (together : List TogetherRow) (ids : List ℕ) → All (λ i. i < length (map item_of_row items)) ids
-    → IsInRange (set_of_tables items txns together ids)
+    → IsInRange (set_of (map item_of_row items) (map (txn_of_row ids) txns) (map (together_of_row ids) together))
 in_range items txns together ids h = let n = length (map item_of_row items) in record {
   reads = All-map (λ (t : TxnDecl). All (λ i. i.0 < n) t.reads) (txn_of_row ids) txns (λ k d lt. ids-below n ids _ _ h);
   writes = All-map (λ (t : TxnDecl). All (λ i. i.0 < n) t.writes) (txn_of_row ids) txns (λ k d lt. ids-below n ids _ _ h);

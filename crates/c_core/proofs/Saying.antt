@@ -19,6 +19,7 @@ use Rattle.shared_plant.specs.Answers.{Answered, Drained, nothing}
 use Rattle.c_core.specs.Calls.{in_set}
 use Rattle.c_core.specs.Forms.{op_named, form_of_step, form_of_plan, form_of_plan_next, form_of_idle, form_of_entry}
 use Rattle.c_core.specs.declared.checked.StoredForm.{StoredForm}
+use Rattle.c_core.specs.declared.forms.OpForm.{OpForm}
 use Rattle.c_core.specs.declared.forms.StepForm.{StepForm}
 use Rattle.c_core.specs.declared.forms.TimeForm.{TimeForm}
 use Rattle.c_core.specs.declared.entries.EntryForm.{EntryForm}
@@ -32,9 +33,9 @@ in_zero set tx lt = subst (λ (b : Bool). ◌≡◌ {A = ℕ} (if b then 0 else 
 item_zero : (s : SeatSeen) (item : ℕ) → item < length s.plant.set.items → item_refusal s item ≡ 0
 item_zero s item lt = subst (λ (b : Bool). ◌≡◌ {A = ℕ} (if b then 0 else 5) 0) (sym (lt_true item (length s.plant.set.items) lt)) refl
 
-step_zero : (code item : ℕ) (value : ℤ) (o : Option TxId) (tx : TxId) (asked : Op) → o ≡ Some tx → op_named code item value ≡ Some asked → step_refusal o code item value ≡ 0
-step_zero code item value o tx asked e f =
-    subst (λ (t : Option TxId). step_refusal t code item value ≡ 0) (sym e) (subst (λ (x : Option Op). ◌≡◌ {A = ℕ} (if is_some x then 0 else 3) 0) (sym f) refl)
+step_zero : (op : OpForm) (o : Option TxId) (tx : TxId) (asked : Op) → o ≡ Some tx → op_named op ≡ Some asked → step_refusal o op ≡ 0
+step_zero op o tx asked e f =
+    subst (λ (t : Option TxId). step_refusal t op ≡ 0) (sym e) (subst (λ (x : Option Op). ◌≡◌ {A = ℕ} (if is_some x then 0 else 3) 0) (sym f) refl)
 
 turn_of : (F : Set → ℕ → List Entry → ℕ → Type 0) (O : Set → List Entry → Option Entry) (p q : PlantFacts) (old new : SeatFacts) (left : ℕ) → p ≡ q → IsCompiled q.set → MeetsAdmission q.set
     → Answered p.set (F p.set p.room) (O p.set) old new → HadItsTurn (F q.set q.room) (O q.set) (seen_of q old left) (seen_of q new left)
@@ -84,13 +85,13 @@ peeked {K} p q old new left was item stored value view same compiled meets lt is
     (tells (item_refusal (seen_of q old left) item) (seen_of q old left) (seen_of q new left) (item_zero (seen_of q old left) item lt)
     (turn_of (λ set room story base. slice_get (state_of set story).items item ≡ Some (record { value = stored.value; stamp = stored.stamp })) (λ set. nothing) p q old new left same compiled meets b))
 
-pub stepped : {K : Type 0} (p q : PlantFacts) (old new : SeatFacts) (left : ℕ) (was : SeatSeen) (tx : TxId) (serial code item : ℕ) (value : ℤ) (asked : Op) (r : StepReply) (form : StepForm)
-    → seen_of q old left ≡ was → p ≡ q → IsCompiled q.set → MeetsAdmission q.set → old.tx ≡ Some tx → op_named code item value ≡ Some asked → form ≡ form_of_step r
+pub stepped : {K : Type 0} (p q : PlantFacts) (old new : SeatFacts) (left : ℕ) (was : SeatSeen) (tx : TxId) (serial : ℕ) (op : OpForm) (asked : Op) (r : StepReply) (form : StepForm)
+    → seen_of q old left ≡ was → p ≡ q → IsCompiled q.set → MeetsAdmission q.set → old.tx ≡ Some tx → op_named op ≡ Some asked → form ≡ form_of_step r
     → Answered p.set (λ story base. r ≡ step_answer p.set story (length story - base) p.room (job_at tx serial) asked) (λ story. step_entry (now_of p.set story) (job_at tx serial) asked r) old new
-    → Tries (step_refusal was.seat.tx code item value) 0 K (StepSaid serial code item value form) was (seen_of q new left)
-stepped {K} p q old new left was tx serial code item value asked r form view same compiled meets own named is a =
-    subst (λ (s : SeatSeen). Tries (step_refusal s.seat.tx code item value) 0 K (StepSaid serial code item value form) s (seen_of q new left)) view
-    (tells (step_refusal old.tx code item value) (seen_of q old left) (seen_of q new left) (step_zero code item value old.tx tx asked own named) (record {
+    → Tries (step_refusal was.seat.tx op) 0 K (StepSaid serial op form) was (seen_of q new left)
+stepped {K} p q old new left was tx serial op asked r form view same compiled meets own named is a =
+    subst (λ (s : SeatSeen). Tries (step_refusal s.seat.tx op) 0 K (StepSaid serial op form) s (seen_of q new left)) view
+    (tells (step_refusal old.tx op) (seen_of q old left) (seen_of q new left) (step_zero op old.tx tx asked own named) (record {
       tx = tx;
       asked = asked;
       reply = r;

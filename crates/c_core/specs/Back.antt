@@ -1,10 +1,8 @@
 -- What a record says: each conversion into a record, read back.
-use Rattle.std.specs.Prelude.{ℕ, ◌==◌, if◌then◌else◌, Option, None, Some, Result, Ok, Err}
+use Rattle.std.specs.Prelude.{ℕ, ◌==◌, if◌then◌else◌, unwrap_or, None, Some, Result, Ok, Err}
 use Rattle.rt_base.specs.declared.ids.JobId.{JobId}
 use Rattle.rt_base.specs.declared.operation.Op.{Op}
 use Rattle.rt_base.specs.declared.operation.Op.TheVariants as op
-use Rattle.rt_base.specs.declared.operation.End.{End}
-use Rattle.rt_base.specs.declared.operation.End.TheVariants as end
 use Rattle.rt_base.specs.declared.operation.Outcome.{Outcome}
 use Rattle.rt_base.specs.declared.operation.Outcome.TheVariants as outcome
 use Rattle.rt_base.specs.declared.release.PlanRefused.{PlanRefused}
@@ -15,20 +13,10 @@ use Rattle.board.specs.declared.replies.IdleReply.{IdleReply}
 use Rattle.board.specs.declared.replies.IdleReply.TheVariants as idle
 use Rattle.step_journal.specs.declared.entry.Entry.{Entry}
 use Rattle.step_journal.specs.declared.entry.Entry.TheVariants as entry
-use Rattle.c_core.specs.declared.forms.EndForm.{EndForm}
 use Rattle.c_core.specs.declared.forms.StepForm.{StepForm}
 use Rattle.c_core.specs.declared.forms.TimeForm.{TimeForm}
 use Rattle.c_core.specs.declared.entries.EntryForm.{EntryForm}
-use Rattle.c_core.specs.Forms.{job_of}
-
-abbrev pub end_of : EndForm → Option End
-end_of form =
-    if form.kind == 1 then Some end.Committed
-    else (if form.kind == 2 then Some end.Overrun
-    else (if form.kind == 3 then Some end.Late
-    else (if form.kind == 4 then Some (end.Stale (record { 0 = form.item }) form.stamp)
-    else (if form.kind == 5 then Some (end.Apart (record { 0 = form.item }) (record { 0 = form.other }))
-    else (if form.kind == 6 then Some end.Quit else None)))))
+use Rattle.c_core.specs.Forms.{op_named, job_of, end_of, form_of_asked}
 
 abbrev pub outcome_of : StepForm → Outcome
 outcome_of form =
@@ -66,12 +54,9 @@ idle_of form =
     else (if form.reply == 7 then idle.NotIdle (job_of form.job)
     else (if form.reply == 8 then idle.Nothing else idle.Full form.count))
 
+-- any other number is a quit
 abbrev pub asked_of : EntryForm → Op
-asked_of form =
-    if form.operation == 0 then op.Read (record { 0 = form.item })
-    else (if form.operation == 1 then op.Write (record { 0 = form.item }) form.value
-    else (if form.operation == 2 then op.Compute
-    else (if form.operation == 3 then op.Commit else op.Quit)))
+asked_of form = unwrap_or (op_named (form_of_asked form)) op.Quit
 
 abbrev pub entry_of : EntryForm → Entry
 entry_of form =

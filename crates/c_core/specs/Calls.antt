@@ -1,16 +1,19 @@
 -- What the calls of a station answer beside what the core answers: 0 where the call was made, and else why not.
-use Rattle.std.specs.Prelude.{◌≡◌, ℕ, ℤ, ◌<◌, ◌≤◌, nat_lt, if◌then◌else◌, List, length, Option, None, Some, is_some}
+use Rattle.std.specs.Prelude.{◌≡◌, ℕ, ◌<◌, ◌≤◌, nat_lt, if◌then◌else◌, List, length, Option, None, Some, Result, is_some}
 use Rattle.rt_base.specs.declared.ids.JobId.{JobId}
 use Rattle.rt_base.specs.declared.operation.Op.{Op}
+use Rattle.rt_base.specs.declared.release.PlanRefused.{PlanRefused}
 use Rattle.board.specs.declared.replies.StepReply.{StepReply}
+use Rattle.board.specs.declared.replies.IdleReply.{IdleReply}
 use Rattle.step_journal.specs.declared.entry.Entry.{Entry}
-use Rattle.board.specs.Stories.{step_answer}
+use Rattle.board.specs.Stories.{plan_answer, plan_next_answer, step_answer, idle_answer}
 use Rattle.txn_set.specs.Set.{Set}
 use Rattle.item_model.specs.Kinds.{is_dated}
 use Rattle.set_admission.specs.Bounds.{age_of}
 use Rattle.lock_core.specs.Seen.{CoreSeen}
 use Rattle.c_core.specs.declared.forms.JobForm.{JobForm}
-use Rattle.c_core.specs.Forms.{op_named, job_of, form_of_job}
+use Rattle.c_core.specs.declared.forms.OpForm.{OpForm}
+use Rattle.c_core.specs.Forms.{op_named, form_of_job}
 
 -- the same of a set
 abbrev pub in_set : Set → ℕ → ℕ
@@ -25,12 +28,21 @@ abbrev pub item_status : CoreSeen → ℕ → ℕ
 item_status core item = if nat_lt item (length core.set.items) then 0 else 5
 
 -- 3 where the number names no operation, and else as above
-abbrev pub step_status : CoreSeen → ℕ → ℕ → ℕ → ℤ → ℕ
-step_status core tx code item value = if is_some (op_named code item value) then tx_status core tx else 3
+abbrev pub step_status : CoreSeen → ℕ → OpForm → ℕ
+step_status core tx form = if is_some (op_named form) then tx_status core tx else 3
 
--- what a core that stands for this history answers to a step
-abbrev pub step_reply_of : CoreSeen → List Entry → JobForm → Op → StepReply
-step_reply_of core story job asked = step_answer core.set story (length core.journal.kept) core.journal.room (job_of job) asked
+-- what a core that stands for this history answers
+abbrev pub step_reply_of : CoreSeen → List Entry → JobId → Op → StepReply
+step_reply_of core story job asked = step_answer core.set story (length core.journal.kept) core.journal.room job asked
+
+abbrev pub plan_reply_of : CoreSeen → List Entry → (tx tick : ℕ) → Result JobId PlanRefused
+plan_reply_of core story tx tick = plan_answer core.set story (length core.journal.kept) core.journal.room tx tick
+
+abbrev pub plan_next_reply_of : CoreSeen → List Entry → (tx : ℕ) → Result (JobId × ℕ) PlanRefused
+plan_next_reply_of core story tx = plan_next_answer core.set story (length core.journal.kept) core.journal.room tx
+
+abbrev pub idle_reply_of : CoreSeen → List Entry → IdleReply
+idle_reply_of core story = idle_answer core.set story (length core.journal.kept) core.journal.room
 
 -- what is answered where this is the running job: 6 where there is none
 abbrev pub IsRunning : Option JobId → ℕ → JobForm → JobForm → Type 0

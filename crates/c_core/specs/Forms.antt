@@ -1,5 +1,5 @@
 -- Answers as plain records.
-use Rattle.std.specs.Prelude.{ℕ, ℤ, pos, ◌==◌, if◌then◌else◌, Option, None, Some, Result, Ok, Err}
+use Rattle.std.specs.Prelude.{ℕ, pos, ◌==◌, if◌then◌else◌, Option, None, Some, Result, Ok, Err}
 use Rattle.rt_base.specs.declared.ids.JobId.{JobId}
 use Rattle.rt_base.specs.declared.operation.Op.{Op}
 use Rattle.rt_base.specs.declared.operation.Op.TheVariants as op
@@ -16,19 +16,20 @@ use Rattle.board.specs.declared.replies.IdleReply.TheVariants as idle
 use Rattle.step_journal.specs.declared.entry.Entry.{Entry}
 use Rattle.step_journal.specs.declared.entry.Entry.TheVariants as entry
 use Rattle.c_core.specs.declared.forms.JobForm.{JobForm}
+use Rattle.c_core.specs.declared.forms.OpForm.{OpForm}
 use Rattle.c_core.specs.declared.forms.EndForm.{EndForm}
 use Rattle.c_core.specs.declared.forms.StepForm.{StepForm}
 use Rattle.c_core.specs.declared.forms.TimeForm.{TimeForm}
 use Rattle.c_core.specs.declared.entries.EntryForm.{EntryForm}
 
--- the operation that a number names
-abbrev pub op_named : ℕ → ℕ → ℤ → Option Op
-op_named code item value =
-    if code == 0 then Some (op.Read (record { 0 = item }))
-    else (if code == 1 then Some (op.Write (record { 0 = item }) value)
-    else (if code == 2 then Some op.Compute
-    else (if code == 3 then Some op.Commit
-    else (if code == 4 then Some op.Quit else None))))
+-- the operation that a record names
+abbrev pub op_named : OpForm → Option Op
+op_named form =
+    if form.code == 0 then Some (op.Read (record { 0 = form.item }))
+    else (if form.code == 1 then Some (op.Write (record { 0 = form.item }) form.value)
+    else (if form.code == 2 then Some op.Compute
+    else (if form.code == 3 then Some op.Commit
+    else (if form.code == 4 then Some op.Quit else None))))
 
 abbrev pub form_of_job : JobId → JobForm
 form_of_job job = record { tx = job.tx.0; serial = job.serial }
@@ -60,12 +61,19 @@ number_of_end end.Quit = 6
 
 abbrev pub form_of_end : Option End → EndForm
 form_of_end None = no_end
-form_of_end (Some end.Committed) = record no_end { kind = 1 }
-form_of_end (Some end.Overrun) = record no_end { kind = 2 }
-form_of_end (Some end.Late) = record no_end { kind = 3 }
 form_of_end (Some (end.Stale item stamp)) = record no_end { kind = 4; item = item.0; stamp = stamp }
 form_of_end (Some (end.Apart a b)) = record no_end { kind = 5; item = a.0; other = b.0 }
-form_of_end (Some end.Quit) = record no_end { kind = 6 }
+form_of_end (Some other) = record no_end { kind = number_of_end other }
+
+-- the end that a record says
+abbrev pub end_of : EndForm → Option End
+end_of form =
+    if form.kind == 1 then Some end.Committed
+    else (if form.kind == 2 then Some end.Overrun
+    else (if form.kind == 3 then Some end.Late
+    else (if form.kind == 4 then Some (end.Stale (record { 0 = form.item }) form.stamp)
+    else (if form.kind == 5 then Some (end.Apart (record { 0 = form.item }) (record { 0 = form.other }))
+    else (if form.kind == 6 then Some end.Quit else None)))))
 
 -- a record of an answer without numbers
 abbrev pub bare_step : ℕ → StepForm
@@ -116,6 +124,10 @@ form_of_idle (idle.Full room) = record (bare_time 6) { count = room }
 
 abbrev pub bare_entry : ℕ → EntryForm
 bare_entry kind = record { kind = kind; operation = 0; job = no_job; item = 0; value = pos 0; tick = 0; to = 0; answer = bare_step 0 }
+
+-- the operation of an entry, as a call takes it
+abbrev pub form_of_asked : EntryForm → OpForm
+form_of_asked form = record { code = form.operation; item = form.item; value = form.value }
 
 abbrev pub with_op : Op → EntryForm → EntryForm
 with_op (op.Read item) form = record form { item = item.0 }

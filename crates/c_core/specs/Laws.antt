@@ -9,8 +9,8 @@ use Rattle.board.specs.declared.replies.StepReply.{StepReply}
 use Rattle.board.specs.declared.replies.IdleReply.{IdleReply}
 use Rattle.step_journal.specs.declared.entry.Entry.{Entry}
 use Rattle.c_core.specs.declared.refusals.Refused.{Refused}
-use Rattle.c_core.specs.Forms.{op_named, job_of, bare_entry, with_op, form_of_job, form_of_end, form_of_step, form_of_plan, form_of_plan_next, form_of_idle, form_of_entry}
-use Rattle.c_core.specs.Back.{end_of, step_of, plan_of, plan_next_of, idle_of, entry_of}
+use Rattle.c_core.specs.Forms.{op_named, job_of, bare_entry, form_of_asked, with_op, end_of, form_of_job, form_of_end, form_of_step, form_of_plan, form_of_plan_next, form_of_idle, form_of_entry}
+use Rattle.c_core.specs.Back.{step_of, plan_of, plan_next_of, idle_of, entry_of}
 use Rattle.c_core.specs.Refusals.{form_of_refusal, refusal_of, plain}
 use Rattle.c_core.specs.Rows.{IsKind, item_of_row, row_of_item}
 
@@ -44,7 +44,7 @@ EntriesComeBack = (entry : Entry) → entry_of (form_of_entry entry) ≡ entry
 
 -- an operation has the same numbers in an entry as in a call
 abbrev pub OperationsAreNamed : Type 0
-OperationsAreNamed = (kind : ℕ) (op : Op) → let form = with_op op (bare_entry kind) in op_named form.operation form.item form.value ≡ Some op
+OperationsAreNamed = (kind : ℕ) (op : Op) → op_named (form_of_asked (with_op op (bare_entry kind))) ≡ Some op
 
 -- wherever memory is wanted, it is told as one refusal
 abbrev pub RefusalsComeBack : Type 0

@@ -4,6 +4,7 @@ pub mod Rows
 pub mod Refusals
 pub mod Laws
 pub mod Calls
+pub mod Called
 pub mod Open
 pub mod Margins
 pub mod MarginLaws

@@ -11,9 +11,7 @@ use Rattle.txn_compiler.specs.Kept.{kept}
 use Rattle.txn_compiler.specs.Refusal.{compile_refusal, Refuses}
 use Rattle.set_admission.specs.Admission.{refusal}
 use Rattle.set_admission.specs.Admission.{Refuses as NotAdmits}
-use Rattle.c_core.specs.declared.tables.ItemRow.{ItemRow}
-use Rattle.c_core.specs.declared.tables.TxnRow.{TxnRow}
-use Rattle.c_core.specs.declared.tables.TogetherRow.{TogetherRow}
+use Rattle.c_core.specs.declared.tables.Tables.{Tables}
 use Rattle.c_core.specs.declared.refusals.Refused.{Refused}
 use Rattle.c_core.specs.declared.refusals.Refused.TheVariants as refused
 use Rattle.c_core.specs.declared.refusals.RefusalForm.{RefusalForm}
@@ -26,39 +24,27 @@ pub record IsFirstBreach {X : Type 0} (Fits : X → Type 0) (xs : List X) (place
   pub before : (k : ℕ) (d : X) → k < place → Fits (slice_index_or xs k d)
 
 -- why tables give no compiled set: of these causes the first that they have. Want of memory may come in place of each.
-abbrev pub WhyNotCompiled : List ItemRow → List TxnRow → List TogetherRow → List ℕ → Refused → Type 0
-WhyNotCompiled items txns together ids (refused.BadKind row) = IsFirstBreach IsKind items row
-WhyNotCompiled items txns together ids (refused.BadNumber place) = All IsKind items × IsFirstBreach (λ i. i < length items) ids place
-WhyNotCompiled items txns together ids (refused.BadTxn row) = All IsKind items × All (λ i. i < length items) ids × IsFirstBreach (TxnFits (length ids)) txns row
-WhyNotCompiled items txns together ids (refused.BadTogether row) =
-    All IsKind items × All (λ i. i < length items) ids × All (TxnFits (length ids)) txns × IsFirstBreach (TogetherFits (length ids)) together row
-WhyNotCompiled items txns together ids (refused.NotCompiled error) = FitTables items txns together ids × Refuses (compile_refusal (kept (set_of_tables items txns together ids))) error
-WhyNotCompiled items txns together ids (refused.NotAdmitted error) = ⊥
-WhyNotCompiled items txns together ids refused.NoRoom = ⊥
-WhyNotCompiled items txns together ids refused.OutOfMemory = Unit {0}
+abbrev pub WhyNotCompiled : Tables → Refused → Type 0
+WhyNotCompiled t (refused.BadKind row) = IsFirstBreach IsKind t.items.now row
+WhyNotCompiled t (refused.BadNumber place) = All IsKind t.items.now × IsFirstBreach (λ i. i < length t.items.now) t.ids.now place
+WhyNotCompiled t (refused.BadTxn row) = All IsKind t.items.now × All (λ i. i < length t.items.now) t.ids.now × IsFirstBreach (TxnFits (length t.ids.now)) t.txns.now row
+WhyNotCompiled t (refused.BadTogether row) =
+    All IsKind t.items.now × All (λ i. i < length t.items.now) t.ids.now × All (TxnFits (length t.ids.now)) t.txns.now × IsFirstBreach (TogetherFits (length t.ids.now)) t.together.now row
+WhyNotCompiled t (refused.NotCompiled error) = FitTables t × Refuses (compile_refusal (kept (set_of_tables t))) error
+WhyNotCompiled t (refused.NotAdmitted error) = ⊥
+WhyNotCompiled t refused.NoRoom = ⊥
+WhyNotCompiled t refused.OutOfMemory = Unit {0}
 
 -- why no database is opened over them with this room
-abbrev pub WhyNotOpened : List ItemRow → List TxnRow → List TogetherRow → List ℕ → (room : ℕ) → Refused → Type 0
-WhyNotOpened items txns together ids room refused.NoRoom = 2 ^ 20 < room
-WhyNotOpened items txns together ids room (refused.NotAdmitted error) =
-    FitTables items txns together ids × (compile_refusal (kept (set_of_tables items txns together ids)) ≡ None) × NotAdmits (refusal (kept (set_of_tables items txns together ids))) error
-WhyNotOpened items txns together ids room (refused.BadKind row) = WhyNotCompiled items txns together ids (refused.BadKind row)
-WhyNotOpened items txns together ids room (refused.BadNumber place) = WhyNotCompiled items txns together ids (refused.BadNumber place)
-WhyNotOpened items txns together ids room (refused.BadTxn row) = WhyNotCompiled items txns together ids (refused.BadTxn row)
-WhyNotOpened items txns together ids room (refused.BadTogether row) = WhyNotCompiled items txns together ids (refused.BadTogether row)
-WhyNotOpened items txns together ids room (refused.NotCompiled error) = WhyNotCompiled items txns together ids (refused.NotCompiled error)
-WhyNotOpened items txns together ids room refused.OutOfMemory = Unit {0}
+abbrev pub WhyNotOpened : Tables → (room : ℕ) → Refused → Type 0
+WhyNotOpened t room refused.NoRoom = 2 ^ 20 < room
+WhyNotOpened t room (refused.NotAdmitted error) = FitTables t × (compile_refusal (kept (set_of_tables t)) ≡ None) × NotAdmits (refusal (kept (set_of_tables t))) error
+WhyNotOpened t room why = WhyNotCompiled t why
 
 -- the same of a set that is not to be admitted
-abbrev pub WhyNotTried : List ItemRow → List TxnRow → List TogetherRow → List ℕ → (room : ℕ) → Refused → Type 0
-WhyNotTried items txns together ids room refused.NoRoom = 2 ^ 20 < room
-WhyNotTried items txns together ids room (refused.NotAdmitted error) = ⊥
-WhyNotTried items txns together ids room (refused.BadKind row) = WhyNotCompiled items txns together ids (refused.BadKind row)
-WhyNotTried items txns together ids room (refused.BadNumber place) = WhyNotCompiled items txns together ids (refused.BadNumber place)
-WhyNotTried items txns together ids room (refused.BadTxn row) = WhyNotCompiled items txns together ids (refused.BadTxn row)
-WhyNotTried items txns together ids room (refused.BadTogether row) = WhyNotCompiled items txns together ids (refused.BadTogether row)
-WhyNotTried items txns together ids room (refused.NotCompiled error) = WhyNotCompiled items txns together ids (refused.NotCompiled error)
-WhyNotTried items txns together ids room refused.OutOfMemory = Unit {0}
+abbrev pub WhyNotTried : Tables → (room : ℕ) → Refused → Type 0
+WhyNotTried t room refused.NoRoom = 2 ^ 20 < room
+WhyNotTried t room why = WhyNotCompiled t why
 
 abbrev pub number_of_which : Which → ℕ
 number_of_which which.Prio = 0
@@ -144,21 +130,4 @@ refusal_of told =
 abbrev pub plain : Refused → Refused
 plain (refused.NotCompiled rule.OutOfMemory) = refused.OutOfMemory
 plain (refused.NotAdmitted admission.OutOfMemory) = refused.OutOfMemory
-plain (refused.NotCompiled (rule.TooManyItems count)) = refused.NotCompiled (rule.TooManyItems count)
-plain (refused.NotCompiled (rule.TooManyTxns count)) = refused.NotCompiled (rule.TooManyTxns count)
-plain (refused.NotCompiled (rule.SamePrio a b)) = refused.NotCompiled (rule.SamePrio a b)
-plain (refused.NotCompiled (rule.BadTimes tx which)) = refused.NotCompiled (rule.BadTimes tx which)
-plain (refused.NotCompiled (rule.NoWriter item)) = refused.NotCompiled (rule.NoWriter item)
-plain (refused.NotCompiled (rule.TwoWriters item a b)) = refused.NotCompiled (rule.TwoWriters item a b)
-plain (refused.NotCompiled (rule.CyclicDerivation item)) = refused.NotCompiled (rule.CyclicDerivation item)
-plain (refused.NotCompiled (rule.TooManySets count)) = refused.NotCompiled (rule.TooManySets count)
-plain (refused.NotCompiled (rule.BadTogether place)) = refused.NotCompiled (rule.BadTogether place)
-plain (refused.NotAdmitted (admission.NotSchedulable tx demand)) = refused.NotAdmitted (admission.NotSchedulable tx demand)
-plain (refused.NotAdmitted (admission.TooOld tx item age)) = refused.NotAdmitted (admission.TooOld tx item age)
-plain (refused.NotAdmitted (admission.TooApart tx place age)) = refused.NotAdmitted (admission.TooApart tx place age)
-plain (refused.BadKind row) = refused.BadKind row
-plain (refused.BadNumber place) = refused.BadNumber place
-plain (refused.BadTxn row) = refused.BadTxn row
-plain (refused.BadTogether row) = refused.BadTogether row
-plain refused.NoRoom = refused.NoRoom
-plain refused.OutOfMemory = refused.OutOfMemory
+plain why = why

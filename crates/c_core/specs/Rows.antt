@@ -12,6 +12,7 @@ use Rattle.txn_compiler.specs.Kept.{set_of}
 use Rattle.c_core.specs.declared.tables.ItemRow.{ItemRow}
 use Rattle.c_core.specs.declared.tables.TxnRow.{TxnRow}
 use Rattle.c_core.specs.declared.tables.TogetherRow.{TogetherRow}
+use Rattle.c_core.specs.declared.tables.Tables.{Tables}
 
 abbrev pub kind_of_row : ItemRow → ItemKind
 kind_of_row row = if row.kind == 0 then Sensor row.validity else (if row.kind == 1 then Derived row.validity else State)
@@ -46,8 +47,8 @@ txn_of_row ids row = record {
 abbrev pub together_of_row : List ℕ → TogetherRow → TogetherDecl
 together_of_row ids row = record { items = ids_at ids row.items_at row.items; within = row.within }
 
-abbrev pub set_of_tables : List ItemRow → List TxnRow → List TogetherRow → List ℕ → Set
-set_of_tables items txns together ids = set_of (map item_of_row items) (map (txn_of_row ids) txns) (map (together_of_row ids) together)
+abbrev pub set_of_tables : Tables → Set
+set_of_tables t = set_of (map item_of_row t.items.now) (map (txn_of_row t.ids.now) t.txns.now) (map (together_of_row t.ids.now) t.together.now)
 
 abbrev pub IsKind : ItemRow → Type 0
 IsKind row = row.kind ≤ 2
@@ -60,8 +61,8 @@ abbrev pub TogetherFits : ℕ → TogetherRow → Type 0
 TogetherFits count row = row.items_at + row.items ≤ count
 
 -- no row and no number of the tables is bad
-pub record FitTables (items : List ItemRow) (txns : List TxnRow) (together : List TogetherRow) (ids : List ℕ) : Type 0 where
-  pub kinds : All IsKind items
-  pub numbers : All (λ i. i < length items) ids
-  pub txns_fit : All (TxnFits (length ids)) txns
-  pub together_fit : All (TogetherFits (length ids)) together
+pub record FitTables (t : Tables) : Type 0 where
+  pub kinds : All IsKind t.items.now
+  pub numbers : All (λ i. i < length t.items.now) t.ids.now
+  pub txns_fit : All (TxnFits (length t.ids.now)) t.txns.now
+  pub together_fit : All (TogetherFits (length t.ids.now)) t.together.now

@@ -9,9 +9,7 @@ use Rattle.txn_compiler.specs.Kept.{kept}
 use Rattle.lock_core.specs.Seen.{CoreSeen}
 use Rattle.admitted_core.specs.Seen.{AdmittedSeen}
 use Rattle.shared_plant.specs.Seats.{PlantFacts, SeatFacts, IsOf, newcomer, newcomers, tx_of}
-use Rattle.c_core.specs.declared.tables.ItemRow.{ItemRow}
-use Rattle.c_core.specs.declared.tables.TxnRow.{TxnRow}
-use Rattle.c_core.specs.declared.tables.TogetherRow.{TogetherRow}
+use Rattle.c_core.specs.declared.tables.Tables.{Tables}
 use Rattle.c_core.specs.Rows.{set_of_tables, FitTables}
 
 -- The plant, the seat, and how many transactions' seats it has that were not handed out.
@@ -52,9 +50,9 @@ pub record IsStarted (core : AdmittedSeen CoreSeen) (s : SeatSeen) : Type 0 wher
 
 -- A plant over the set of the tables, which are fit and admitted, at the opening state: the operator's seat, with all other
 -- seats. Nobody has made a call.
-pub record PlantOpened (items : List ItemRow) (txns : List TxnRow) (together : List TogetherRow) (ids : List ℕ) (room : ℕ) (s : SeatSeen) : Type 0 where
-  pub fit : FitTables items txns together ids
-  pub set_is : s.plant.set ≡ kept (set_of_tables items txns together ids)
+pub record PlantOpened (tables : Tables) (room : ℕ) (s : SeatSeen) : Type 0 where
+  pub fit : FitTables tables
+  pub set_is : s.plant.set ≡ kept (set_of_tables tables)
   pub is_admitted : IsAdmitted s.plant.set
   pub room_is : s.plant.room ≡ room
   pub small : room ≤ 2 ^ 20

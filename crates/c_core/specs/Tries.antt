@@ -1,5 +1,5 @@
 -- What a seat's calls answer to a program in C.
-use Rattle.std.specs.Prelude.{◌≡◌, ◌≢◌, ◌⊎◌, ℕ, ℤ, ◌-◌, ◌++◌, nat_lt, if◌then◌else◌, is_some, List, [], length, map, drop, Option, None, Some, Result, slice_get}
+use Rattle.std.specs.Prelude.{◌≡◌, ◌≢◌, ◌⊎◌, ℕ, ◌-◌, ◌++◌, nat_lt, if◌then◌else◌, is_some, List, [], length, map, drop, Option, None, Some, Result, slice_get}
 use Rattle.rt_base.specs.declared.ids.TxId.{TxId}
 use Rattle.rt_base.specs.declared.ids.JobId.{JobId}
 use Rattle.rt_base.specs.declared.operation.Op.{Op}
@@ -14,6 +14,7 @@ use Rattle.shared_plant.specs.Answers.{Answered, Drained, nothing, missed_once}
 use Rattle.c_core.specs.Calls.{in_set}
 use Rattle.c_core.specs.Forms.{op_named, form_of_step, form_of_plan, form_of_plan_next, form_of_idle, form_of_entry}
 use Rattle.c_core.specs.declared.checked.StoredForm.{StoredForm}
+use Rattle.c_core.specs.declared.forms.OpForm.{OpForm}
 use Rattle.c_core.specs.declared.forms.StepForm.{StepForm}
 use Rattle.c_core.specs.declared.forms.TimeForm.{TimeForm}
 use Rattle.c_core.specs.declared.entries.EntryForm.{EntryForm}
@@ -44,24 +45,23 @@ abbrev pub job_at : TxId → ℕ → JobId
 job_at tx serial = record { tx = tx; serial = serial }
 
 -- 27 by the operator's seat, and else 3 where the number names no operation
-abbrev pub step_refusal : Option TxId → ℕ → ℕ → ℤ → ℕ
-step_refusal None code item value = 27
-step_refusal (Some tx) code item value = if is_some (op_named code item value) then 0 else 3
+abbrev pub step_refusal : Option TxId → OpForm → ℕ
+step_refusal None form = 27
+step_refusal (Some tx) form = if is_some (op_named form) then 0 else 3
 
 -- the job is one of the seat's own transaction
-pub record StepSaid (serial code item : ℕ) (value : ℤ) (after : StepForm) (old new : SeatSeen) : Type 0 where
+pub record StepSaid (serial : ℕ) (op : OpForm) (after : StepForm) (old new : SeatSeen) : Type 0 where
   pub tx : TxId
   pub asked : Op
   pub reply : StepReply
   pub own : old.seat.tx ≡ Some tx
-  pub named : op_named code item value ≡ Some asked
+  pub named : op_named op ≡ Some asked
   pub form : after ≡ form_of_step reply
   pub turn : HadItsTurn (λ story base. reply ≡ step_answer old.plant.set story (length story - base) old.plant.room (job_at tx serial) asked)
       (λ story. step_entry (now_of old.plant.set story) (job_at tx serial) asked reply) old new
 
-abbrev pub SeatStepped : (serial code item : ℕ) → ℤ → (status : ℕ) → StepForm → StepForm → SeatSeen → SeatSeen → Type 0
-SeatStepped serial code item value status before after old new =
-    Tries (step_refusal old.seat.tx code item value) status (after ≡ before) (StepSaid serial code item value after) old new
+abbrev pub SeatStepped : (serial : ℕ) → OpForm → (status : ℕ) → StepForm → StepForm → SeatSeen → SeatSeen → Type 0
+SeatStepped serial op status before after old new = Tries (step_refusal old.seat.tx op) status (after ≡ before) (StepSaid serial op after) old new
 
 pub record PlanSaid (tx tick : ℕ) (after : TimeForm) (old new : SeatSeen) : Type 0 where
   pub reply : Result JobId PlanRefused

@@ -1,37 +1,28 @@
-//! A core whose calls test each number that they are given. Such a call answers a status: OK where the core was called,
-//! and else why it was not; then nothing is changed.
-ghost use Rattle.std.specs.Prelude.{◌≡◌, ◌≢◌, ◌+◌, ◌≤◌, ◌^◌, [], List, length, IfOk, IfErr, IsTrue, false, Some, None, slice_get, nat_lt, ◌<◌, ◌++◌, min, map, take, drop, vec_capacity};
-ghost use Rattle.rt_base.specs.declared.operation.Op.{Op as Asked};
+//! A core over an admitted set, or over one that was not admitted, whose calls test each number that they are given. Such a
+//! call answers a status: OK where the core was called, and else why it was not; then nothing is changed.
+ghost use Rattle.std.specs.Prelude.{◌≡◌, ◌≤◌, ◌<◌, ◌^◌, [], List, length, nat_lt, IfOk, IfErr, IsTrue, false, Some, None, MatchOption, vec_capacity};
 ghost use Rattle.step_journal.specs.declared.entry.Entry.{Entry as Noted};
-ghost use Rattle.step_journal.specs.History.{state_of};
-ghost use Rattle.board.specs.Stories.{noted, plan_entry, plan_next_entry, step_entry, idle_entry, plan_answer, plan_next_answer, step_answer, idle_answer, now_of, running_of, pending_of, ended_of, planned_of};
-ghost use Rattle.law_times.specs.Ages.{IsAdmitted};
-ghost use Rattle.law_times.specs.Response.{response};
-ghost use Rattle.txn_set.specs.Set.{Set, txn_of};
-ghost use Rattle.txn_set.specs.Ceilings.{blocking};
-ghost use Rattle.txn_compiler.specs.Kept.{kept};
-ghost use Rattle.txn_compiler.specs.Refusal.{compile_refusal};
-ghost use Rattle.law_histories.specs.Protocol.{IsFirstRefusal};
+ghost use Rattle.board.specs.Stories.{noted, now_of, step_entry, planned_of};
 ghost use Rattle.lock_core.specs.Stands.{Stands};
-ghost use Rattle.board.specs.Stories.{IfBlocked};
-ghost use Rattle.c_core.specs.Open.{board_of, admitted_of, AskedOf, KeepsBoundsOf};
-ghost use Rattle.c_core.specs.Rows.{set_of_tables, FitTables};
+ghost use Rattle.c_core.specs.Calls.{step_reply_of};
+ghost use Rattle.c_core.specs.Called.{AskedOf, Drained, Idled, IsAgeOf, IsBlockingOf, IsEndedOf, IsPendingOf, IsResponseOf, IsRunningOf, Keeps, Opened, OpenedTrial, Peeked, Planned, PlannedNext, Stepped};
+ghost use Rattle.c_core.specs.Open.{KeepsBoundsOf};
 ghost use Rattle.c_core.specs.Refusals.{WhyNotOpened, WhyNotTried};
-ghost use Rattle.c_core.specs.Forms.{op_named, job_of, form_of_step, form_of_plan, form_of_plan_next, form_of_idle, form_of_entry};
-ghost use Rattle.c_core.specs.Calls.{tx_status, item_status, step_status, step_reply_of, IsRunning, IsAgeOf, bound_status};
 
 use crate::entries::{EntryForm, put_entries};
 use crate::forms::{
-    JobForm, StepForm, TimeForm, idle_form, job_form, op_of, plan_form, plan_next_form, put_done,
-    put_reply,
+    JobForm, OpForm, StepForm, TimeForm, idle_form, job_form, job_of, op_of, plan_form,
+    plan_next_form, put_done, put_reply,
 };
-use crate::open_core::OpenCore;
 use crate::refusals::{NOT_ADMITTED, Refused};
 use crate::tables::{Tables, compiled};
-use board::StepReply;
+use admitted_core::{AdmittedBoard, AdmittedCore};
+use board::{Board, StepReply};
+use lock_core::Core;
 use rt_base::{ItemId, JobId, Op, OutOfMemory, Outcome, TxId};
 use set_admission::{AdmittedSet, admit};
 use std::alloc::Global;
+use std::marker::Model;
 use step_journal::Entry;
 use txn_set::CompiledSet;
 
@@ -53,13 +44,8 @@ pub const NOTHING: u32 = 6;
 // A drain hands over no more entries at once.
 const PLACES: usize = 64;
 
-/// A core, and places for the entries that a drain hands over.
-#[derive(Drop)]
-pub struct CheckedCore {
-    pub core: OpenCore,
-    pub spare: Vec<Entry>,
-    pub ghost empty: { (spare.items ≡ []) × (vec_capacity spare ≡ 64) },
-}
+// The journal has room for no more entries.
+const MOST_ROOM: usize = 1 << 20;
 
 /// A value and its stamp.
 #[repr(C)]
@@ -69,66 +55,55 @@ pub struct StoredForm {
     pub stamp: u64,
 }
 
-// Whether the job asks to compute, and did so by which nothing else happens. Else nothing changes.
-#[inline(always)]
-fn computes(core: &mut OpenCore, job: JobId, op: Op) -> bool
-    requires { job.tx.0 < length (board_of core.old).set.txns }
-    ensures fixed { ((board_of core.new).set ≡ (board_of core.old).set) × ((board_of core.new).journal.room ≡ (board_of core.old).journal.room) × ((board_of core.new).journal.first ≡ (board_of core.old).journal.first) }
-    ensures admitted { admitted_of core.new ≡ admitted_of core.old }
-    ensures answer { IsTrue result → (story : List Noted) → Stands (board_of core.old) story → step_answer (board_of core.old).set story (length (board_of core.old).journal.kept) (board_of core.old).journal.room job op ≡ StepReply.Done Outcome.Computed None }
-    ensures after { IsTrue result → (story : List Noted) → Stands (board_of core.old) story → Stands (board_of core.new) (noted story (step_entry (now_of (board_of core.old).set story) job op (StepReply.Done Outcome.Computed None))) }
-    ensures unchanged { result ≡ false → core.new ≡ core.old }
-    ensures bounds { IsTrue result → (story : List Noted) → Stands (board_of core.new) story → KeepsBoundsOf core.new story }
-{
-    match op {
-        Op::Compute => core.compute(job),
-        Op::Read(_) => false,
-        Op::Write(_, _) => false,
-        Op::Commit => false,
-        Op::Quit => false,
-    }
+/// A core over an admitted set, or over one that was not admitted, of which nothing is promised of deadlines and ages; with
+/// places for the entries that a drain hands over. Contracts see the core, and the set if it was admitted.
+#[derive(Drop)]
+pub struct CheckedCore {
+    core: Core,
+    admitted: Option<AdmittedSet>,
+    spare: Vec<Entry>,
 }
 
-// As the core's call where the operation is known, and writes what it answers.
-#[inline(always)]
-fn answered(core: &mut OpenCore, job: JobId, op: Op, answer: &mut StepForm)
-    requires { job.tx.0 < length (board_of core.old).set.txns }
-    ensures { AskedOf core.old core.new job op answer.new }
-{
-    put_reply(&core.asked(job, op), answer);
+impl Model for CheckedCore {
+    ghost use Rattle.std.specs.Prelude.{◌≡◌, [], vec_capacity};
+    ghost use Rattle.c_core.specs.Open.{OpenSeen, IsOver};
+
+    ghost Value = { OpenSeen };
+
+    ghost view = { λ o. record { board = o.core; admitted = o.admitted } };
+
+    ghost invariant = { λ o. IsOver (record { board = o.core; admitted = o.admitted }) × (o.spare.items ≡ []) × (vec_capacity o.spare ≡ 64) };
 }
 
-// As the core's call, and writes what it answers. Of a job that only computes the answer is known without a reply.
-#[inline(always)]
-fn asked(core: &mut OpenCore, job: JobId, op: Op, answer: &mut StepForm)
-    requires { job.tx.0 < length (board_of core.old).set.txns }
-    ensures { AskedOf core.old core.new job op answer.new }
+/// Places for the entries that a drain hands over.
+pub(crate) fn places(alloc: Global) -> Result<Vec<Entry>, OutOfMemory>
+    ensures items { IfOk result (λ spare. spare.items ≡ []) }
+    ensures capacity { IfOk result (λ spare. vec_capacity spare ≡ 64) }
 {
-    if computes(core, job, op) {
-        put_done(&Outcome::Computed, &None, answer);
-        return;
-    }
-    match op {
-        Op::Read(_) => answered(core, job, op, answer),
-        Op::Write(_, _) => answered(core, job, op, answer),
-        Op::Compute => answered(core, job, op, answer),
-        Op::Commit => answered(core, job, op, answer),
-        Op::Quit => answered(core, job, op, answer),
-    }
+    Ok(Vec::with_capacity(alloc, PLACES)?)
 }
 
-// The journal has room for no more entries.
-const MOST_ROOM: usize = 1 << 20;
+// A core over a copy of the set.
+fn core_over(alloc: Global, set: &AdmittedSet, room: usize) -> Result<Core, OutOfMemory>
+    requires { room ≤ 2 ^ 20 }
+    ensures { IfOk result (λ c. (c.set ≡ set.now) × (c.journal ≡ record { room = room; first = 0; kept = [] }) × Stands c []) }
+{
+    let copy = set.set().copy(alloc)?;
+    match Core::new(alloc, copy, room) {
+        Ok(core) => Ok(core),
+        Err((copy, error)) => {
+            drop(copy);
+            Err(error)
+        }
+    }
+}
 
 impl CheckedCore {
     /// A core over the compiled and admitted set of these tables, whose journal has room for so many entries. All memory
     /// is taken here. Else the first cause for which there is none; OutOfMemory may come in place of each.
-    pub fn open(alloc: Global, tables: Tables, room: usize) -> Result<CheckedCore, Refused>
-        ensures fit { IfOk result (λ c. FitTables tables.entry.items.now tables.entry.txns.now tables.entry.together.now tables.entry.ids.now × room ≤ 2 ^ 20) }
-        ensures set { IfOk result (λ c. (board_of c.core).set ≡ kept (set_of_tables tables.entry.items.now tables.entry.txns.now tables.entry.together.now tables.entry.ids.now)) }
-        ensures admitted { IfOk result (λ c. (admitted_of c.core ≡ Some (board_of c.core).set) × IsAdmitted (board_of c.core).set) }
-        ensures opening { IfOk result (λ c. ((board_of c.core).journal ≡ record { room = room; first = 0; kept = [] }) × Stands (board_of c.core) []) }
-        ensures refused { IfErr result (WhyNotOpened tables.entry.items.now tables.entry.txns.now tables.entry.together.now tables.entry.ids.now room) }
+    pub fn open(alloc: Global, tables: &Tables, room: usize) -> Result<CheckedCore, Refused>
+        ensures opened { IfOk result (Opened tables.now room) }
+        ensures refused { IfErr result (WhyNotOpened tables.now room) }
     {
         if room > MOST_ROOM {
             return Err(Refused::NoRoom);
@@ -136,7 +111,10 @@ impl CheckedCore {
         let set = compiled(alloc, tables)?;
         let set = match admit(alloc, set) {
             Ok(set) => set,
-            Err((_, error)) => return Err(Refused::NotAdmitted(error)),
+            Err((set, error)) => {
+                drop(set);
+                return Err(Refused::NotAdmitted(error));
+            }
         };
         match CheckedCore::new(alloc, set, room) {
             Ok(core) => Ok(core),
@@ -149,12 +127,9 @@ impl CheckedCore {
 
     /// A core over the compiled set of these tables, which is not admitted: nothing is promised of deadlines and ages. All
     /// memory is taken here. Else the first cause for which there is none; OutOfMemory may come in place of each.
-    pub fn open_trial(alloc: Global, tables: Tables, room: usize) -> Result<CheckedCore, Refused>
-        ensures fit { IfOk result (λ c. FitTables tables.entry.items.now tables.entry.txns.now tables.entry.together.now tables.entry.ids.now × room ≤ 2 ^ 20) }
-        ensures set { IfOk result (λ c. ((board_of c.core).set ≡ kept (set_of_tables tables.entry.items.now tables.entry.txns.now tables.entry.together.now tables.entry.ids.now)) × (compile_refusal (board_of c.core).set ≡ None)) }
-        ensures trial { IfOk result (λ c. admitted_of c.core ≡ None) }
-        ensures opening { IfOk result (λ c. ((board_of c.core).journal ≡ record { room = room; first = 0; kept = [] }) × Stands (board_of c.core) []) }
-        ensures refused { IfErr result (WhyNotTried tables.entry.items.now tables.entry.txns.now tables.entry.together.now tables.entry.ids.now room) }
+    pub fn open_trial(alloc: Global, tables: &Tables, room: usize) -> Result<CheckedCore, Refused>
+        ensures opened { IfOk result (OpenedTrial tables.now room) }
+        ensures refused { IfErr result (WhyNotTried tables.now room) }
     {
         if room > MOST_ROOM {
             return Err(Refused::NoRoom);
@@ -177,17 +152,24 @@ impl CheckedCore {
         room: usize,
     ) -> Result<CheckedCore, (AdmittedSet, OutOfMemory)>
         requires { room ≤ 2 ^ 20 }
-        ensures ok { IfOk result (λ c. (admitted_of c.core ≡ Some set) × ((board_of c.core).set ≡ set) × ((board_of c.core).journal ≡ record { room = room; first = 0; kept = [] }) × Stands (board_of c.core) []) }
+        ensures ok { IfOk result (λ c. (c.admitted ≡ Some set) × (c.board.set ≡ set) × (c.board.journal ≡ record { room = room; first = 0; kept = [] }) × Stands c.board []) }
         ensures err { IfErr result (λ e. e.0 ≡ set) }
     {
-        let Ok(spare) = Vec::with_capacity(alloc, PLACES) else {
+        let Ok(spare) = places(alloc) else {
             return Err((set, OutOfMemory));
         };
-        match OpenCore::over(alloc, set, room) {
-            Ok(core) => Ok(CheckedCore { core, spare }),
-            Err(e) => {
+        match core_over(alloc, &set, room) {
+            Ok(core) => {
+                set.is_admitted();
+                Ok(CheckedCore {
+                    core,
+                    admitted: Some(set),
+                    spare,
+                })
+            }
+            Err(error) => {
                 drop(spare);
-                Err(e)
+                Err((set, error))
             }
         }
     }
@@ -199,123 +181,173 @@ impl CheckedCore {
         room: usize,
     ) -> Result<CheckedCore, (CompiledSet, OutOfMemory)>
         requires { room ≤ 2 ^ 20 }
-        ensures ok { IfOk result (λ c. (admitted_of c.core ≡ None) × ((board_of c.core).set ≡ set) × ((board_of c.core).journal ≡ record { room = room; first = 0; kept = [] }) × Stands (board_of c.core) []) }
+        ensures ok { IfOk result (λ c. (c.admitted ≡ None) × (c.board.set ≡ set) × (c.board.journal ≡ record { room = room; first = 0; kept = [] }) × Stands c.board []) }
         ensures err { IfErr result (λ e. e.0 ≡ set) }
     {
-        let Ok(spare) = Vec::with_capacity(alloc, PLACES) else {
+        let Ok(spare) = places(alloc) else {
             return Err((set, OutOfMemory));
         };
-        match OpenCore::trial(alloc, set, room) {
-            Ok(core) => Ok(CheckedCore { core, spare }),
-            Err(e) => {
+        match Core::new(alloc, set, room) {
+            Ok(core) => Ok(CheckedCore {
+                core,
+                admitted: None,
+                spare,
+            }),
+            Err(error) => {
                 drop(spare);
-                Err(e)
+                Err(error)
             }
         }
     }
 
+    /// The core over its admitted set; None where the set was not admitted.
+    pub fn into_admitted(self) -> Option<AdmittedCore>
+        ensures { MatchOption result (self.admitted ≡ None) (λ a. (a.board ≡ self.board) × (self.admitted ≡ Some a.admitted)) }
+    {
+        let CheckedCore {
+            core,
+            admitted,
+            spare,
+        } = self;
+        drop(spare);
+        match admitted {
+            Some(set) => Some(AdmittedBoard::of(core, set)),
+            None => {
+                drop(core);
+                None
+            }
+        }
+    }
+
+    /// That each history of the core keeps the bounds of the admitted set, if it has one. It does nothing.
+    pub fn keeps_bounds(&self)
+        ensures { (story : List Noted) → Stands self.now.board story → KeepsBoundsOf self.now story }
+    {
+        let _core = &self.core;
+    }
+
+    /// The set of the history.
+    pub fn set(&self) -> &CompiledSet
+        ensures { result.now ≡ self.now.board.set }
+    {
+        Board::set(&self.core)
+    }
+
     // Whether the number names a transaction of the set.
     fn has_txn(&self, tx: u32) -> bool
-        ensures { result ≡ nat_lt tx (length (board_of self.now.core).set.txns) }
+        ensures { result ≡ nat_lt tx (length self.now.board.set.txns) }
     {
-        (tx as usize) < self.core.set().txns().len()
+        (tx as usize) < self.set().txns().len()
     }
 
     fn has_item(&self, item: u32) -> bool
-        ensures { result ≡ nat_lt item (length (board_of self.now.core).set.items) }
+        ensures { result ≡ nat_lt item (length self.now.board.set.items) }
     {
-        (item as usize) < self.core.set().items().len()
+        (item as usize) < self.set().items().len()
     }
 
-    /// A job asks for an operation, as of `AdmittedCore`. The operation is named by a number, with its item and its value.
-    /// NO_OPERATION, else NO_TRANSACTION, where a number names none.
-    pub fn step(
-        &mut self,
-        job: JobForm,
-        code: u32,
-        item: u32,
-        value: i64,
-        answer: &mut StepForm,
-    ) -> u32
-        ensures status { result ≡ step_status (board_of self.old.core) job.tx code item value }
-        ensures refused { result ≢ 0 → (self.new ≡ self.old) × (answer.new ≡ answer.old) }
-        ensures fixed { ((board_of self.new.core).set ≡ (board_of self.old.core).set) × ((board_of self.new.core).journal.room ≡ (board_of self.old.core).journal.room) × ((board_of self.new.core).journal.first ≡ (board_of self.old.core).journal.first) }
-        ensures admitted { admitted_of self.new.core ≡ admitted_of self.old.core }
-        ensures answer { (asked : Asked) (story : List Noted) → result ≡ 0 → op_named code item value ≡ Some asked → Stands (board_of self.old.core) story → answer.new ≡ form_of_step (step_reply_of (board_of self.old.core) story job asked) }
-        ensures after { (asked : Asked) (story : List Noted) → result ≡ 0 → op_named code item value ≡ Some asked → Stands (board_of self.old.core) story → Stands (board_of self.new.core) (noted story (step_entry (now_of (board_of self.old.core).set story) (job_of job) asked (step_reply_of (board_of self.old.core) story job asked))) }
-        ensures blocked_once { (asked : Asked) (story : List Noted) → result ≡ 0 → op_named code item value ≡ Some asked → Stands (board_of self.old.core) story → IfBlocked (step_reply_of (board_of self.old.core) story job asked) (IsFirstRefusal (board_of self.old.core).set story (job_of job)) }
-        ensures bounds { (story : List Noted) → Stands (board_of self.new.core) story → KeepsBoundsOf self.new.core story }
+    // Whether the job computes, and nothing else happens by that. Else nothing changes.
+    #[inline(always)]
+    fn computes(&mut self, job: JobId) -> bool
+        requires { job.tx.0 < length self.old.board.set.txns }
+        ensures keeps { Keeps self.old self.new × (self.new.board.journal.first ≡ self.old.board.journal.first) }
+        ensures answer { IsTrue result → (story : List Noted) → Stands self.old.board story → step_reply_of self.old.board story job Op.Compute ≡ StepReply.Done Outcome.Computed None }
+        ensures after { IsTrue result → (story : List Noted) → Stands self.old.board story → Stands self.new.board (noted story (step_entry (now_of self.old.board.set story) job Op.Compute (StepReply.Done Outcome.Computed None))) }
+        ensures unchanged { result ≡ false → self.new ≡ self.old }
     {
-        self.core.keeps_bounds();
-        if code > 4 {
+        let computed = self.core.compute(job);
+        self.keeps_bounds();
+        computed
+    }
+
+    // As the core's call where the operation is known, and writes what it answers.
+    #[inline(always)]
+    fn answered(&mut self, job: JobId, op: Op, answer: &mut StepForm)
+        requires { job.tx.0 < length self.old.board.set.txns }
+        ensures { AskedOf job op answer.new self.old self.new }
+    {
+        put_reply(&self.core.asked(job, op), answer);
+        self.keeps_bounds();
+    }
+
+    // As the core's call, and writes what it answers. Of a job that only computes the answer is known without a reply.
+    #[inline(always)]
+    fn asked(&mut self, job: JobId, op: Op, answer: &mut StepForm)
+        requires { job.tx.0 < length self.old.board.set.txns }
+        ensures { AskedOf job op answer.new self.old self.new }
+    {
+        match op {
+            Op::Read(_) => self.answered(job, op, answer),
+            Op::Write(_, _) => self.answered(job, op, answer),
+            Op::Compute => {
+                if self.computes(job) {
+                    put_done(&Outcome::Computed, &None, answer);
+                } else {
+                    self.answered(job, op, answer);
+                }
+            }
+            Op::Commit => self.answered(job, op, answer),
+            Op::Quit => self.answered(job, op, answer),
+        }
+    }
+
+    /// A job asks for an operation, as of `AdmittedCore`. NO_OPERATION, else NO_TRANSACTION, where a number names none.
+    pub fn step(&mut self, job: JobForm, op: OpForm, answer: &mut StepForm) -> u32
+        ensures { Stepped job op result answer.old answer.new self.old self.new }
+    {
+        self.keeps_bounds();
+        if op.code > 4 {
             return NO_OPERATION;
         }
         if !self.has_txn(job.tx) {
             return NO_TRANSACTION;
         }
-        let Some(op) = op_of(code, item, value) else {
+        let Some(op) = op_of(op) else {
             return NO_OPERATION;
         };
-        let job = JobId {
-            tx: TxId(job.tx),
-            serial: job.serial,
-        };
-        asked(&mut self.core, job, op, answer);
+        self.asked(job_of(job), op, answer);
         OK
     }
 
     /// Plans the transaction's next job for a tick, as of `AdmittedCore`. NO_TRANSACTION where it is none of the set.
     pub fn plan(&mut self, tx: u32, tick: u64, answer: &mut TimeForm) -> u32
-        ensures status { result ≡ tx_status (board_of self.old.core) tx }
-        ensures refused { result ≢ 0 → (self.new ≡ self.old) × (answer.new ≡ answer.old) }
-        ensures fixed { ((board_of self.new.core).set ≡ (board_of self.old.core).set) × ((board_of self.new.core).journal.room ≡ (board_of self.old.core).journal.room) × ((board_of self.new.core).journal.first ≡ (board_of self.old.core).journal.first) }
-        ensures admitted { admitted_of self.new.core ≡ admitted_of self.old.core }
-        ensures answer { (story : List Noted) → result ≡ 0 → Stands (board_of self.old.core) story → answer.new ≡ form_of_plan tick (plan_answer (board_of self.old.core).set story (length (board_of self.old.core).journal.kept) (board_of self.old.core).journal.room tx tick) }
-        ensures after { (story : List Noted) → result ≡ 0 → Stands (board_of self.old.core) story → Stands (board_of self.new.core) (noted story (plan_entry (record { 0 = tx }) tick (plan_answer (board_of self.old.core).set story (length (board_of self.old.core).journal.kept) (board_of self.old.core).journal.room tx tick))) }
-        ensures bounds { (story : List Noted) → Stands (board_of self.new.core) story → KeepsBoundsOf self.new.core story }
+        ensures { Planned tx tick result answer.old answer.new self.old self.new }
     {
-        self.core.keeps_bounds();
+        self.keeps_bounds();
         if !self.has_txn(tx) {
             return NO_TRANSACTION;
         }
-        *answer = plan_form(tick, self.core.plan(TxId(tx), tick));
+        *answer = plan_form(tick, Board::plan(&mut self.core, TxId(tx), tick));
+        self.keeps_bounds();
         OK
     }
 
     /// Plans for the earliest tick that may be, as of `AdmittedCore`. NO_TRANSACTION where it is none of the set.
     pub fn plan_next(&mut self, tx: u32, answer: &mut TimeForm) -> u32
-        ensures status { result ≡ tx_status (board_of self.old.core) tx }
-        ensures refused { result ≢ 0 → (self.new ≡ self.old) × (answer.new ≡ answer.old) }
-        ensures fixed { ((board_of self.new.core).set ≡ (board_of self.old.core).set) × ((board_of self.new.core).journal.room ≡ (board_of self.old.core).journal.room) × ((board_of self.new.core).journal.first ≡ (board_of self.old.core).journal.first) }
-        ensures admitted { admitted_of self.new.core ≡ admitted_of self.old.core }
-        ensures answer { (story : List Noted) → result ≡ 0 → Stands (board_of self.old.core) story → answer.new ≡ form_of_plan_next (plan_next_answer (board_of self.old.core).set story (length (board_of self.old.core).journal.kept) (board_of self.old.core).journal.room tx) }
-        ensures after { (story : List Noted) → result ≡ 0 → Stands (board_of self.old.core) story → Stands (board_of self.new.core) (noted story (plan_next_entry (record { 0 = tx }) (plan_next_answer (board_of self.old.core).set story (length (board_of self.old.core).journal.kept) (board_of self.old.core).journal.room tx))) }
-        ensures bounds { (story : List Noted) → Stands (board_of self.new.core) story → KeepsBoundsOf self.new.core story }
+        ensures { PlannedNext tx result answer.old answer.new self.old self.new }
     {
-        self.core.keeps_bounds();
+        self.keeps_bounds();
         if !self.has_txn(tx) {
             return NO_TRANSACTION;
         }
-        *answer = plan_next_form(self.core.plan_next(TxId(tx)));
+        *answer = plan_next_form(Board::plan_next(&mut self.core, TxId(tx)));
+        self.keeps_bounds();
         OK
     }
 
     /// With nothing pending the time goes on, as of `AdmittedCore`.
     pub fn idle(&mut self, answer: &mut TimeForm)
-        ensures fixed { ((board_of self.new.core).set ≡ (board_of self.old.core).set) × ((board_of self.new.core).journal.room ≡ (board_of self.old.core).journal.room) × ((board_of self.new.core).journal.first ≡ (board_of self.old.core).journal.first) }
-        ensures admitted { admitted_of self.new.core ≡ admitted_of self.old.core }
-        ensures answer { (story : List Noted) → Stands (board_of self.old.core) story → answer.new ≡ form_of_idle (idle_answer (board_of self.old.core).set story (length (board_of self.old.core).journal.kept) (board_of self.old.core).journal.room) }
-        ensures after { (story : List Noted) → Stands (board_of self.old.core) story → Stands (board_of self.new.core) (noted story (idle_entry (now_of (board_of self.old.core).set story) (idle_answer (board_of self.old.core).set story (length (board_of self.old.core).journal.kept) (board_of self.old.core).journal.room))) }
-        ensures bounds { (story : List Noted) → Stands (board_of self.new.core) story → KeepsBoundsOf self.new.core story }
+        ensures { Idled 0 answer.new self.old self.new }
     {
-        *answer = idle_form(self.core.idle());
+        *answer = idle_form(Board::idle(&mut self.core));
+        self.keeps_bounds();
     }
 
     /// The running job. NOTHING where none is pending.
     pub fn running(&self, job: &mut JobForm) -> u32
-        ensures { (story : List Noted) → Stands (board_of self.now.core) story → IsRunning (running_of (board_of self.now.core).set story) result job.old job.new }
+        ensures { IsRunningOf result job.old job.new self.now self.now }
     {
-        match self.core.running() {
+        match Board::running(&self.core) {
             Some(running) => {
                 *job = job_form(running);
                 OK
@@ -326,27 +358,24 @@ impl CheckedCore {
 
     /// An item's installed value and stamp. NO_ITEM where it is none of the set.
     pub fn peek(&self, item: u32, stored: &mut StoredForm) -> u32
-        ensures status { result ≡ item_status (board_of self.now.core) item }
-        ensures refused { result ≢ 0 → stored.new ≡ stored.old }
-        ensures stored { (story : List Noted) → result ≡ 0 → Stands (board_of self.now.core) story → slice_get (state_of (board_of self.now.core).set story).items item ≡ Some (record { value = stored.new.value; stamp = stored.new.stamp }) }
+        ensures { Peeked item result stored.old stored.new self.now self.now }
     {
         if !self.has_item(item) {
             return NO_ITEM;
         }
-        let (value, stamp) = self.core.peek(ItemId(item));
+        let (value, stamp) = Board::peek(&self.core, ItemId(item));
         *stored = StoredForm { value, stamp };
         OK
     }
 
     /// The transaction's pending job. NO_TRANSACTION where it is none of the set, NOTHING where none is pending.
     pub fn pending(&self, tx: u32, job: &mut JobForm) -> u32
-        ensures unknown { length (board_of self.now.core).set.txns ≤ tx → (result ≡ 4) × (job.new ≡ job.old) }
-        ensures pending { (story : List Noted) → tx < length (board_of self.now.core).set.txns → Stands (board_of self.now.core) story → IsRunning (pending_of (board_of self.now.core).set story tx) result job.old job.new }
+        ensures { IsPendingOf tx result job.old job.new self.now self.now }
     {
         if !self.has_txn(tx) {
             return NO_TRANSACTION;
         }
-        match self.core.pending(TxId(tx)) {
+        match Board::pending(&self.core, TxId(tx)) {
             Some(pending) => {
                 *job = job_form(pending);
                 OK
@@ -357,25 +386,21 @@ impl CheckedCore {
 
     /// How many jobs of the transaction have ended. NO_TRANSACTION where it is none of the set.
     pub fn ended(&self, tx: u32, count: &mut u32) -> u32
-        ensures status { result ≡ tx_status (board_of self.now.core) tx }
-        ensures refused { result ≢ 0 → count.new ≡ count.old }
-        ensures ended { (story : List Noted) → result ≡ 0 → Stands (board_of self.now.core) story → count.new ≡ ended_of (board_of self.now.core).set story tx }
+        ensures { IsEndedOf tx result count.old count.new self.now self.now }
     {
         if !self.has_txn(tx) {
             return NO_TRANSACTION;
         }
-        *count = self.core.ended(TxId(tx));
+        *count = Board::ended(&self.core, TxId(tx));
         OK
     }
 
     /// The response of a transaction, in ticks. NOT_ADMITTED where the set is not, else NO_TRANSACTION where it is none of
     /// the set.
     pub fn response(&self, tx: u32, ticks: &mut u64) -> u32
-        ensures status { result ≡ bound_status (admitted_of self.now.core) tx }
-        ensures refused { result ≢ 0 → ticks.new ≡ ticks.old }
-        ensures response { (set : Set) → result ≡ 0 → admitted_of self.now.core ≡ Some set → response set tx ≡ Some ticks.new }
+        ensures { IsResponseOf tx result ticks.old ticks.new self.now self.now }
     {
-        let Some(set) = self.core.admitted() else {
+        let Some(set) = &self.admitted else {
             return NOT_ADMITTED;
         };
         if tx as usize >= set.set().txns().len() {
@@ -388,11 +413,9 @@ impl CheckedCore {
     /// For how many ticks one lower transaction blocks the transaction at most. NOT_ADMITTED where the set is not, else
     /// NO_TRANSACTION where it is none of the set.
     pub fn blocking(&self, tx: u32, ticks: &mut u64) -> u32
-        ensures status { result ≡ bound_status (admitted_of self.now.core) tx }
-        ensures refused { result ≢ 0 → ticks.new ≡ ticks.old }
-        ensures blocking { (set : Set) → result ≡ 0 → admitted_of self.now.core ≡ Some set → ticks.new ≡ blocking set (txn_of set tx).prio }
+        ensures { IsBlockingOf tx result ticks.old ticks.new self.now self.now }
     {
-        let Some(set) = self.core.admitted() else {
+        let Some(set) = &self.admitted else {
             return NOT_ADMITTED;
         };
         if tx as usize >= set.set().txns().len() {
@@ -405,9 +428,9 @@ impl CheckedCore {
     /// The age bound of an item, in ticks. NOT_ADMITTED where the set is not admitted, else NO_ITEM where it is none of the
     /// set, NOTHING for a state item.
     pub fn age(&self, item: u32, ticks: &mut u64) -> u32
-        ensures { IsAgeOf (admitted_of self.now.core) item result ticks.old ticks.new }
+        ensures { IsAgeOf item result ticks.old ticks.new self.now self.now }
     {
-        let Some(set) = self.core.admitted() else {
+        let Some(set) = &self.admitted else {
             return NOT_ADMITTED;
         };
         if item as usize >= set.set().items().len() {
@@ -424,46 +447,41 @@ impl CheckedCore {
 
     /// How many entries are kept.
     pub fn kept(&self) -> usize
-        ensures { result ≡ length (board_of self.now.core).journal.kept }
+        ensures { result ≡ length self.now.board.journal.kept }
     {
-        self.core.entries().len()
+        Board::entries(&self.core).len()
     }
 
     /// How many entries were drained in all.
     pub fn drained(&self) -> u64
-        ensures { result ≡ (board_of self.now.core).journal.first }
+        ensures { result ≡ self.now.board.journal.first }
     {
-        self.core.first()
+        Board::first(&self.core)
     }
 
     /// Moves the oldest kept entries into a slice, as many as it has places for and no more than 64, and answers how many.
     /// It costs one move for each entry that was kept.
     pub fn drain(&mut self, into: &mut [EntryForm]) -> usize
-        ensures count { result ≡ min (length into.old) (min (length (board_of self.old.core).journal.kept) 64) }
-        ensures moved { into.new ≡ map form_of_entry (take result (board_of self.old.core).journal.kept) ++ drop result into.old }
-        ensures left { (board_of self.new.core).journal.kept ≡ drop result (board_of self.old.core).journal.kept }
-        ensures fixed { ((board_of self.new.core).set ≡ (board_of self.old.core).set) × ((board_of self.new.core).journal.room ≡ (board_of self.old.core).journal.room) × ((board_of self.new.core).journal.first ≡ (board_of self.old.core).journal.first + result) }
-        ensures admitted { admitted_of self.new.core ≡ admitted_of self.old.core }
-        ensures after { (story : List Noted) → Stands (board_of self.old.core) story → Stands (board_of self.new.core) story }
-        ensures bounds { (story : List Noted) → Stands (board_of self.new.core) story → KeepsBoundsOf self.new.core story }
+        ensures { Drained 0 result into.old into.new self.old self.new }
     {
-        let count = self.core.drain(into.len(), &mut self.spare);
+        let count = Board::drain(&mut self.core, into.len(), &mut self.spare);
         put_entries(into, self.spare.as_slice());
         self.spare.clear();
+        self.keeps_bounds();
         count
     }
 
     /// How many releases are planned and did not take place yet.
     pub fn planned(&self) -> usize
-        ensures { (story : List Noted) → Stands (board_of self.now.core) story → result ≡ planned_of (board_of self.now.core).set story }
+        ensures { (story : List Noted) → Stands self.now.board story → result ≡ planned_of self.now.board.set story }
     {
-        self.core.planned()
+        Board::planned(&self.core)
     }
 
     /// The present tick.
     pub fn now(&self) -> u64
-        ensures { (story : List Noted) → Stands (board_of self.now.core) story → result ≡ now_of (board_of self.now.core).set story }
+        ensures { (story : List Noted) → Stands self.now.board story → result ≡ now_of self.now.board.set story }
     {
-        self.core.now()
+        Board::now(&self.core)
     }
 }

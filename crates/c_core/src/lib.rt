@@ -10,7 +10,6 @@ mod laws;
 mod margin_forms;
 mod margin_laws;
 mod margins;
-mod open_core;
 mod plant_opening;
 mod refusals;
 mod seat_sends;
@@ -18,16 +17,15 @@ mod seat_station;
 mod tables;
 
 pub use checked::{CheckedCore, NO_ITEM, NO_OPERATION, NO_TRANSACTION, NOTHING, OK, StoredForm};
-pub use entries::{EntryForm, put_entries, put_entry};
+pub use entries::{EntryForm, entry_of, put_entries, put_entry};
 pub use forms::{
-    EndForm, JobForm, StepForm, TimeForm, end_form, idle_form, job_form, op_of, plan_form,
-    plan_next_form, put_step,
+    EndForm, JobForm, OpForm, StepForm, TimeForm, end_form, end_of, idle_form, job_form, job_of,
+    op_of, plan_form, plan_next_form, put_step,
 };
 pub use laws::records_lose_nothing;
 pub use margin_forms::{MarginForm, margin_form};
 pub use margin_laws::margins_lose_nothing;
 pub use margins::told_margin;
-pub use open_core::OpenCore;
 pub use plant_opening::plant_over;
 pub use refusals::{
     BAD_TABLE, NO_MEMORY, NO_ROOM, NOT_ADMITTED, NOT_COMPILED, RefusalForm, Refused, refusal_form,

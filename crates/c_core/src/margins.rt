@@ -1,7 +1,6 @@
 //! The margin of a core's set.
 ghost use Rattle.std.specs.Prelude.{◌≡◌, ◌≢◌, ◌⊎◌, IfOk};
 ghost use Rattle.scale_margin.specs.Margins.{IsMargin};
-ghost use Rattle.c_core.specs.Open.{board_of};
 ghost use Rattle.c_core.specs.Margins.{ToldMargin};
 
 use crate::checked::{CheckedCore, OK};
@@ -34,10 +33,10 @@ fn margin_of<L: Ledger>(
 /// and its analysis, at most ten times one after the other, and gives it back; NO_MEMORY leaves the record as it was.
 pub fn told_margin(alloc: Global, core: &CheckedCore, answer: &mut MarginForm) -> u32
     ensures status { (result ≡ 0) ⊎ (result ≡ 11) }
-    ensures margin { result ≡ 0 → ToldMargin (board_of core.now.core).set answer.new }
+    ensures margin { result ≡ 0 → ToldMargin core.now.board.set answer.new }
     ensures refused { result ≢ 0 → answer.new ≡ answer.old }
 {
-    match margin_of::<Brand>(alloc, core.core.set(), Blank::new(1)) {
+    match margin_of::<Brand>(alloc, core.set(), Blank::new(1)) {
         Ok(margin) => {
             *answer = margin_form(margin);
             OK

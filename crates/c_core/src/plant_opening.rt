@@ -1,11 +1,10 @@
 //! A plant over tables.
 ghost use Rattle.std.specs.Prelude.{◌≡◌, [], IfOk, IfErr, Some};
 ghost use Rattle.lock_core.specs.Stands.{Stands};
-ghost use Rattle.c_core.specs.Open.{board_of, admitted_of};
 ghost use Rattle.c_core.specs.Refusals.{WhyNotOpened};
 ghost use Rattle.c_core.specs.Seats.{IsStarted, PlantOpened};
 
-use crate::checked::CheckedCore;
+use crate::checked::{CheckedCore, places};
 use crate::refusals::Refused;
 use crate::seat_station::SeatStation;
 use crate::tables::Tables;
@@ -18,9 +17,6 @@ use std::sync::Arc;
 use step_journal::Entry;
 use turn_cell::Past;
 
-// A drain hands over no more entries at once.
-const PLACES: usize = 64;
-
 // The history of a new core.
 struct NoEntry;
 
@@ -30,12 +26,10 @@ impl Past<Entry> for NoEntry {
 
 // The core of a set that was admitted.
 fn admitted_core(core: CheckedCore) -> AdmittedCore
-    requires { admitted_of core.core ≡ Some (board_of core.core).set }
-    ensures core { result.board ≡ board_of core.core }
+    requires { core.admitted ≡ Some core.board.set }
+    ensures core { result.board ≡ core.board }
     ensures same { result.admitted ≡ result.board.set }
 {
-    let CheckedCore { core, spare } = core;
-    drop(spare);
     match core.into_admitted() {
         Some(core) => core,
         None => unreachable!(),
@@ -50,7 +44,7 @@ fn started(alloc: Global, core: AdmittedCore) -> Result<SeatStation, OutOfMemory
     core.admitted().is_admitted();
     let txns = core.set().txns().len();
     let items = core.set().items().len();
-    let spare = Vec::with_capacity(alloc, PLACES)?;
+    let spare = places(alloc)?;
     match Plant::start::<NoEntry>(alloc, core) {
         Ok((plant, mut others)) => {
             let seat = others.pop().unwrap();
@@ -78,9 +72,9 @@ fn boxed(alloc: Global, core: AdmittedCore) -> Result<Box<SeatStation>, OutOfMem
 /// The operator's seat of a plant over the admitted set of these tables, whose journal has room for so many entries, with
 /// the seats of all transactions. All memory that its calls need is taken here, but that of the seats which `open_next`
 /// hands out. Else the first cause for which there is none; OutOfMemory may come in place of each.
-pub fn plant_over(alloc: Global, tables: Tables, room: usize) -> Result<Box<SeatStation>, Refused>
-    ensures opened { IfOk result (λ b. PlantOpened tables.entry.items.now tables.entry.txns.now tables.entry.together.now tables.entry.ids.now room b.value) }
-    ensures refused { IfErr result (WhyNotOpened tables.entry.items.now tables.entry.txns.now tables.entry.together.now tables.entry.ids.now room) }
+pub fn plant_over(alloc: Global, tables: &Tables, room: usize) -> Result<Box<SeatStation>, Refused>
+    ensures opened { IfOk result (λ b. PlantOpened tables.now room b.value) }
+    ensures refused { IfErr result (WhyNotOpened tables.now room) }
 {
     let core = CheckedCore::open(alloc, tables, room)?;
     match boxed(alloc, admitted_core(core)) {

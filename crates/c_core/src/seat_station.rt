@@ -9,7 +9,9 @@ ghost use Rattle.c_core.specs.Tries.{SeatStepped, SeatPlanned, SeatPlannedNext, 
 
 use crate::checked::{NO_ITEM, NO_OPERATION, NO_TRANSACTION, NOTHING, OK, StoredForm};
 use crate::entries::{EntryForm, put_entries};
-use crate::forms::{StepForm, TimeForm, idle_form, op_of, plan_form, plan_next_form, put_step};
+use crate::forms::{
+    OpForm, StepForm, TimeForm, idle_form, op_of, plan_form, plan_next_form, put_step,
+};
 use crate::refusals::NO_MEMORY;
 use admitted_core::AdmittedCore;
 use rt_base::{ItemId, TxId};
@@ -118,22 +120,15 @@ impl SeatStation {
         }
     }
 
-    /// A job of the seat's own transaction asks for an operation, which is named by a number with its item and its value.
-    /// WRONG_SEAT by the operator's seat, else NO_OPERATION where the number names none.
-    pub fn step(
-        &mut self,
-        serial: u32,
-        code: u32,
-        item: u32,
-        value: i64,
-        answer: &mut StepForm,
-    ) -> u32
-        ensures { SeatStepped serial code item value result answer.old answer.new self.old self.new }
+    /// A job of the seat's own transaction asks for an operation. WRONG_SEAT by the operator's seat, else NO_OPERATION where
+    /// the number names none.
+    pub fn step(&mut self, serial: u32, op: OpForm, answer: &mut StepForm) -> u32
+        ensures { SeatStepped serial op result answer.old answer.new self.old self.new }
     {
         let Some(_) = self.seat.tx() else {
             return WRONG_SEAT;
         };
-        let Some(op) = op_of(code, item, value) else {
+        let Some(op) = op_of(op) else {
             return NO_OPERATION;
         };
         let Tried::Said(reply) = self.plant.try_step(&mut self.seat, serial, op) else {

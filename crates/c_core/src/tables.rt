@@ -217,6 +217,7 @@ fn bad_together(rows: &[TogetherRow], count: usize) -> Option<usize>
 }
 
 /// The tables of a set. `ids` has the numbers of items of which the lists of all rows are made.
+#[repr(C)]
 #[derive(Clone, Copy)]
 pub struct Tables<'a> {
     pub items: &'a [ItemRow],
@@ -228,10 +229,10 @@ pub struct Tables<'a> {
 /// The compiled set of these tables. Else the first row or number that is bad, looked for in the kinds of the items, the
 /// numbers, the transactions and the relative sets; or else the first rule that the set breaks. OutOfMemory may come in
 /// place of each.
-pub fn compiled(alloc: Global, tables: Tables) -> Result<CompiledSet, Refused>
-    ensures set { IfOk result (λ s. s ≡ kept (set_of_tables tables.entry.items.now tables.entry.txns.now tables.entry.together.now tables.entry.ids.now)) }
-    ensures passed { IfOk result (λ s. (compile_refusal s ≡ None) × FitTables tables.entry.items.now tables.entry.txns.now tables.entry.together.now tables.entry.ids.now) }
-    ensures refused { IfErr result (WhyNotCompiled tables.entry.items.now tables.entry.txns.now tables.entry.together.now tables.entry.ids.now) }
+pub fn compiled(alloc: Global, tables: &Tables) -> Result<CompiledSet, Refused>
+    ensures set { IfOk result (λ s. s ≡ kept (set_of_tables tables.now)) }
+    ensures passed { IfOk result (λ s. (compile_refusal s ≡ None) × FitTables tables.now) }
+    ensures refused { IfErr result (WhyNotCompiled tables.now) }
 {
     let count = tables.ids.len();
     if let Some(row) = bad_kind(tables.items) {

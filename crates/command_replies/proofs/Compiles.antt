@@ -1,24 +1,30 @@
 -- The declarations of a scenario are compiled as they are.
-use Rattle.std.proofs.Common.{◌≡◌, false, List, Option, None, Some, ap, sym, subst, ◌∙◌}
+use Rattle.std.proofs.Common.{◌≡◌, ◌≢◌, List, Option, None, Some, refl, ap, sym, subst, ◌∙◌}
 use Rattle.rt_base.specs.declared.ids.TogetherDecl.{TogetherDecl}
+use Rattle.rt_base.specs.declared.name.Names.{Names}
 use Rattle.item_model.specs.declared.decl.ItemDecl.{ItemDecl}
 use Rattle.txn_set.specs.declared.decl.TxnDecl.{TxnDecl}
 use Rattle.txn_set.specs.Set.{Set, IsCompiled}
 use Rattle.txn_compiler.specs.declared.error.CompileError.{CompileError}
-use Rattle.txn_compiler.specs.declared.error.CompileError.TheVariants.{TooManyItems, TooManyTxns, SamePrio, BadTimes, NoWriter, TwoWriters, CyclicDerivation, OutOfMemory, TooManySets, BadTogether}
+use Rattle.txn_compiler.specs.declared.error.CompileError.TheVariants.{OutOfMemory}
 use Rattle.txn_compiler.specs.Kept.{AreLists, IsInRange, kept}
 use Rattle.txn_compiler.specs.Refusal.{compile_refusal, Refuses}
 use Rattle.txn_compiler.proofs.Keeping.{kept-as-declared}
 use Rattle.txn_compiler.proofs.Verdict.{compiled-unless-refused}
+use Rattle.report_text.specs.Texts.{NamesSet}
 use Rattle.step_script.specs.Shown.{Shown, set_of}
 use Rattle.step_script.specs.Scenarios.{IsScenario}
-use Rattle.command_replies.specs.Replies.{is_memory}
 
 pub lists : (s : Shown) → IsScenario s → AreLists (set_of s)
 lists s is = record { reads = is.reads; writes = is.writes; together = is.together }
 
 pub is_compiled : (s : Shown) → IsScenario s → compile_refusal (set_of s) ≡ None → IsCompiled (set_of s)
 is_compiled s is none = (compiled-unless-refused (set_of s) (lists s is)).0 none
+
+-- the names of a scenario are those of its set
+pub names_set : (s : Shown) (names : Names) (set : Set) → IsScenario s → names ≡ s.names → set ≡ set_of s → NamesSet names set
+names_set s names set is e f =
+    subst (λ (n : Names). NamesSet n set) (sym e) (subst (NamesSet s.names) (sym f) (record { items = is.named_items; txns = is.named_txns }))
 
 in_range : (set : Set) → AreLists set → IsInRange set
 in_range set ok = record {
@@ -44,14 +50,6 @@ kept_from a a' b b' c c' e f g ok =
     kept-as-declared (set_from a b c) (subst AreLists (sym same) ok) ∙ same
 
 -- an error other than want of memory is the refusal
-pub is_refusal : (found : Option CompileError) (e : CompileError) → is_memory e ≡ false → Refuses found e → found ≡ Some e
-is_refusal found OutOfMemory n r = absurd cc
-is_refusal found (TooManyItems count) n r = r
-is_refusal found (TooManyTxns count) n r = r
-is_refusal found (SamePrio a b) n r = r
-is_refusal found (BadTimes tx which) n r = r
-is_refusal found (NoWriter item) n r = r
-is_refusal found (TwoWriters item a b) n r = r
-is_refusal found (CyclicDerivation item) n r = r
-is_refusal found (TooManySets count) n r = r
-is_refusal found (BadTogether place) n r = r
+pub is_refusal : (found : Option CompileError) (e : CompileError) → e ≢ OutOfMemory → Refuses found e → found ≡ Some e
+is_refusal found OutOfMemory n r = absurd (n refl)
+is_refusal found e n r = r

@@ -1,24 +1,16 @@
 -- The status and the text of `rates` and of `margin`.
-use Rattle.std.specs.Prelude.{◌≡◌, ℕ, ◌+◌, List, Bool, true, false, Option, Some, None}
+use Rattle.std.specs.Prelude.{◌+◌, Option, Some, None}
 use Rattle.rt_base.specs.declared.name.Names.{Names}
 use Rattle.txn_set.specs.Set.{Set}
 use Rattle.txn_compiler.specs.Refusal.{compile_refusal}
 use Rattle.step_script.specs.Shown.{Shown, set_of}
 use Rattle.update_rates.specs.declared.error.RateError.{RateError}
-use Rattle.update_rates.specs.declared.error.RateError.TheVariants as rating
 use Rattle.update_rates.specs.RatedSet.{rated_set}
 use Rattle.update_rates.specs.Refusal.{rate_refusal}
 use Rattle.scale_margin.specs.declared.barrier.Margin.{Margin}
 use Rattle.scale_margin.specs.Margins.{percent_of, barrier_within}
 use Rattle.refusal_lines.specs.Lines.{rates_of, rate_cause, margin_of}
 use Rattle.command_replies.specs.Replies.{Reply, Written, Refused, Compiling}
-
--- whether an error says that a growth was refused
-abbrev pub is_want : RateError → Bool
-is_want (rating.Compile e) = false
-is_want (rating.NotAnUpdater tx) = false
-is_want (rating.TooTight tx demand) = false
-is_want rating.OutOfMemory = true
 
 -- the declarations have rates, or the line of the first cause why they have none
 abbrev pub Rating : Reply → Names → Option RateError → Reply

@@ -27,13 +27,7 @@ pub record CutShort (Answer : Reply) (taken taken' : Option (List ℕ)) : Type 0
 
 -- by the status that was answered
 abbrev pub AnswersBy : Reply → Option (List ℕ) → Option (List ℕ) → Status → Type 0
-AnswersBy answer taken taken' statuses.Ok = Told answer taken taken' statuses.Ok
-AnswersBy answer taken taken' statuses.Refused = Told answer taken taken' statuses.Refused
-AnswersBy answer taken taken' statuses.Usage = Told answer taken taken' statuses.Usage
 AnswersBy answer taken taken' statuses.ReadFault = Keeps taken taken'
 AnswersBy answer taken taken' statuses.WriteFault = CutShort answer taken taken'
 AnswersBy answer taken taken' statuses.OutOfMemory = Keeps taken taken'
-AnswersBy answer taken taken' statuses.TooLong = Told answer taken taken' statuses.TooLong
-AnswersBy answer taken taken' statuses.NotLegal = Told answer taken taken' statuses.NotLegal
-AnswersBy answer taken taken' statuses.DiskFault = Told answer taken taken' statuses.DiskFault
-AnswersBy answer taken taken' statuses.BadJournal = Told answer taken taken' statuses.BadJournal
+AnswersBy answer taken taken' status = Told answer taken taken' status

@@ -1,6 +1,7 @@
 pub mod Texts
 pub mod Verdicts
 pub mod Replies
+pub mod Accepted
 pub mod Analysis
 pub mod Causes
 pub mod Taken

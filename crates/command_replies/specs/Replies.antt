@@ -1,9 +1,8 @@
 -- The status and the text of a command's answer.
-use Rattle.std.specs.Prelude.{◌≡◌, ℕ, List, Bool, true, false, Option, Some, None}
+use Rattle.std.specs.Prelude.{◌≡◌, ℕ, List, Option, Some, None}
 use Rattle.rt_base.specs.declared.name.Names.{Names}
 use Rattle.txn_compiler.specs.Refusal.{compile_refusal}
 use Rattle.txn_compiler.specs.declared.error.CompileError.{CompileError}
-use Rattle.txn_compiler.specs.declared.error.CompileError.TheVariants as compiling
 use Rattle.set_admission.specs.Admission.{refusal}
 use Rattle.set_admission.specs.declared.error.AdmitError.{AdmitError}
 use Rattle.step_script.specs.Shown.{Shown, set_of}
@@ -27,19 +26,6 @@ Written wanted status text = (status ≡ statuses.Ok) × (text ≡ wanted)
 abbrev pub Refused : List ℕ → Reply
 Refused cause status text = (status ≡ statuses.Refused) × (text ≡ refused_line cause)
 
--- whether an error says that a growth was refused
-abbrev pub is_memory : CompileError → Bool
-is_memory (compiling.TooManyItems count) = false
-is_memory (compiling.TooManyTxns count) = false
-is_memory (compiling.SamePrio a b) = false
-is_memory (compiling.BadTimes tx which) = false
-is_memory (compiling.NoWriter item) = false
-is_memory (compiling.TwoWriters item a b) = false
-is_memory (compiling.CyclicDerivation item) = false
-is_memory compiling.OutOfMemory = true
-is_memory (compiling.TooManySets count) = false
-is_memory (compiling.BadTogether set) = false
-
 -- the declarations compile, or the line of the first rule that they break
 abbrev pub Compiling : Reply → Names → Option CompileError → Reply
 Compiling goes names None status text = goes status text
@@ -49,6 +35,18 @@ Compiling goes names (Some e) status text = Refused (compile_cause names e) stat
 abbrev pub Admitting : Reply → Names → Option AdmitError → Reply
 Admitting goes names None status text = goes status text
 Admitting goes names (Some e) status text = Refused (admit_cause names e) status text
+
+-- no reply
+abbrev pub Never : Reply
+Never status text = ⊥
+
+-- the set of a scenario is refused: it does not compile
+abbrev pub IsUncompiled : Shown → Reply
+IsUncompiled s = Compiling Never s.names (compile_refusal (set_of s))
+
+-- or it does, and is not admitted
+abbrev pub IsRefusal : Shown → Reply
+IsRefusal s = Compiling (Admitting Never s.names (refusal (set_of s))) s.names (compile_refusal (set_of s))
 
 abbrev pub CeilingsReply : Shown → Reply
 CeilingsReply s = Compiling (Written (ceilings_of s.names (set_of s))) s.names (compile_refusal (set_of s))

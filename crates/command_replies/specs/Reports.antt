@@ -16,15 +16,7 @@ pub record Says (goes : LegalReport → Reply) (input : List ℕ) (status : Stat
 -- whether a verdict with this status is that the report is legal
 abbrev pub is_ok : Status → Bool
 is_ok statuses.Ok = true
-is_ok statuses.Refused = false
-is_ok statuses.Usage = false
-is_ok statuses.ReadFault = false
-is_ok statuses.WriteFault = false
-is_ok statuses.OutOfMemory = false
-is_ok statuses.TooLong = false
-is_ok statuses.NotLegal = false
-is_ok statuses.DiskFault = false
-is_ok statuses.BadJournal = false
+is_ok status = false
 
 abbrev pub LegalOr : (LegalReport → Reply) → List ℕ → Bool → Reply
 LegalOr goes input true status text = Says goes input status text

@@ -28,9 +28,4 @@ verdict_text names verdict = verdict_words names verdict ++ codes "\n"
 
 abbrev pub status_of : Verdict → Status
 status_of Legal = statuses.Ok
-status_of (BadLine n) = statuses.NotLegal
-status_of Unfinished = statuses.NotLegal
-status_of (BadSet error) = statuses.NotLegal
-status_of (NotALegalStep n) = statuses.NotLegal
-status_of (WrongLine n) = statuses.NotLegal
-status_of (WrongItem item) = statuses.NotLegal
+status_of verdict = statuses.NotLegal

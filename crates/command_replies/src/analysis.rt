@@ -5,15 +5,15 @@ ghost use Rattle.step_script.specs.Shown.{shown};
 ghost use Rattle.step_script.specs.Scenarios.{IsScenario};
 ghost use Rattle.update_rates.specs.RatedSet.{rated_set};
 ghost use Rattle.update_rates.specs.Refusal.{rate_refusal};
-ghost use Rattle.scale_margin.specs.Margins.{IsMargin};
-ghost use Rattle.command_replies.specs.Analysis.{MarginReply, RatesReply, is_want};
+ghost use Rattle.refusal_lines.specs.Lines.{margin_of};
+ghost use Rattle.command_replies.specs.Analysis.{MarginReply, RatesReply, margin_at};
 
-use crate::reply::{Reply, refused_rates, refused_set, written};
-use crate::sets::compiled;
+use crate::accepted::compiled_scenario;
+use crate::reply::{Reply, refused_rates, written};
 use item_model::ItemDecl;
 use refusal_lines::{margin_text, rates_text};
-use rt_base::{List, OutOfMemory, Steps, TogetherDecl};
-use scale_margin::{Margin, margin};
+use rt_base::{List, Names, OutOfMemory, Steps, TogetherDecl};
+use scale_margin::margin;
 use set_admission::AdmittedSet;
 use std::alloc::Global;
 use std::marker::Brand;
@@ -21,15 +21,6 @@ use std::sync::ledger::{Blank, Ledger};
 use step_script::Scenario;
 use txn_compiler::{CompiledSet, TxnDecl, kept_as_declared};
 use update_rates::{RateError, plan_rates};
-
-fn wants_memory(error: RateError) -> bool
-    ensures { result ≡ is_want error }
-{
-    match error {
-        RateError::OutOfMemory => true,
-        _ => false,
-    }
-}
 
 // The admitted set of declarations with the rates of their updaters, or the first cause why there is none.
 fn rated(
@@ -51,13 +42,10 @@ fn rated(
         together.into_vec(),
     ) {
         Ok(set) => Ok(Ok(set)),
-        Err(error) => {
-            if wants_memory(error) {
-                Err(OutOfMemory)
-            } else {
-                Ok(Err(error))
-            }
-        }
+        Err(error) => match error {
+            RateError::OutOfMemory => Err(OutOfMemory),
+            _ => Ok(Err(error)),
+        },
     }
 }
 
@@ -77,25 +65,40 @@ pub fn rates(alloc: Global, scenario: Scenario) -> Result<Reply, OutOfMemory>
     } = scenario;
     drop(scripts);
     drop(releases);
-    match rated(alloc, items, txns, together)? {
-        Ok(set) => Ok(written(rates_text(alloc, &names, &set)?)),
-        Err(error) => refused_rates(alloc, &names, error),
+    match rated(alloc, items, txns, together) {
+        Ok(Ok(set)) => {
+            let text = rates_text(alloc, &names, &set);
+            drop(set);
+            drop(names);
+            Ok(written(text?))
+        }
+        Ok(Err(error)) => {
+            let reply = refused_rates(alloc, &names, error);
+            drop(names);
+            reply
+        }
+        Err(OutOfMemory) => {
+            drop(names);
+            Err(OutOfMemory)
+        }
     }
 }
 
-// The margin of a set. The looks of the search are counted by a counter of its own.
-fn margin_of<L: Ledger>(
+// The text of the margin of a set. The looks of the search are counted by a counter of its own.
+fn margin_lines<L: Ledger>(
     alloc: Global,
+    names: &Names,
     set: &CompiledSet,
     blank: Blank,
-) -> Result<Margin, OutOfMemory>
+) -> Result<Vec<u8>, OutOfMemory>
     requires name { blank.name ≡ L.name }
     requires parts { blank.parts ≡ L.parts }
     requires one_part { blank.parts ≡ 1 }
-    ensures { IfOk result (IsMargin set.now) }
+    ensures { IfOk result (λ text. text.items ≡ margin_of names.now (margin_at set.now)) }
 {
     let mut steps = Steps::<L>::start(blank);
-    margin(alloc, set, &mut steps)
+    let margin = margin(alloc, set, &mut steps)?;
+    margin_text(alloc, names, margin)
 }
 
 /// The reply of `margin` to a scenario.
@@ -103,21 +106,12 @@ pub fn margins(alloc: Global, scenario: Scenario) -> Result<Reply, OutOfMemory>
     requires { IsScenario (shown scenario) }
     ensures { IfOk result (λ r. MarginReply (shown scenario) r.status r.text.items) }
 {
-    let Scenario {
-        names,
-        items,
-        txns,
-        together,
-        scripts,
-        releases,
-        room: _,
-    } = scenario;
-    drop(scripts);
-    drop(releases);
-    let set = match compiled(alloc, items, txns, together)? {
-        Ok(set) => set,
-        Err(error) => return refused_set(alloc, &names, error),
-    };
-    let margin = margin_of::<Brand>(alloc, &set, Blank::new(1))?;
-    Ok(written(margin_text(alloc, &names, margin)?))
+    match compiled_scenario(alloc, scenario)? {
+        Ok(accepted) => {
+            let text = margin_lines::<Brand>(alloc, &accepted.names, &accepted.set, Blank::new(1));
+            drop(accepted);
+            Ok(written(text?))
+        }
+        Err(reply) => Ok(reply),
+    }
 }

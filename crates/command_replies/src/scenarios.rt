@@ -19,8 +19,8 @@ use step_script::Scenario;
 /// The most bytes of a scenario.
 pub const SCENARIO_LIMIT: usize = 4_194_304;
 
-// The names that a text's forms declare, for the line of a refusal.
-fn names(alloc: Global, input: &[u8]) -> Result<Names, OutOfMemory>
+/// The names that a text's forms declare, for the line of a refusal.
+pub fn declared_names(alloc: Global, input: &[u8]) -> Result<Names, OutOfMemory>
     requires { length input.now ≤ SCENARIO_LIMIT }
     ensures { IfOk result (λ names. names ≡ names_in (data_of input.now)) }
 {
@@ -69,7 +69,7 @@ fn judged(alloc: Global, input: &[u8]) -> Result<Result<Scenario, Reply>, OutOfM
         Ok(scenario) => Ok(Ok(scenario)),
         Err(ScenarioError::OutOfMemory) => Err(OutOfMemory),
         Err(error) => {
-            let names = names(alloc, input)?;
+            let names = declared_names(alloc, input)?;
             Ok(Err(refused_scenario(alloc, &names, error)?))
         }
     }

@@ -5,9 +5,10 @@ ghost use Rattle.txn_compiler.specs.Refusal.{compile_refusal};
 ghost use Rattle.set_admission.specs.Admission.{refusal};
 ghost use Rattle.step_script.specs.Shown.{shown};
 ghost use Rattle.step_script.specs.Scenarios.{IsScenario};
-ghost use Rattle.command_replies.specs.Replies.{CeilingsReply, AdmitReply, is_memory};
+ghost use Rattle.command_replies.specs.Replies.{CeilingsReply, AdmitReply};
 
-use crate::reply::{Reply, refused_admission, refused_set, written};
+use crate::accepted::{admitted_scenario, compiled_scenario};
+use crate::reply::{Reply, written};
 use item_model::ItemDecl;
 use rt_base::{List, OutOfMemory, TogetherDecl};
 use run_report::{admit_text, ceilings_text};
@@ -36,22 +37,10 @@ pub fn compiled(
         together.into_vec(),
     ) {
         Ok(set) => Ok(Ok(set)),
-        Err(error) => {
-            if wants_memory(error) {
-                Err(OutOfMemory)
-            } else {
-                Ok(Err(error))
-            }
-        }
-    }
-}
-
-fn wants_memory(error: CompileError) -> bool
-    ensures { result ≡ is_memory error }
-{
-    match error {
-        CompileError::OutOfMemory => true,
-        _ => false,
+        Err(error) => match error {
+            CompileError::OutOfMemory => Err(OutOfMemory),
+            _ => Ok(Err(error)),
+        },
     }
 }
 
@@ -77,20 +66,13 @@ pub fn ceilings(alloc: Global, scenario: Scenario) -> Result<Reply, OutOfMemory>
     requires { IsScenario (shown scenario) }
     ensures { IfOk result (λ r. CeilingsReply (shown scenario) r.status r.text.items) }
 {
-    let Scenario {
-        names,
-        items,
-        txns,
-        together,
-        scripts,
-        releases,
-        room: _,
-    } = scenario;
-    drop(scripts);
-    drop(releases);
-    match compiled(alloc, items, txns, together)? {
-        Ok(set) => Ok(written(ceilings_text(alloc, &names, &set)?)),
-        Err(error) => refused_set(alloc, &names, error),
+    match compiled_scenario(alloc, scenario)? {
+        Ok(accepted) => {
+            let text = ceilings_text(alloc, &accepted.names, &accepted.set);
+            drop(accepted);
+            Ok(written(text?))
+        }
+        Err(reply) => Ok(reply),
     }
 }
 
@@ -99,23 +81,12 @@ pub fn bounds(alloc: Global, scenario: Scenario) -> Result<Reply, OutOfMemory>
     requires { IsScenario (shown scenario) }
     ensures { IfOk result (λ r. AdmitReply (shown scenario) r.status r.text.items) }
 {
-    let Scenario {
-        names,
-        items,
-        txns,
-        together,
-        scripts,
-        releases,
-        room: _,
-    } = scenario;
-    drop(scripts);
-    drop(releases);
-    let set = match compiled(alloc, items, txns, together)? {
-        Ok(set) => set,
-        Err(error) => return refused_set(alloc, &names, error),
-    };
-    match admitted(alloc, set)? {
-        Ok(set) => Ok(written(admit_text(alloc, &names, &set)?)),
-        Err(error) => refused_admission(alloc, &names, error),
+    match admitted_scenario(alloc, scenario)? {
+        Ok(accepted) => {
+            let text = admit_text(alloc, &accepted.names, &accepted.set);
+            drop(accepted);
+            Ok(written(text?))
+        }
+        Err(reply) => Ok(reply),
     }
 }

@@ -6,17 +6,19 @@ use board::Board;
 use lock_core::Core;
 use plain_core::PlainCore;
 use std::alloc::Global;
-use test_sets::{Call, look, make};
+use test_sets::{Call, make, write_look};
 use txn_set::CompiledSet;
 
-/// A core and a plain core of one set.
+/// A core and a plain core of one set, and what the latter said last.
 #[derive(Drop)]
 pub struct Boards {
     core: Core,
     plain: PlainCore,
+    other: String,
 }
 
-fn new_core(alloc: Global, set: &CompiledSet, room: usize) -> Option<Core>
+/// A core of a copy of the set.
+pub fn new_core(alloc: Global, set: &CompiledSet, room: usize) -> Option<Core>
     requires { room ≤ 2 ^ 20 }
 {
     match Core::new(alloc, set.copy(alloc).ok()?, room) {
@@ -28,7 +30,8 @@ fn new_core(alloc: Global, set: &CompiledSet, room: usize) -> Option<Core>
     }
 }
 
-fn new_plain(alloc: Global, set: &CompiledSet, room: usize) -> Option<PlainCore>
+/// A plain core of a copy of the set.
+pub fn new_plain(alloc: Global, set: &CompiledSet, room: usize) -> Option<PlainCore>
     requires { room ≤ 2 ^ 20 }
 {
     match PlainCore::new(alloc, set.copy(alloc).ok()?, room) {
@@ -47,7 +50,11 @@ pub fn boards_of(alloc: Global, set: &CompiledSet, room: usize) -> Option<Boards
     }
     let core = new_core(alloc, set, room)?;
     match new_plain(alloc, set, room) {
-        Some(plain) => Some(Boards { core, plain }),
+        Some(plain) => Some(Boards {
+            core,
+            plain,
+            other: String::new(alloc),
+        }),
         None => {
             drop(core);
             None
@@ -55,95 +62,110 @@ pub fn boards_of(alloc: Global, set: &CompiledSet, room: usize) -> Option<Boards
     }
 }
 
-// What both answered, once where it is the same.
-fn both(alloc: Global, one: String, other: String) -> Option<String> {
-    if one.as_str() == other.as_str() {
-        Some(one)
+// Adds what a plain core said, where the core said something else.
+fn add_other(said: &mut String, other: &str) -> Option<()> {
+    if said.as_str() == other {
+        Some(())
     } else {
-        format!(in alloc; "{one}, and a plain core: {other}").ok()
+        write!(said, ", and a plain core: {other}").ok()
     }
 }
 
-// What a board says to a call.
-fn said<B: Board>(alloc: Global, board: &mut B, call: Call) -> Option<String> {
-    let said = make(board, call);
-    format!(in alloc; "{said:?}").ok()
+// Writes what a board says to a call.
+fn write_call<B: Board>(board: &mut B, call: Call, said: &mut String) -> Option<()> {
+    let answer = make(board, call);
+    write!(said, "{answer:?}").ok()
 }
 
-/// What both say to a call.
-pub fn call(alloc: Global, boards: &mut Boards, call: Call) -> Option<String> {
-    both(
-        alloc,
-        said(alloc, &mut boards.core, call)?,
-        said(alloc, &mut boards.plain, call)?,
-    )
-}
-
-// So many entries at most, drained.
-fn drained<B: Board>(alloc: Global, board: &mut B, most: usize) -> Option<String> {
+// Drains so many entries at most, and writes them.
+fn write_drained<B: Board>(
+    alloc: Global,
+    board: &mut B,
+    most: usize,
+    said: &mut String,
+) -> Option<()> {
     let mut into = Vec::with_capacity(alloc, 16).ok()?;
     let count = board.drain(most, &mut into);
     let entries = into.as_slice();
-    format!(in alloc; "{count} {entries:?}").ok()
+    write!(said, "{count} {entries:?}").ok()
 }
 
-/// So many entries at most, drained from both.
-pub fn drain(alloc: Global, boards: &mut Boards, most: usize) -> Option<String> {
-    both(
-        alloc,
-        drained(alloc, &mut boards.core, most)?,
-        drained(alloc, &mut boards.plain, most)?,
-    )
-}
-
-// How many entries a board kept, and how many once it has let go of them.
-fn discarded<B: Board>(alloc: Global, board: &mut B) -> Option<String> {
+// Lets a board let go of its entries, and writes how many it kept before and after.
+fn write_discarded<B: Board>(board: &mut B, said: &mut String) -> Option<()> {
     let kept = board.entries().len();
     board.discard();
     let left = board.entries().len();
-    format!(in alloc; "{kept}, then {left}").ok()
+    write!(said, "{kept}, then {left}").ok()
 }
 
-/// How many entries both kept, and how many once they have let go of them.
-pub fn discard(alloc: Global, boards: &mut Boards) -> Option<String> {
-    both(
-        alloc,
-        discarded(alloc, &mut boards.core)?,
-        discarded(alloc, &mut boards.plain)?,
-    )
-}
-
-/// What both show.
-pub fn look_at(alloc: Global, boards: &Boards) -> Option<String> {
-    both(
-        alloc,
-        look(alloc, &boards.core)?,
-        look(alloc, &boards.plain)?,
-    )
-}
-
-// The items of a board, and how many entries it handed out.
-fn parts<B: Board>(alloc: Global, board: B) -> Option<String> {
+// Writes the items of a board, and how many entries it handed out.
+fn write_parts<B: Board>(board: B, said: &mut String) -> Option<()> {
     let (items, entries) = board.into_parts();
-    let (items, count) = (items.as_slice(), entries.len());
-    format!(in alloc; "{count} entries, {items:?}").ok()
+    let count = entries.len();
+    drop(entries);
+    let written = write!(said, "{count} entries, {:?}", items.as_slice());
+    drop(items);
+    written.ok()
 }
 
-/// The items of both, and how many entries they handed out.
-pub fn take_apart(alloc: Global, boards: Boards) -> Option<String> {
-    let Boards { core, plain } = boards;
-    let (one, other) = (parts(alloc, core), parts(alloc, plain));
-    both(alloc, one?, other?)
+impl Boards {
+    /// Writes what both say to a call, once where it is the same, as all that follows.
+    pub fn call(&mut self, call: Call, said: &mut String) -> Option<()> {
+        self.other.clear();
+        write_call(&mut self.core, call, said)?;
+        write_call(&mut self.plain, call, &mut self.other)?;
+        add_other(said, self.other.as_str())
+    }
+
+    /// Drains so many entries at most from both, and writes them.
+    pub fn drain(&mut self, alloc: Global, most: usize, said: &mut String) -> Option<()> {
+        self.other.clear();
+        write_drained(alloc, &mut self.core, most, said)?;
+        write_drained(alloc, &mut self.plain, most, &mut self.other)?;
+        add_other(said, self.other.as_str())
+    }
+
+    /// Writes how many entries both kept, and how many once they have let go of them.
+    pub fn discard(&mut self, said: &mut String) -> Option<()> {
+        self.other.clear();
+        write_discarded(&mut self.core, said)?;
+        write_discarded(&mut self.plain, &mut self.other)?;
+        add_other(said, self.other.as_str())
+    }
+
+    /// Writes what both show.
+    pub fn look(&mut self, said: &mut String) -> Option<()> {
+        self.other.clear();
+        write_look(said, &self.core).ok()?;
+        write_look(&mut self.other, &self.plain).ok()?;
+        add_other(said, self.other.as_str())
+    }
 }
 
-/// Whether new boards of the set with this room answer alike, driven from a seed. The kinds of their answers are added.
+/// Writes the items of both, and how many entries they handed out.
+pub fn take_apart(boards: Boards, said: &mut String) -> Option<()> {
+    let Boards {
+        core,
+        plain,
+        mut other,
+    } = boards;
+    other.clear();
+    let (one, two) = (write_parts(core, said), write_parts(plain, &mut other));
+    let added = add_other(said, other.as_str());
+    drop(other);
+    one.and(two).and(added)
+}
+
+/// Writes whether new boards of the set with this room answer alike, driven from a seed. The kinds of their answers are added.
 pub fn compare(
     alloc: Global,
     set: &CompiledSet,
     room: usize,
     seed: u64,
     kinds: &mut Kinds,
-) -> Option<String> {
-    let Boards { core, plain } = boards_of(alloc, set, room)?;
-    compared(alloc, core, plain, seed, kinds)
+    said: &mut String,
+) -> Option<()> {
+    let Boards { core, plain, other } = boards_of(alloc, set, room)?;
+    drop(other);
+    compared(alloc, core, plain, seed, kinds, said)
 }

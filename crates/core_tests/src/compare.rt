@@ -6,7 +6,7 @@ use rt_base::{ItemId, JobId, Op, Tick, TxId, Value};
 use std::alloc::Global;
 use std::collections::BTreeSet;
 use step_journal::Entry;
-use test_sets::{Call, Said, look, make};
+use test_sets::{Call, Said, make, write_look};
 
 // A place in a list of `count`, or 0 where it has none.
 fn place(dice: &mut Pcg32, count: usize) -> usize {
@@ -84,115 +84,153 @@ fn some_call<B: Board>(board: &B, dice: &mut Pcg32) -> Call {
 /// The kinds of answers: what was said, without numbers.
 pub type Kinds = BTreeSet<String>;
 
-// Notes what was said, without its numbers.
-fn note_kind(alloc: Global, said: Said, kinds: &mut Kinds) -> Option<()> {
-    let text = format!(in alloc; "{said:?}").ok()?;
-    let kind = text.chars().filter(|c| !c.is_ascii_digit()).collect(alloc);
-    let _ = kinds.insert(kind.ok()?).ok()?;
-    Some(())
+// Places for what two boards tell, and for what they hand out.
+#[derive(Drop)]
+struct Places {
+    one: String,
+    other: String,
+    drained: Vec<Entry>,
+    others: Vec<Entry>,
 }
 
-// One call on both boards: whether they answer alike, and are alike then.
-fn turn<A: Board, B: Board>(
-    alloc: Global,
-    a: &mut A,
-    b: &mut B,
-    dice: &mut Pcg32,
-    kinds: &mut Kinds,
-) -> Option<bool> {
-    let call = some_call(a, dice);
-    let said = make(a, call);
-    let same = make(b, call) == said;
-    note_kind(alloc, said, kinds)?;
-    Some(same && are_alike(alloc, a, b)?)
-}
-
-// Whether the accessors of two boards answer alike.
-fn are_alike<A: Board, B: Board>(alloc: Global, a: &A, b: &B) -> Option<bool> {
-    let (one, other) = (look(alloc, a)?, look(alloc, b)?);
-    Some(a.entries() == b.entries() && one.as_str() == other.as_str())
-}
-
-// Whether both boards hand the same entries out.
-fn drain_same<A: Board, B: Board>(
-    alloc: Global,
-    a: &mut A,
-    b: &mut B,
-    most: usize,
-) -> Option<bool> {
-    let mut one = Vec::with_capacity(alloc, 16).ok()?;
-    let mut other: Vec<Entry> = Vec::with_capacity(alloc, 16).ok()?;
-    let same = a.drain(most, &mut one) == b.drain(most, &mut other);
-    Some(same && one.as_slice() == other.as_slice())
-}
-
-// Whether both boards hand the same entries out, and are alike then.
-fn drain_alike<A: Board, B: Board>(
-    alloc: Global,
-    a: &mut A,
-    b: &mut B,
-    most: usize,
-) -> Option<bool> {
-    Some(drain_same(alloc, a, b, most)? && are_alike(alloc, a, b)?)
-}
-
-// Both boards let go of all entries: whether they are alike then.
-fn discard_alike<A: Board, B: Board>(alloc: Global, a: &mut A, b: &mut B) -> Option<bool> {
-    a.discard();
-    b.discard();
-    are_alike(alloc, a, b)
-}
-
-// Now and then both boards hand out entries, or let go of all: whether they were the same.
-fn sometimes_drain<A: Board, B: Board>(
-    alloc: Global,
-    a: &mut A,
-    b: &mut B,
-    dice: &mut Pcg32,
-) -> Option<bool> {
-    if dice.random_range(0..12u64) != 0 {
-        return Some(true);
+impl Places {
+    fn new(alloc: Global) -> Option<Places> {
+        let drained = Vec::with_capacity(alloc, 16).ok()?;
+        let others = Vec::with_capacity(alloc, 16).ok()?;
+        Some(Places {
+            one: String::new(alloc),
+            other: String::new(alloc),
+            drained,
+            others,
+        })
     }
-    match dice.random_range(0..16usize) {
-        0 => discard_alike(alloc, a, b),
-        most => drain_alike(alloc, a, b, most),
+
+    // Whether the accessors of two boards answer alike.
+    fn are_alike<A: Board, B: Board>(&mut self, a: &A, b: &B) -> Option<bool> {
+        self.one.clear();
+        self.other.clear();
+        write_look(&mut self.one, a).ok()?;
+        write_look(&mut self.other, b).ok()?;
+        Some(a.entries() == b.entries() && self.one.as_str() == self.other.as_str())
+    }
+
+    // Whether both boards hand the same entries out, and are alike then.
+    fn drain_alike<A: Board, B: Board>(
+        &mut self,
+        a: &mut A,
+        b: &mut B,
+        most: usize,
+    ) -> Option<bool> {
+        self.drained.clear();
+        self.others.clear();
+        let same = a.drain(most, &mut self.drained) == b.drain(most, &mut self.others);
+        let same = same && self.drained.as_slice() == self.others.as_slice();
+        Some(same && self.are_alike(a, b)?)
+    }
+
+    // Now and then both boards hand out entries, or let go of all: whether they are alike then.
+    fn sometimes_drain<A: Board, B: Board>(
+        &mut self,
+        a: &mut A,
+        b: &mut B,
+        dice: &mut Pcg32,
+    ) -> Option<bool> {
+        if dice.random_range(0..12u64) != 0 {
+            return Some(true);
+        }
+        match dice.random_range(0..16usize) {
+            0 => {
+                a.discard();
+                b.discard();
+                self.are_alike(a, b)
+            }
+            most => self.drain_alike(a, b, most),
+        }
+    }
+
+    // Notes what was said, without its numbers.
+    fn note_kind(&mut self, alloc: Global, said: Said, kinds: &mut Kinds) -> Option<()> {
+        self.one.clear();
+        write!(self.one, "{said:?}").ok()?;
+        let letters = self.one.as_str().chars().filter(|c| !c.is_ascii_digit());
+        let kind: String = letters.collect(alloc).ok()?;
+        let _ = kinds.insert(kind).ok()?;
+        Some(())
+    }
+
+    // One call on both boards: whether they answer alike, and are alike then.
+    fn turn<A: Board, B: Board>(
+        &mut self,
+        alloc: Global,
+        a: &mut A,
+        b: &mut B,
+        dice: &mut Pcg32,
+        kinds: &mut Kinds,
+    ) -> Option<bool> {
+        let call = some_call(a, dice);
+        let said = make(a, call);
+        let same = make(b, call) == said;
+        self.note_kind(alloc, said, kinds)?;
+        Some(same && self.are_alike(a, b)?)
+    }
+
+    // So many turns of both boards at most. How many were alike.
+    fn turns<A: Board, B: Board>(
+        &mut self,
+        alloc: Global,
+        a: &mut A,
+        b: &mut B,
+        seed: u64,
+        kinds: &mut Kinds,
+    ) -> Option<u32> {
+        let mut dice = Pcg32::new(seed, 1);
+        for i in 0..3000 {
+            if !self.sometimes_drain(a, b, &mut dice)?
+                || !self.turn(alloc, a, b, &mut dice, kinds)?
+            {
+                return Some(i);
+            }
+        }
+        Some(3000)
     }
 }
 
-// So many turns of both boards at most. How many were alike.
-fn turns<A: Board, B: Board>(
+// How many turns of two boards were alike.
+fn alike<A: Board, B: Board>(
     alloc: Global,
     a: &mut A,
     b: &mut B,
     seed: u64,
     kinds: &mut Kinds,
 ) -> Option<u32> {
-    let mut dice = Pcg32::new(seed, 1);
-    for i in 0..3000 {
-        if !sometimes_drain(alloc, a, b, &mut dice)? || !turn(alloc, a, b, &mut dice, kinds)? {
-            return Some(i);
-        }
-    }
-    Some(3000)
+    let mut places = Places::new(alloc)?;
+    let count = places.turns(alloc, a, b, seed, kinds);
+    drop(places);
+    count
 }
 
 // Whether two boards come to the same items and hand out the same entries.
 fn end_alike<A: Board, B: Board>(a: A, b: B) -> bool {
     let (items, entries) = a.into_parts();
     let (other_items, other_entries) = b.into_parts();
-    items.as_slice() == other_items.as_slice() && entries.as_slice() == other_entries.as_slice()
+    let same = items.as_slice() == other_items.as_slice();
+    drop(items);
+    drop(other_items);
+    same && entries.as_slice() == other_entries.as_slice()
 }
 
-/// Drives two boards up to 3,000 turns, and takes them apart: how many turns were alike, and whether they came to the same
-/// items and hand out the same entries.
+/// Drives two boards up to 3,000 turns, takes them apart, and writes how many turns were alike, and whether they came to the
+/// same items and hand out the same entries.
 pub fn compared<A: Board + Drop, B: Board + Drop>(
     alloc: Global,
     mut a: A,
     mut b: B,
     seed: u64,
     kinds: &mut Kinds,
-) -> Option<String> {
-    let count = turns(alloc, &mut a, &mut b, seed, kinds)?;
+    said: &mut String,
+) -> Option<()> {
+    let count = alike(alloc, &mut a, &mut b, seed, kinds);
     let same = end_alike(a, b);
-    format!(in alloc; "{count} turns alike, the parts {same}").ok()
+    let count = count?;
+    write!(said, "{count} turns alike, the parts {same}").ok()
 }

@@ -2,6 +2,7 @@
 ghost use Rattle.std.specs.Prelude.{◌≤◌, length, IfOk};
 ghost use Rattle.age_bounds.specs.Rungs.{IsRung, AreRungs};
 
+use crate::words::{numbers, tell};
 use age_bounds::{AgeRow, ages};
 use rt_base::{List, OutOfMemory, Tick};
 use std::alloc::Global;
@@ -38,12 +39,13 @@ fn ladder_ages(alloc: Global, bases: &[Tick]) -> Result<Vec<Tick>, OutOfMemory>
     ages(alloc, &rows)
 }
 
-/// The ages along a ladder with these bases, 256 at most.
-pub fn ages_text(alloc: Global, bases: &[Tick]) -> Option<String> {
+/// Writes the ages along a ladder with the bases that a text tells, 256 at most.
+pub fn write_ages(alloc: Global, text: &str, said: &mut String) -> Option<()> {
+    let bases = numbers(alloc, text)?;
     if bases.len() > 256 {
         return None;
     }
-    let found = ladder_ages(alloc, bases).ok()?;
-    let found = found.as_slice();
-    format!(in alloc; "{found:?}").ok()
+    let found = ladder_ages(alloc, &bases);
+    drop(bases);
+    tell(said, found.ok()?)
 }

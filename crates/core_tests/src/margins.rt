@@ -47,9 +47,9 @@ fn margins<L: Ledger>(
     Ok((found, tried_plainly(alloc, set, &mut steps)?))
 }
 
-/// The margin of a set, what bars the next percentage, and whether a plain try finds the same.
-pub fn margin_text(alloc: Global, set: &CompiledSet) -> Option<String> {
+/// Writes the margin of a set, what bars the next percentage, and whether a plain try finds the same.
+pub fn write_margin(alloc: Global, set: &CompiledSet, said: &mut String) -> Option<()> {
     let (found, tried) = margins::<Brand>(alloc, set, Blank::new(1)).ok()?;
     let same = found == tried;
-    format!(in alloc; "{found:?}, a plain try finds it {same}").ok()
+    write!(said, "{found:?}, a plain try finds it {same}").ok()
 }

@@ -1,6 +1,7 @@
 //! The priorities that a set is assigned, or the level that nobody can have.
 ghost use Rattle.std.specs.Prelude.{◌≡◌};
 
+use crate::words::tell;
 use rt_base::{OutOfMemory, Prio, Steps};
 use std::alloc::Global;
 use std::marker::Brand;
@@ -21,21 +22,24 @@ fn assigned<L: Ledger>(
     assign(alloc, set, &mut steps)
 }
 
-// What each of those that are left asks within its limit.
-fn refusal_text(alloc: Global, refusal: &NoAssignment) -> Option<String> {
+// Writes what each of those that are left asks within its limit.
+fn write_refusal(refusal: &NoAssignment, said: &mut String) -> Option<()> {
     let level = refusal.level;
-    let mut text = format!(in alloc; "level {level}").ok()?;
+    write!(said, "level {level}").ok()?;
     for row in &refusal.unplaced {
-        let asks = format!(in alloc; ", {} asks {} of {}", row.tx.0, row.demand, row.limit).ok()?;
-        text.push_str(asks.as_str()).ok()?;
+        write!(said, ", {} asks {} of {}", row.tx.0, row.demand, row.limit).ok()?;
     }
-    Some(text)
+    Some(())
 }
 
-/// The priorities in list order, or the level and what each transaction that is left asks there.
-pub fn priorities_text(alloc: Global, set: &CompiledSet) -> Option<String> {
+/// Writes the priorities in list order, or the level and what each transaction that is left asks there.
+pub fn write_priorities(alloc: Global, set: &CompiledSet, said: &mut String) -> Option<()> {
     match assigned::<Brand>(alloc, set, Blank::new(1)).ok()? {
-        Ok(prios) => format!(in alloc; "{prios:?}").ok(),
-        Err(refusal) => refusal_text(alloc, &refusal),
+        Ok(prios) => tell(said, prios),
+        Err(refusal) => {
+            let written = write_refusal(&refusal, said);
+            drop(refusal);
+            written
+        }
     }
 }

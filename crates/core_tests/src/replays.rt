@@ -27,33 +27,29 @@ fn are_told(set: &CompiledSet, entries: &[Entry], rows: &[JobRow]) -> bool
     true
 }
 
-fn push_row(alloc: Global, text: &mut String, row: &JobRow) -> Option<()> {
-    let line = format!(in alloc; "\n    {row:?}").ok()?;
-    text.push_str(line.as_str()).ok()
-}
-
-// The items and the rows of the jobs, and whether the entries alone tell the delays.
-fn rows_text(alloc: Global, told: bool, items: &[Stored], rows: &[JobRow]) -> Option<String> {
-    let mut text = format!(in alloc; "delays told {told}, {items:?}").ok()?;
+// Writes the items and the rows of the jobs, and whether the entries alone tell the delays.
+fn write_rows(told: bool, items: &[Stored], rows: &[JobRow], said: &mut String) -> Option<()> {
+    write!(said, "delays told {told}, {items:?}").ok()?;
     for row in rows {
-        push_row(alloc, &mut text, row)?;
+        write!(said, "\n    {row:?}").ok()?;
     }
-    Some(text)
+    Some(())
 }
 
-fn refusal_text(alloc: Global, error: ReplayError) -> Option<String> {
-    format!(in alloc; "{error:?}").ok()
-}
-
-/// The items and the rows of the jobs of a history, or why it is none.
-pub fn replayed(alloc: Global, set: &CompiledSet, entries: &[Entry]) -> Option<String> {
+/// Writes the items and the rows of the jobs of a history, or why it is none.
+pub fn write_replayed(
+    alloc: Global,
+    set: &CompiledSet,
+    entries: &[Entry],
+    said: &mut String,
+) -> Option<()> {
     match replay(alloc, set, entries) {
         Ok(result) => {
             let told = are_told(set, entries, result.jobs.as_slice());
-            let text = rows_text(alloc, told, result.items.as_slice(), result.jobs.as_slice());
+            let written = write_rows(told, result.items.as_slice(), result.jobs.as_slice(), said);
             drop(result);
-            text
+            written
         }
-        Err(error) => refusal_text(alloc, error),
+        Err(error) => write!(said, "{error:?}").ok(),
     }
 }

@@ -3,7 +3,7 @@ ghost use Rattle.std.specs.Prelude.{IfOk, IfSome};
 ghost use Rattle.std.specs.List.{All};
 ghost use Rattle.response_test.specs.Response.{HasGoodRanges};
 
-use crate::words::number;
+use crate::words::{number, tell};
 use response_test::{RespRow, responses};
 use rt_base::OutOfMemory;
 use std::alloc::Global;
@@ -40,14 +40,13 @@ fn rows(alloc: Global, text: &str) -> Result<Vec<RespRow>, OutOfMemory>
     Ok(rows)
 }
 
-/// The responses of the rows between commas, 64 at most.
-pub fn responses_text(alloc: Global, text: &str) -> Option<String> {
-    let Ok(rows) = rows(alloc, text) else {
-        return None;
-    };
+/// Writes the responses of the rows between commas, 64 at most.
+pub fn write_responses(alloc: Global, text: &str, said: &mut String) -> Option<()> {
+    let rows = rows(alloc, text).ok()?;
     if rows.len() > 64 {
         return None;
     }
     let found = responses(alloc, rows.as_slice());
-    format!(in alloc; "{found:?}").ok()
+    drop(rows);
+    tell(said, found)
 }

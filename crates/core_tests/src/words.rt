@@ -1,12 +1,26 @@
-//! Numbers and declarations from words.
+//! Numbers and declarations from words, and values as text.
 use item_model::{ItemDecl, ItemKind};
-use rt_base::{ItemId, List, Prio, Tick, TogetherDecl};
+use rt_base::{ItemId, List, TogetherDecl};
 use std::alloc::Global;
+use std::fmt::Debug;
+use test_sets::plain_txn;
 use txn_set::TxnDecl;
+
+/// Writes a value by `Debug`, and lets go of it.
+pub fn tell<T: Debug + Drop>(said: &mut String, value: T) -> Option<()> {
+    let written = write!(said, "{value:?}");
+    drop(value);
+    written.ok()
+}
 
 /// A number.
 pub fn number(word: &str) -> Option<u64> {
     word.parse::<u64>().ok()
+}
+
+/// A size.
+pub fn size(word: &str) -> Option<usize> {
+    word.parse::<usize>().ok()
 }
 
 /// The numbers between commas; `-` is none of them.
@@ -44,40 +58,29 @@ pub fn item(text: &str) -> Option<ItemDecl> {
     Some(ItemDecl { kind, initial: 0 })
 }
 
-/// A transaction of this priority, period and deadline, with no offset.
-pub fn plain_txn(alloc: Global, prio: Prio, period: Tick) -> TxnDecl {
-    TxnDecl {
-        prio,
-        period,
-        offset: 0,
-        deadline: period,
-        steps: 4,
-        quiet: 0,
-        reads: List::of(Vec::new(alloc)),
-        writes: List::of(Vec::new(alloc)),
-    }
-}
-
-/// A transaction: its priority, its period, its steps, its quiet steps, and the places of what it reads and writes.
+/// A transaction: its priority, its period, its steps, its quiet steps, and the places of what it reads and writes. Its
+/// deadline is at its period.
 pub fn txn(alloc: Global, text: &str) -> Option<TxnDecl> {
-    let words: Vec<&str> = text.split(' ').collect(alloc).ok()?;
-    let [prio, period, steps, quiet, reads, writes] = words.as_slice() else {
-        return None;
-    };
+    let (prio, rest) = text.split_once(' ')?;
+    let (period, rest) = rest.split_once(' ')?;
+    let (steps, rest) = rest.split_once(' ')?;
+    let (quiet, rest) = rest.split_once(' ')?;
+    let (reads, writes) = rest.split_once(' ')?;
     let prio = prio.parse::<u32>().ok()?;
-    let mut txn = plain_txn(alloc, prio, number(period)?);
-    txn.steps = number(steps)?;
-    txn.quiet = number(quiet)?;
-    txn.reads = places(alloc, reads)?;
-    txn.writes = places(alloc, writes)?;
+    let (period, steps, quiet) = (number(period)?, number(steps)?, number(quiet)?);
+    let reads = places(alloc, reads)?;
+    let writes = places(alloc, writes)?;
+    let mut txn = plain_txn(prio, period, steps, reads, writes);
+    txn.quiet = quiet;
     Some(txn)
 }
 
 /// A relative set: its interval and the places of its items.
 pub fn group(alloc: Global, text: &str) -> Option<TogetherDecl> {
     let (within, items) = text.split_once(' ')?;
+    let within = number(within)?;
     Some(TogetherDecl {
         items: places(alloc, items)?,
-        within: number(within)?,
+        within,
     })
 }

@@ -1,129 +1,28 @@
 //! A journal that is stopped within an append by a call of its disk that fails, and taken up again.
-ghost use Rattle.std.specs.Prelude.{◌≤◌};
 ghost use Rattle.durable_tests.specs.Story.{IsStory};
 
-use crate::base::{
-    Handed, LINES, RUN, Ran, Story, bytes_of, disk, is_fault, is_whole, run, story_of,
-};
+use crate::base::{Handed, LINES, RUN, Ran, Story, bytes_of, disk, is_fault, run, story_of};
+use crate::stops::stops;
 use std::alloc::Global;
 use std::test::Fail;
-
-// Whether a run whose disk fails at this call, and then crashes, leaves a journal that the next run makes whole.
-fn is_made_whole(
-    alloc: Global,
-    story: &Story,
-    bytes: &[u8],
-    call: u64,
-    kept: usize,
-) -> Result<bool, Fail>
-    requires story { IsStory story.now.names story.now.set story.now.entries.items }
-    requires call { 6 ≤ call }
-{
-    let disk = disk(alloc, 2000, 100, &[call])?;
-    let Ran {
-        mut disk,
-        taken,
-        error,
-        ..
-    } = run(alloc, story, disk, Handed::Each);
-    let stopped = is_fault(&error) && taken == (call - 6) / 4;
-    drop(error);
-    disk.crash(kept);
-    let again = run(alloc, story, disk, Handed::Each);
-    let found = again.found as u64;
-    let more = found.saturating_sub(taken);
-    let whole = is_whole(&again, bytes);
-    drop(again);
-    Ok(stopped && whole && found >= taken && more <= 1)
-}
-
-// The first call, and how many bytes are kept, with which the journal is not made whole, if there is one. Six calls make the
-// journal, and four add an entry.
-fn first_not_whole(alloc: Global, story: &Story, bytes: &[u8]) -> Result<Option<(u64, usize)>, Fail>
-    requires { IsStory story.now.names story.now.set story.now.entries.items }
-{
-    for call in 6u64..26 {
-        for kept in (0usize..1600).step_by(37) {
-            if !is_made_whole(alloc, story, bytes, call, kept)? {
-                return Ok(Some((call, kept)));
-            }
-        }
-    }
-    Ok(None)
-}
-
-#[test]
-fn stopped_once(rt: HostRuntime) -> Result<(), Fail> {
-    let alloc = rt.alloc();
-    let bytes = bytes_of(alloc, &LINES)?;
-    let story = story_of(alloc, RUN, 5)?;
-    let not_whole = first_not_whole(alloc, &story, &bytes);
-    drop(story);
-    assert_eq!(rt; not_whole?, None);
-    Ok(())
-}
-
-// How a journal stands after two runs that are to be stopped, and one on what is left.
-#[derive(Clone, Copy)]
-enum Stood {
-    // The second run was not stopped.
-    NotStopped,
-    Whole,
-    NotWhole,
-}
-
-// A run that is stopped at the first of these calls, one that is stopped at the second, if it comes to that, and one on what
-// is left then.
-fn stop_twice(
-    alloc: Global,
-    story: &Story,
-    bytes: &[u8],
-    calls: [u64; 2],
-    kept: usize,
-) -> Result<Stood, Fail>
-    requires { IsStory story.now.names story.now.set story.now.entries.items }
-{
-    let disk = disk(alloc, 2000, 200, &calls)?;
-    let Ran {
-        mut disk,
-        error,
-        ..
-    } = run(alloc, story, disk, Handed::Each);
-    drop(error);
-    disk.crash(2000usize.saturating_sub(kept));
-    let Ran {
-        mut disk,
-        taken,
-        error,
-        ..
-    } = run(alloc, story, disk, Handed::Each);
-    let stopped = error.is_some();
-    drop(error);
-    if !stopped {
-        drop(disk);
-        return Ok(Stood::NotStopped);
-    }
-    disk.crash(kept);
-    let again = run(alloc, story, disk, Handed::Each);
-    let whole = is_whole(&again, bytes) && again.found as u64 >= taken.max(2);
-    drop(again);
-    Ok(if whole { Stood::Whole } else { Stood::NotWhole })
-}
 
 // How often the second run was stopped and the journal made whole, and how often it was not made whole. They are stopped
 // within the third append, and then at each call of the second run, its `open` included. That run makes 17 calls, or 14 where
 // the third entry is there: a sync, the header and a place more than it finds entries, and four calls an entry.
-fn stops(alloc: Global, story: &Story, bytes: &[u8]) -> Result<(u64, u64), Fail>
+fn count_stops(alloc: Global, story: &Story, bytes: &[u8]) -> Result<(u64, u64), Fail>
     requires { IsStory story.now.names story.now.set story.now.entries.items }
 {
     let (mut whole, mut not_whole) = (0u64, 0u64);
     for first in 14u64..18 {
         for second in first + 1..first + 20 {
             for kept in [0usize, 769, 770, 800, 1024, 1025, 1030, 2000] {
-                match stop_twice(alloc, story, bytes, [first, second], kept)? {
-                    Stood::NotStopped => {}
-                    Stood::Whole => whole = whole.saturating_add(1),
-                    Stood::NotWhole => not_whole = not_whole.saturating_add(1),
+                let calls = [first, second];
+                let crashes = [2000usize.saturating_sub(kept), kept];
+                let [_, next, last] = stops(alloc, story, bytes, Handed::Each, &calls, crashes)?;
+                if next.is_stopped && last.is_whole && last.found >= next.taken.max(2) {
+                    whole = whole.saturating_add(1);
+                } else if next.is_stopped {
+                    not_whole = not_whole.saturating_add(1);
                 }
             }
         }
@@ -136,9 +35,9 @@ fn stopped_twice(rt: HostRuntime) -> Result<(), Fail> {
     let alloc = rt.alloc();
     let bytes = bytes_of(alloc, &LINES)?;
     let story = story_of(alloc, RUN, 5)?;
-    let stops = stops(alloc, &story, &bytes);
+    let counts = count_stops(alloc, &story, &bytes);
     drop(story);
-    let (whole, not_whole) = stops?;
+    let (whole, not_whole) = counts?;
     assert_eq!(rt; not_whole, 0);
     assert_eq!(rt; whole, 3 * 8 * 17 + 7 * 14 + 17);
     Ok(())

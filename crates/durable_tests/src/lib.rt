@@ -10,3 +10,5 @@ mod crashes;
 mod pieces;
 #[cfg(test)]
 mod refusals;
+#[cfg(test)]
+mod stops;

@@ -5,11 +5,12 @@ use Rattle.std.proofs.Math.Seq.{take-append_seam, drop-append_seam}
 use Rattle.txn_set.specs.Set.{Set}
 use Rattle.step_journal.specs.declared.entry.Entry.{Entry}
 use Rattle.step_journal.specs.History.{IsLegal}
+use Rattle.board.specs.Stories.{IsStory}
 use Rattle.law_histories.specs.Sim.{Body, Workload, plans, plans_from}
 use Rattle.sim_run.specs.Workloads.{workload, AreAccepted}
 use Rattle.sim_run.specs.Handed.{CanAppend, CanTake, IsHanded, IsCut}
-use Rattle.sim_run.proofs.Runs.{begins}
-use Rattle.sim_run.proofs.Handing.{take_rest, take_all, handed_then, cut_then}
+use Rattle.sim_run.proofs.Runs.{begins, nothing_kept}
+use Rattle.sim_run.proofs.Handing.{cut_at, take_rest, take_all, handed_then, cut_then}
 use Rattle.law_runs.specs.Histories.{IsRunSoFar, IsRunOf}
 use Rattle.plant_run.specs.Works.{HasWorked, WasCut, CanGoOn}
 use Rattle.plant_run.specs.Runs.{IsWholeRun, IsStoppedRun, IsShortRun}
@@ -28,6 +29,10 @@ handed_rest got got' entries left rest h = record {
   parts = ap (λ (l : List Entry). l ++ rest) h.parts ∙ append_assoc h.passed left rest;
   grown = h.grown;
 }
+
+-- what a new board handed on of the plans
+pub plans_handed : (set : Set) (room first : ℕ) (before plans kept : List Entry) (got got' : List Entry → Type 0) → IsStory set room first before [] → IsHanded got got' (before ++ plans) kept → IsHanded got got' plans kept
+plans_handed set room first before plans kept got got' is h = subst (λ (l : List Entry). IsHanded got got' (l ++ plans) kept) (nothing_kept set room first before is) h
 
 -- the plans of all releases alone are a run so far
 
@@ -65,17 +70,7 @@ cut_short w own got got' lost' kept legal h none =
 -- where the out stopped
 pub cut_run : (w : Workload) (own : ℕ → ℕ) (got got' lost' : List Entry → Type 0) (history : List Entry) → IsRunSoFar w own history → IsCut got got' lost' history → IsStoppedRun w own got got' lost'
 cut_run w own got got' lost' history so_far k =
-    let parts : history ≡ k.passed ++ (k.piece ++ k.left) = k.parts ∙ append_assoc k.passed k.piece k.left in
-    let first : take (length k.passed) history ≡ k.passed = ap (take (length k.passed)) parts ∙ take-append_seam k.passed (k.piece ++ k.left) in
-    let next : drop (length k.passed) history ≡ k.piece ++ k.left = ap (drop (length k.passed)) parts ∙ drop-append_seam k.passed (k.piece ++ k.left) in
-    record {
-      history = history;
-      so_far = so_far;
-      passed = length k.passed;
-      missed = length k.piece;
-      grown = λ story g. subst (λ (l : List Entry). got' (story ++ l)) (sym first) (k.grown story g);
-      is_lost = subst lost' (sym (ap (take (length k.piece)) next ∙ take-append_seam k.piece k.left)) k.is_lost;
-    }
+    let c = cut_at history k in record { history = history; so_far = so_far; passed = c.passed; missed = c.missed; grown = c.grown; is_lost = c.is_lost }
 
 -- where all was handed on
 whole_run : (w : Workload) (own : ℕ → ℕ) (stands got got' : List Entry → Type 0) (story : List Entry) → IsRunOf w own story → stands story → IsHanded got got' story [] → IsWholeRun w own stands got got'

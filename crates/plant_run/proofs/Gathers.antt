@@ -1,6 +1,8 @@
 -- Seats of members, the last first.
-use Rattle.std.proofs.Common.{◌≡◌, ℕ, ◌+◌, List, [], ◌∷◌, ◌++◌, length, Option, Some, refl, sym, ap, ◌∙◌, subst, arith, append_assoc, append-nil}
+use Rattle.std.proofs.Common.{◌≡◌, ℕ, ◌+◌, List, [], ◌∷◌, ◌++◌, length, vec_len, Vec, Global, Option, Some, refl, sym, ap, ◌∙◌, subst, arith, rules, append_assoc, append-nil}
 use Rattle.std.specs.Option.{option_to_list}
+use Rattle.std.specs.Vec.{with_items}
+use Rattle.std.proofs.lemmas.List.{with_items_is}
 use Rattle.turn_cell.specs.Turn.{total}
 use Rattle.turn_cell.proofs.Sums.{total-append}
 use Rattle.txn_threads.specs.declared.member.Member.{Member}
@@ -42,3 +44,7 @@ pub team_counts : {B Y : Type 0} (ws ws' : List (Worker B Y)) (w : Worker B Y) �
 team_counts ws ws' w e =
     let f = λ (u : Worker _ _). length (team_of u) in
     ap (total f) e ∙ omega (arith, total-append f ws' (w ∷ []))
+
+-- workers that were changed in their place
+pub workers_are : {X : Type 0} (v : Vec X Global) (now us : List X) → now ≡ v.items → length us ≡ length now → (with_items v us).items ≡ us
+workers_are v now us is long = let all : vec_len v ≡ length v.items = search rules in with_items_is v us (long ∙ (ap (λ (l : List _). length l) is ∙ sym all))

@@ -1,5 +1,5 @@
 -- What a plant leaves whose workers ran a workload.
-use Rattle.std.proofs.Common.{◌≡◌, ℕ, zero, suc, ◌+◌, ◌-◌, ◌<◌, ◌≤◌, ◌++◌, List, [], ◌∷◌, length, take, drop, slice_get, slice_index_or, Option, None, Some, All, refl, sym, ap, subst, ◌∙◌, arith, length-append, append-nil}
+use Rattle.std.proofs.Common.{◌≡◌, ℕ, zero, suc, ◌+◌, ◌-◌, ◌<◌, ◌≤◌, ◌++◌, List, [], ◌∷◌, length, take, drop, slice_get, slice_index_or, Option, None, Some, Result, Err, IfErr, All, refl, sym, ap, subst, ◌∙◌, arith, length-append, append-nil}
 use Rattle.std.specs.Option.{option_to_list}
 use Rattle.std.proofs.lemmas.Bool.Decides.{nat_tests}
 use Rattle.std.proofs.lemmas.List.{drop-append-le, drop-drop, take-append-drop}
@@ -28,7 +28,7 @@ use Rattle.txn_threads.specs.declared.member.Worker.{Worker}
 use Rattle.txn_threads.specs.Scripts.{own_outcomes}
 use Rattle.txn_threads.specs.Rising.{AreRising}
 use Rattle.txn_threads.specs.Rounds.{Each}
-use Rattle.txn_threads.specs.Runs.{MayRun, HasRun, IsDone, Operated, GotMore, MayDrain, CollectedTo, StopIs, part}
+use Rattle.txn_threads.specs.Runs.{MayRun, HasRun, IsDone, Operated, GotMore, MayDrain, CollectedTo, StopIs, IfStopped, part}
 use Rattle.txn_threads.proofs.Draining.{part_join, part_none}
 use Rattle.law_runs.specs.Seats.{HaveRun, IsSeatRun, IsDoneSeat}
 use Rattle.law_runs.specs.Histories.{IsRunSoFar, IsRunOf}
@@ -39,8 +39,8 @@ use Rattle.plant_run.specs.Deals.{sits_at, seats_in, jobs_at, IsDealt, AreDealt}
 use Rattle.plant_run.specs.Works.{HasWorked, WasCut, CanGoOn}
 use Rattle.plant_run.proofs.Deals.{snoc_same}
 use Rattle.plant_run.proofs.Gathers.{popped_items}
-use Rattle.plant_run.proofs.Crews.{teams, own_jobs_eager, all_jobs, all_teams, may_run, HasPlayed, all_played, same_counts, same_sizes}
-use Rattle.plant_run.proofs.Sitting.{seat_at, at_one, at_both, each_seat, in_front, in_back, in_teams, seats_total, seats_number, are_seats}
+use Rattle.plant_run.proofs.Crews.{teams, own_jobs_eager, all_jobs, all_teams, may_run, HasPlayed, all_played, same_counts}
+use Rattle.plant_run.proofs.Sitting.{seat_at, at_one, at_both, each_seat, in_front, in_back, in_teams, seats_total, are_seats}
 
 no_tx : (tx : TxId) → None ≡ Some tx → ⊥
 no_tx tx e = cc
@@ -68,7 +68,6 @@ module _ {B Y : Type 0} (gives : Y → ℕ → List Outcome → Op) (bodies : Li
   pub record Left (first : ℕ) (us : List (Worker B Y)) (op : SeatFacts) (seats : List SeatFacts) : Type 0 where
     pub played : Played us
     pub seats_are : seats ≡ seats_in us ++ op ∷ []
-    pub number : length seats ≡ length releases + 1
     pub of : AreOf p seats
     pub run : HaveRun (run_by bodies releases p) own p seats
 
@@ -106,7 +105,6 @@ module _ {B Y : Type 0} (gives : Y → ℕ → List Outcome → Op) (bodies : Li
       record {
         played = played;
         seats_are = seats_are;
-        number = omega (arith, ap (λ (l : List SeatFacts). length l) seats_are, length-append (seats_in us) (op ∷ []), seats_number us, same_sizes gives p ws us ran, dealt.count);
         of = of;
         run = record {
           set_is = refl;
@@ -142,7 +140,7 @@ module _ {B Y : Type 0} (gives : Y → ℕ → List Outcome → Op) (bodies : Li
             omega (arith, d tx is, jobs, all)
 
     -- a run that ended by itself was stopped by the out
-    pub only_stopped : (stands : B → List Entry → Type 0) (set : B → Set) (room firsts : B → ℕ) (kept : B → List Entry) (b : B) → NoRefusal stands set room firsts kept → NeverUnplanned Y stands set room firsts kept
+    only_stopped : (stands : B → List Entry → Type 0) (set : B → Set) (room firsts : B → ℕ) (kept : B → List Entry) (b : B) → NoRefusal stands set room firsts kept → NeverUnplanned Y stands set room firsts kept
         → Closed stands set room firsts kept p b seats → IsObedient (run_by bodies releases p) → ArePlannable (run_by bodies releases p) own
         → (s : RunStop) → StopIs gives p us s → s ≡ Stopped
     only_stopped stands set room firsts kept b law planned closed obeys few Stopped stop = refl
@@ -167,6 +165,15 @@ module _ {B Y : Type 0} (gives : Y → ℕ → List Outcome → Op) (bodies : Li
         (subst (λ (x : List SeatFacts). get_elem? x here.0 ≡ some m.seat) (sym l.seats_are) here.1) ref.own
         (ref.answer ∙ ap (λ (f : Body). step_answer p.set m.seat.seen held p.room job (f job.serial (own_outcomes m.seat.mine job))) body)
         ref.refusal)
+
+    -- and so it says what the out got then
+    pub out_stopped : (stands : B → List Entry → Type 0) (set : B → Set) (room firsts : B → ℕ) (kept : B → List Entry) (b : B) → NoRefusal stands set room firsts kept → NeverUnplanned Y stands set room firsts kept
+        → Closed stands set room firsts kept p b seats → (z : Set) → p.set ≡ z → IsObedient (workload z bodies releases) → ArePlannable (workload z bodies releases) own
+        → (r : Result (Unit {0}) RunStop) (s : RunStop) → r ≡ Err s → IfErr r (λ x. StopIs gives p us x) → (P Q : Type 0) → IfStopped r P Q → P
+    out_stopped stands set room firsts kept b law planned closed z set_is obeys few r s r_is stop P Q got =
+        let only = only_stopped stands set room firsts kept b law planned closed (subst (λ (x : Set). IsObedient (workload x bodies releases)) (sym set_is) obeys)
+        (subst (λ (x : Set). ArePlannable (workload x bodies releases) own) (sym set_is) few) s (subst (λ (x : Result (Unit {0}) RunStop). IfErr x (λ y. StopIs gives p us y)) r_is stop) in
+        subst (λ (x : Result (Unit {0}) RunStop). IfStopped x P Q) (r_is ∙ ap Err only) got
 
 -- what the out got
 
@@ -251,19 +258,18 @@ all_may_run gives bodies releases own p past first ws each a =
     (λ l all. All-weaker (IsDealt gives bodies releases own p.id past first) (MayRun p) (λ m d. may_run gives bodies releases own p past first m each d) l all) (teams ws) a.each)
 
 pub settled : {B Y : Type 0} (gives : Y → ℕ → List Outcome → Op) (bodies : List Body) (releases : List (List ℕ)) (own : ℕ → ℕ) (p : PlantFacts) (set : Set) (first : ℕ)
-    (seats0 seats1 seats2 seats3 seats4 : List SeatFacts) (r : Option SeatFacts) (op op' : SeatFacts) (ws now us ended : List (Worker B Y))
+    (seats0 seats1 : List SeatFacts) (r : Option SeatFacts) (op op' : SeatFacts) (ws now us ended : List (Worker B Y))
     → ((tx : ℕ) → 0 < own tx → ticks_of releases tx ≡ []) → p.set ≡ set → p.start ≡ length (plans_from 0 releases) → length releases ≡ length set.txns
     → seats0 ≡ newcomers p.id (plans_from 0 releases) first (length set.txns) ++ newcomer p.id (plans_from 0 releases) first None ∷ []
     → r ≡ Some op → seats0 ≡ seats1 ++ option_to_list r
     → ((id : TableId) (past : List Entry) (n : ℕ) → seats1 ≡ newcomers id past n (length releases) → AreDealt gives bodies releases own id past n 0 (teams ws))
-    → seats2 ≡ [] → now ≡ ws → Each (λ (w u : Worker B Y). Each (HasRun gives p) w.members.items u.members.items) now us → ended ≡ us
-    → Operated op op' → seats3 ≡ seats2 ++ seats_in ended → seats4 ≡ seats3 ++ op' ∷ []
-    → Left gives bodies releases own p first us op' seats4
-settled gives bodies releases own p set first seats0 seats1 seats2 seats3 seats4 r op op' ws now us ended eager set_is start each is some_is popped dealt none now_is ran ended_is operated gathered pushed =
+    → now ≡ ws → Each (λ (w u : Worker B Y). Each (HasRun gives p) w.members.items u.members.items) now us → ended ≡ us → Operated op op'
+    → Left gives bodies releases own p first us op' (seats_in ended ++ op' ∷ [])
+settled gives bodies releases own p set first seats0 seats1 r op op' ws now us ended eager set_is start each is some_is popped dealt now_is ran ended_is operated =
     let o = opened p.id (plans_from 0 releases) first (length set.txns) (length releases) seats0 seats1 r op (sym each) is some_is popped in
-    left gives bodies releases own p first ws us op op' seats4 eager (each ∙ ap (λ (z : Set). length z.txns) (sym set_is)) start (dealt p.id (plans_from 0 releases) first o.0)
+    left gives bodies releases own p first ws us op op' (seats_in ended ++ op' ∷ []) eager (each ∙ ap (λ (z : Set). length z.txns) (sym set_is)) start (dealt p.id (plans_from 0 releases) first o.0)
     (subst (λ (l : List (Worker _ _)). Each (λ (w u : Worker _ _). Each (HasRun gives p) w.members.items u.members.items) l us) now_is ran) o.1 operated
-    (pushed ∙ ap (λ (l : List SeatFacts). l ++ op' ∷ []) (gathered ∙ (ap (λ (l : List SeatFacts). l ++ seats_in ended) none ∙ ap seats_in ended_is)))
+    (ap (λ (l : List (Worker _ _)). seats_in l ++ op' ∷ []) ended_is)
 
 -- what a closed plant says of its operator's seat
 pub record Ends {Z : Type 0} (firsts : Z → ℕ) (kept : Z → List Entry) (b : Z) (story : List Entry) (first : ℕ) (old op : SeatFacts) : Type 0 where

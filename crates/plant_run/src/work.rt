@@ -10,7 +10,7 @@ ghost use Rattle.plant_run.specs.Works.{HasWorked, WasCut, CanGoOn};
 ghost use Rattle.plant_run.specs.Ready.{IsPlanned, workload_in, own_in};
 
 use crate::deal::Crew;
-use crate::gather::{closed, gather};
+use crate::gather::shut;
 use crate::laws::stories_are;
 use crate::run::Run;
 use board::Board;
@@ -103,9 +103,7 @@ pub(crate) fn work<
     let mut drain = Drain { operator, spare };
     let ran = run_all(rt, &plant, workers.as_mut_slice(), &mut drain, gate, out);
     let Drain { operator, spare: _ } = drain;
-    gather(workers, &mut seats);
-    seats.push_reserved(operator);
-    let board = closed(plant, seats);
+    let board = shut(plant, workers, operator, seats);
     closed_so_far::<B>();
     closed_whole::<B>();
     no_refusal::<B>();

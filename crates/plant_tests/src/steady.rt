@@ -9,6 +9,7 @@ use plain_core::PlainCore;
 use rt_base::{List, Op, OutOfMemory, Outcome, Prio, Tick};
 use std::alloc::Global;
 use step_script::Body;
+use test_sets::plain_txn;
 use txn_set::{CompiledSet, TxnDecl};
 
 const LATEST: Tick = 1_099_511_627_776;
@@ -39,16 +40,8 @@ impl Body for Steady {
 fn steady_txn(alloc: Global, prio: Prio, period: Tick) -> TxnDecl
     ensures { result ≡ steady_of prio period }
 {
-    TxnDecl {
-        prio,
-        period,
-        offset: 0,
-        deadline: period,
-        steps: 2,
-        quiet: 0,
-        reads: List::of(Vec::new(alloc)),
-        writes: List::of(Vec::new(alloc)),
-    }
+    let (reads, writes) = (List::of(Vec::new(alloc)), List::of(Vec::new(alloc)));
+    plain_txn(prio, period, 2, reads, writes)
 }
 
 fn set_of(alloc: Global, txns: Vec<TxnDecl>) -> CompiledSet

@@ -14,62 +14,17 @@ use board::Board;
 use plain_core::PlainCore;
 use plant_run::{Run, run_workers};
 use rt_base::{List, OutOfMemory, Tick};
-use sim_run::{EntryOut, RunFault, Stopped, Workers, run};
+use sim_run::{RunFault, Workers, run};
 use std::alloc::Global;
 use std::sync::Wait;
 use std::test::Fail;
 use std::thread::Threads;
 use step_journal::Entry;
-use test_sets::{call_of, make};
+use test_sets::{FewEntries, call_of, make};
 use txn_set::CompiledSet;
 use txn_threads::NoGate;
 
 const ROOM: usize = 1100;
-
-// An out that keeps what it takes, and stops where that would be more than it may take.
-#[derive(Drop)]
-struct FewEntries {
-    entries: Vec<Entry>,
-    most: usize,
-    stops: u64,
-}
-
-impl EntryOut for FewEntries {
-    ghost got = { λ out story. Unit {0} };
-
-    ghost lost = { λ out story. Unit {0} };
-
-    ghost good = { λ out story. Unit {0} };
-
-    ghost stops = { λ out. out.stops };
-
-    fn put(&mut self, entries: &[Entry]) -> Result<(), Stopped> {
-        if entries.len() > self.most.saturating_sub(self.entries.len()) {
-            self.stops = self.stops.saturating_add(1);
-            return Err(Stopped);
-        }
-        keep(&mut self.entries, entries);
-        Ok(())
-    }
-}
-
-// As many of them as there are places for.
-fn keep(into: &mut Vec<Entry>, entries: &[Entry]) {
-    for i in 0..entries.len() {
-        if into.len() < into.capacity() {
-            into.push_reserved(entries[i]);
-        }
-    }
-}
-
-fn few(alloc: Global, most: usize) -> Result<FewEntries, OutOfMemory> {
-    let entries = Vec::with_capacity(alloc, 20000)?;
-    Ok(FewEntries {
-        entries,
-        most,
-        stops: 0,
-    })
-}
 
 // So many workers, from 1 to 64.
 fn few_workers(number: u32) -> Result<Workers, OutOfMemory> {
@@ -103,7 +58,7 @@ fn alone(alloc: Global, fast: usize, slow: usize) -> Result<Vec<Entry>, OutOfMem
     let Some(releases) = releases(alloc, fast, slow)? else {
         return Err(OutOfMemory);
     };
-    let mut out = few(alloc, 20000)?;
+    let mut out = FewEntries::new(alloc, 20000, 20000)?;
     let mut board = new_board(alloc, ROOM)?;
     run_one(&mut board, releases.as_slice(), &mut out);
     drop(board);
@@ -177,7 +132,7 @@ fn by_workers<R: Threads + Wait + Sync>(
     requires eager { (tx : ℕ) → 0 < own_at own.now tx → ticks_of releases.now tx ≡ [] }
     requires plannable { ArePlannable (workload set_of_two [] releases.now) (own_at own.now) }
 {
-    let out = few(alloc, most)?;
+    let out = FewEntries::new(alloc, 20000, most)?;
     let run = run_of(alloc, workers, releases, own)?;
     Ok(told(rt, alloc, run, out))
 }
@@ -299,7 +254,7 @@ fn of_none<R: Threads + Wait + Sync>(
     workers: Workers,
 ) -> Result<(Result<(), RunFault>, Vec<Entry>), OutOfMemory> {
     let spare = spare(alloc)?;
-    let out = few(alloc, 0)?;
+    let out = FewEntries::new(alloc, 20000, 0)?;
     let run = Run {
         board: board_of_none(alloc)?,
         bodies: Vec::<Steady>::new(alloc),

@@ -35,10 +35,7 @@ txn names tx = word (slice_index_or names.txns tx.0 [])
 abbrev pub release_cause : Names → TxId → ℕ → PlanRefused → List ℕ
 release_cause names tx index (refused.TooSoon earliest) = codes "TooSoon" ++ txn names tx ++ number index ++ number earliest
 release_cause names tx index (refused.TooFar limit) = codes "TooFar" ++ txn names tx ++ number index ++ number limit
-release_cause names tx index (refused.Past now) = []
-release_cause names tx index (refused.CalendarFull room) = []
-release_cause names tx index (refused.NoSerial planned) = []
-release_cause names tx index (refused.Full room) = []
+release_cause names tx index cause = []
 
 abbrev pub scenario_cause : Names → ScenarioError → List ℕ
 scenario_cause names scenario.NotJson = codes "NotJson"

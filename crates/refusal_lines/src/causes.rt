@@ -4,8 +4,10 @@ ghost use Rattle.refusal_lines.specs.Causes.{release_cause, scenario_cause, whic
 ghost use Rattle.refusal_lines.specs.Places.{place_text};
 
 use crate::places::put_place;
-use crate::words::{put, put_item, put_number, put_txn, put_word};
-use rt_base::{ItemId, Names, OutOfMemory, PlanRefused, Tick, TxId};
+use crate::words::{
+    put, put_item, put_number, put_of_item, put_of_txn, put_of_txn_and_number, put_txn, put_word,
+};
+use rt_base::{ItemId, Names, OutOfMemory, PlanRefused, TxId};
 use scenario_forms::{Place, TxnMember};
 use scenario_reader::ScenarioError;
 use set_admission::AdmitError;
@@ -28,23 +30,6 @@ fn put_placed(out: &mut Vec<u8>, cause: &[u8], place: Place) -> Result<(), OutOf
     put_place(out, place)
 }
 
-// A word, a release, and the tick that bounds it.
-fn put_release(
-    out: &mut Vec<u8>,
-    names: &Names,
-    cause: &[u8],
-    tx: TxId,
-    index: u32,
-    tick: Tick,
-) -> Result<(), OutOfMemory>
-    ensures { OnOk result (out.new.items ≡ out.old.items ++ (cause.now ++ txn names.now tx ++ number index ++ number tick)) }
-{
-    put(out, cause)?;
-    put_txn(out, names, tx)?;
-    put_number(out, index as u64)?;
-    put_number(out, tick)
-}
-
 fn put_release_cause(
     out: &mut Vec<u8>,
     names: &Names,
@@ -55,10 +40,14 @@ fn put_release_cause(
     ensures { OnOk result (out.new.items ≡ out.old.items ++ release_cause names.now tx index cause) }
 {
     match cause {
-        PlanRefused::TooSoon { earliest } => put_release(
-            out, names, b"TooSoon", tx, index, earliest,
-        ),
-        PlanRefused::TooFar { limit } => put_release(out, names, b"TooFar", tx, index, limit),
+        PlanRefused::TooSoon { earliest } => {
+            put_of_txn_and_number(out, names, b"TooSoon", tx, index as u64)?;
+            put_number(out, earliest)
+        }
+        PlanRefused::TooFar { limit } => {
+            put_of_txn_and_number(out, names, b"TooFar", tx, index as u64)?;
+            put_number(out, limit)
+        }
         _ => Ok(()),
     }
 }
@@ -122,34 +111,6 @@ fn which(which: Which) -> &'static [u8]
     }
 }
 
-fn put_same_prio(out: &mut Vec<u8>, names: &Names, a: TxId, b: TxId) -> Result<(), OutOfMemory>
-    ensures { OnOk result (out.new.items ≡ out.old.items ++ (codes "SamePrio" ++ txn names.now a ++ txn names.now b)) }
-{
-    put(out, b"SamePrio")?;
-    put_txn(out, names, a)?;
-    put_txn(out, names, b)
-}
-
-fn put_bad_times(
-    out: &mut Vec<u8>,
-    names: &Names,
-    tx: TxId,
-    field: Which,
-) -> Result<(), OutOfMemory>
-    ensures { OnOk result (out.new.items ≡ out.old.items ++ (codes "BadTimes" ++ txn names.now tx ++ word (which_text field))) }
-{
-    put(out, b"BadTimes")?;
-    put_txn(out, names, tx)?;
-    put_word(out, which(field))
-}
-
-fn put_of_item(out: &mut Vec<u8>, names: &Names, cause: &[u8], i: ItemId) -> Result<(), OutOfMemory>
-    ensures { OnOk result (out.new.items ≡ out.old.items ++ (cause.now ++ item names.now i)) }
-{
-    put(out, cause)?;
-    put_item(out, names, i)
-}
-
 fn put_two_writers(
     out: &mut Vec<u8>,
     names: &Names,
@@ -159,8 +120,7 @@ fn put_two_writers(
 ) -> Result<(), OutOfMemory>
     ensures { OnOk result (out.new.items ≡ out.old.items ++ (codes "TwoWriters" ++ item names.now i ++ txn names.now a ++ txn names.now b)) }
 {
-    put(out, b"TwoWriters")?;
-    put_item(out, names, i)?;
+    put_of_item(out, names, b"TwoWriters", i)?;
     put_txn(out, names, a)?;
     put_txn(out, names, b)
 }
@@ -177,8 +137,14 @@ pub fn put_compile_cause(
     match error {
         CompileError::TooManyItems { count } => put_counted(out, b"TooManyItems", count as u64),
         CompileError::TooManyTxns { count } => put_counted(out, b"TooManyTxns", count as u64),
-        CompileError::SamePrio { a, b } => put_same_prio(out, names, a, b),
-        CompileError::BadTimes { tx, which } => put_bad_times(out, names, tx, which),
+        CompileError::SamePrio { a, b } => {
+            put_of_txn(out, names, b"SamePrio", a)?;
+            put_txn(out, names, b)
+        }
+        CompileError::BadTimes { tx, which: field } => {
+            put_of_txn(out, names, b"BadTimes", tx)?;
+            put_word(out, which(field))
+        }
         CompileError::NoWriter { item } => put_of_item(out, names, b"NoWriter", item),
         CompileError::TwoWriters { item, a, b } => put_two_writers(out, names, item, a, b),
         CompileError::CyclicDerivation { item } => {
@@ -188,51 +154,6 @@ pub fn put_compile_cause(
         CompileError::TooManySets { count } => put_counted(out, b"TooManySets", count as u64),
         CompileError::BadTogether { set } => put_counted(out, b"BadTogether", set as u64),
     }
-}
-
-// A word, a transaction and a number.
-fn put_of_txn(
-    out: &mut Vec<u8>,
-    names: &Names,
-    cause: &[u8],
-    tx: TxId,
-    n: u64,
-) -> Result<(), OutOfMemory>
-    ensures { OnOk result (out.new.items ≡ out.old.items ++ (cause.now ++ txn names.now tx ++ number n)) }
-{
-    put(out, cause)?;
-    put_txn(out, names, tx)?;
-    put_number(out, n)
-}
-
-fn put_too_old(
-    out: &mut Vec<u8>,
-    names: &Names,
-    tx: TxId,
-    i: ItemId,
-    age: Tick,
-) -> Result<(), OutOfMemory>
-    ensures { OnOk result (out.new.items ≡ out.old.items ++ (codes "TooOld" ++ txn names.now tx ++ item names.now i ++ number age)) }
-{
-    put(out, b"TooOld")?;
-    put_txn(out, names, tx)?;
-    put_item(out, names, i)?;
-    put_number(out, age)
-}
-
-fn put_too_apart(
-    out: &mut Vec<u8>,
-    names: &Names,
-    tx: TxId,
-    set: usize,
-    age: Tick,
-) -> Result<(), OutOfMemory>
-    ensures { OnOk result (out.new.items ≡ out.old.items ++ (codes "TooApart" ++ txn names.now tx ++ number set ++ number age)) }
-{
-    put(out, b"TooApart")?;
-    put_txn(out, names, tx)?;
-    put_number(out, set as u64)?;
-    put_number(out, age)
 }
 
 /// Appends why a set is not admitted. The names are those of the items and transactions. After want of memory a part of
@@ -245,15 +166,18 @@ pub fn put_admit_cause(
     ensures { OnOk result (out.new.items ≡ out.old.items ++ admit_cause names.now error) }
 {
     match error {
-        AdmitError::NotSchedulable { tx, demand } => put_of_txn(
-            out,
-            names,
-            b"NotSchedulable",
-            tx,
-            demand,
-        ),
-        AdmitError::TooOld { tx, item, age } => put_too_old(out, names, tx, item, age),
+        AdmitError::NotSchedulable { tx, demand } => {
+            put_of_txn_and_number(out, names, b"NotSchedulable", tx, demand)
+        }
+        AdmitError::TooOld { tx, item, age } => {
+            put_of_txn(out, names, b"TooOld", tx)?;
+            put_item(out, names, item)?;
+            put_number(out, age)
+        }
+        AdmitError::TooApart { tx, set, age } => {
+            put_of_txn_and_number(out, names, b"TooApart", tx, set as u64)?;
+            put_number(out, age)
+        }
         AdmitError::OutOfMemory => Ok(()),
-        AdmitError::TooApart { tx, set, age } => put_too_apart(out, names, tx, set, age),
     }
 }

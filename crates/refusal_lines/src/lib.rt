@@ -12,4 +12,4 @@ pub use causes::{put_admit_cause, put_compile_cause, put_scenario_cause};
 pub use margin::margin_text;
 pub use places::put_place;
 pub use rates::{put_rate_cause, rates_text};
-pub use words::{put_number, put_txn};
+pub use words::{put_item, put_number, put_of_item, put_of_txn, put_txn};

@@ -62,30 +62,10 @@ fn put_member(out: &mut Vec<u8>, before: &[u8], i: usize, member: &[u8]) -> Resu
     put(out, member)
 }
 
-fn put_item_member(out: &mut Vec<u8>, i: usize, member: ItemMember) -> Result<(), OutOfMemory>
-    ensures { OnOk result (out.new.items ≡ out.old.items ++ (codes "/items/" ++ decimal i ++ codes "/" ++ item_member_text member)) }
-{
-    put_member(out, b"/items/", i, item_member(member))
-}
-
 fn put_txn_member(out: &mut Vec<u8>, i: usize, member: TxnMember) -> Result<(), OutOfMemory>
     ensures { OnOk result (out.new.items ≡ out.old.items ++ (codes "/transactions/" ++ decimal i ++ codes "/" ++ txn_member_text member)) }
 {
     put_member(out, b"/transactions/", i, txn_member(member))
-}
-
-fn put_element(out: &mut Vec<u8>, i: usize, member: TxnMember, j: usize) -> Result<(), OutOfMemory>
-    ensures { OnOk result (out.new.items ≡ out.old.items ++ (codes "/transactions/" ++ decimal i ++ codes "/" ++ txn_member_text member ++ codes "/" ++ decimal j)) }
-{
-    put_txn_member(out, i, member)?;
-    put_numbered(out, b"/", j)
-}
-
-fn put_set_element(out: &mut Vec<u8>, i: usize, j: usize) -> Result<(), OutOfMemory>
-    ensures { OnOk result (out.new.items ≡ out.old.items ++ (codes "/together/" ++ decimal i ++ codes "/items/" ++ decimal j)) }
-{
-    put_numbered(out, b"/together/", i)?;
-    put_numbered(out, b"/items/", j)
 }
 
 /// Appends a place, as a path from the root with indexes from 0. After want of memory a part of it may stand.
@@ -97,15 +77,21 @@ pub fn put_place(out: &mut Vec<u8>, place: Place) -> Result<(), OutOfMemory>
         Place::Version => put(out, b"/version"),
         Place::Items => put(out, b"/items"),
         Place::Item { i } => put_numbered(out, b"/items/", i),
-        Place::ItemMember { i, member } => put_item_member(out, i, member),
+        Place::ItemMember { i, member } => put_member(out, b"/items/", i, item_member(member)),
         Place::Txns => put(out, b"/transactions"),
         Place::Txn { i } => put_numbered(out, b"/transactions/", i),
         Place::TxnMember { i, member } => put_txn_member(out, i, member),
-        Place::Element { i, member, j } => put_element(out, i, member, j),
+        Place::Element { i, member, j } => {
+            put_txn_member(out, i, member)?;
+            put_numbered(out, b"/", j)
+        }
         Place::Together => put(out, b"/together"),
         Place::Set { i } => put_numbered(out, b"/together/", i),
         Place::SetItems { i } => put_between(out, b"/together/", i, b"/items"),
         Place::SetWithin { i } => put_between(out, b"/together/", i, b"/within"),
-        Place::SetElement { i, j } => put_set_element(out, i, j),
+        Place::SetElement { i, j } => {
+            put_numbered(out, b"/together/", i)?;
+            put_numbered(out, b"/items/", j)
+        }
     }
 }

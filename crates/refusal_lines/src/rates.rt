@@ -4,7 +4,7 @@ ghost use Rattle.refusal_lines.specs.Causes.{number, txn};
 ghost use Rattle.refusal_lines.specs.Lines.{rate_cause, rate_line, rates_of};
 
 use crate::causes::put_compile_cause;
-use crate::words::{put_number, put_txn};
+use crate::words::{put_number, put_of_txn, put_of_txn_and_number};
 use rt_base::{Names, OutOfMemory, TxId};
 use set_admission::AdmittedSet;
 use std::alloc::Global;
@@ -14,8 +14,7 @@ use update_rates::RateError;
 fn add_rate(into: &mut Vec<u8>, names: &Names, tx: TxId, decl: &TxnDecl) -> Result<(), OutOfMemory>
     ensures { OnOk result (into.new.items ≡ into.old.items ++ rate_line names.now tx.0 decl.now) }
 {
-    into.extend_from_slice(b"rate")?;
-    put_txn(into, names, tx)?;
+    put_of_txn(into, names, b"rate", tx)?;
     put_number(into, decl.prio as u64)?;
     put_number(into, decl.period)?;
     put_number(into, decl.deadline)?;
@@ -39,22 +38,6 @@ pub fn rates_text(alloc: Global, names: &Names, set: &AdmittedSet) -> Result<Vec
     Ok(text)
 }
 
-fn put_too_tight(out: &mut Vec<u8>, names: &Names, tx: TxId, demand: u64) -> Result<(), OutOfMemory>
-    ensures { OnOk result (out.new.items ≡ out.old.items ++ (codes "TooTight" ++ txn names.now tx ++ number demand)) }
-{
-    out.extend_from_slice(b"TooTight")?;
-    put_txn(out, names, tx)?;
-    put_number(out, demand)
-}
-
-// A word and a transaction.
-fn put_of_txn(out: &mut Vec<u8>, names: &Names, cause: &[u8], tx: TxId) -> Result<(), OutOfMemory>
-    ensures { OnOk result (out.new.items ≡ out.old.items ++ (cause.now ++ txn names.now tx)) }
-{
-    out.extend_from_slice(cause)?;
-    put_txn(out, names, tx)
-}
-
 /// Appends why declarations get no rates. The names are those of the items and transactions. After want of memory a part
 /// of the text may stand.
 pub fn put_rate_cause(out: &mut Vec<u8>, names: &Names, error: RateError) -> Result<(), OutOfMemory>
@@ -63,7 +46,9 @@ pub fn put_rate_cause(out: &mut Vec<u8>, names: &Names, error: RateError) -> Res
     match error {
         RateError::Compile(error) => put_compile_cause(out, names, error),
         RateError::NotAnUpdater { tx } => put_of_txn(out, names, b"NotAnUpdater", tx),
-        RateError::TooTight { tx, demand } => put_too_tight(out, names, tx, demand),
+        RateError::TooTight { tx, demand } => {
+            put_of_txn_and_number(out, names, b"TooTight", tx, demand)
+        }
         RateError::OutOfMemory => Ok(()),
     }
 }

@@ -33,7 +33,8 @@ pub fn put_number(out: &mut Vec<u8>, n: u64) -> Result<(), OutOfMemory>
     put_decimal(out, n)
 }
 
-pub(crate) fn put_item(out: &mut Vec<u8>, names: &Names, i: ItemId) -> Result<(), OutOfMemory>
+/// Appends a blank and the name of an item. After want of memory a part may stand.
+pub fn put_item(out: &mut Vec<u8>, names: &Names, i: ItemId) -> Result<(), OutOfMemory>
     ensures { OnOk result (out.new.items ≡ out.old.items ++ item names.now i) }
 {
     put(out, b" ")?;
@@ -56,4 +57,44 @@ pub fn put_txn(out: &mut Vec<u8>, names: &Names, tx: TxId) -> Result<(), OutOfMe
         put(out, names[at].as_slice())?;
     }
     Ok(())
+}
+
+/// Appends a word and the name of an item. After want of memory a part may stand.
+pub fn put_of_item(
+    out: &mut Vec<u8>,
+    names: &Names,
+    word: &[u8],
+    i: ItemId,
+) -> Result<(), OutOfMemory>
+    ensures { OnOk result (out.new.items ≡ out.old.items ++ (word.now ++ item names.now i)) }
+{
+    put(out, word)?;
+    put_item(out, names, i)
+}
+
+/// Appends a word and the name of a transaction. After want of memory a part may stand.
+pub fn put_of_txn(
+    out: &mut Vec<u8>,
+    names: &Names,
+    word: &[u8],
+    tx: TxId,
+) -> Result<(), OutOfMemory>
+    ensures { OnOk result (out.new.items ≡ out.old.items ++ (word.now ++ txn names.now tx)) }
+{
+    put(out, word)?;
+    put_txn(out, names, tx)
+}
+
+/// Appends a word, the name of a transaction and a number. After want of memory a part may stand.
+pub(crate) fn put_of_txn_and_number(
+    out: &mut Vec<u8>,
+    names: &Names,
+    word: &[u8],
+    tx: TxId,
+    n: u64,
+) -> Result<(), OutOfMemory>
+    ensures { OnOk result (out.new.items ≡ out.old.items ++ (word.now ++ txn names.now tx ++ number n)) }
+{
+    put_of_txn(out, names, word, tx)?;
+    put_number(out, n)
 }

@@ -1,5 +1,5 @@
 -- What is kept of the ages of items is what they come to.
-use Rattle.std.proofs.Common.{◌≡◌, ◌≢◌, ℕ, zero, suc, ◌+◌, ◌-◌, ◌<◌, ◌≤◌, Bool, true, false, cond, List, [], ◌∷◌, ◌++◌, length, replicate, take, set, get_or, Option, None, Some, refl, sym, ap, ◌∙◌, arith}
+use Rattle.std.proofs.Common.{◌≡◌, ◌≢◌, ℕ, zero, suc, ◌+◌, ◌-◌, ◌<◌, ◌≤◌, Bool, true, false, cond, List, [], ◌∷◌, ◌++◌, length, replicate, take, get_or, Option, None, Some, refl, sym, ap, ◌∙◌, arith}
 use Rattle.std.specs.Prelude.{◌==◌, ◌&&◌, nat_lt}
 use Rattle.std.specs.List.{All, cons_option}
 use Rattle.std.specs.Option.{option_map}
@@ -9,7 +9,7 @@ use Rattle.std.proofs.lemmas.List.Elements.{All-head, All-tail}
 use Rattle.rt_base.specs.declared.ids.JobId.{JobId}
 use Rattle.item_model.specs.declared.stored.OutsideRead.{OutsideRead}
 use Rattle.step_journal.specs.declared.entry.Entry.{Entry}
-use Rattle.step_journal.specs.declared.entry.Entry.TheVariants.{Planned, Step, Blocked, Idle}
+use Rattle.step_journal.specs.declared.entry.Entry.TheVariants.{Step}
 use Rattle.step_journal.specs.Timing.{outside_read}
 use Rattle.job_rows.specs.declared.row.JobRow.{JobRow}
 use Rattle.report_export.specs.Worsts.{at_least, worst, commit_tick, commit_of, read_age, age_in, ages}
@@ -23,7 +23,7 @@ tick_at ticks n = get_or ticks n None
 
 -- ---- the ticks of a transaction
 
-filled : {A : Type 0} (n k : ℕ) (d : A) → get_or (replicate n d) k d ≡ d
+pub filled : {A : Type 0} (n k : ℕ) (d : A) → get_or (replicate n d) k d ≡ d
 filled zero k d = refl
 filled (suc n) zero d = refl
 filled (suc n) (suc k) d = filled n k d
@@ -67,7 +67,8 @@ commits_length n (row ∷ rows) =
     length-set (commits_in n rows) row.job.tx.0 (with_tick (get_or (commits_in n rows) row.job.tx.0 []) row.job.serial (commit_tick row.end))
     ∙ commits_length n rows
 
-abbrev Below : ℕ → JobRow → Type 0
+-- the row is of one of so many transactions
+abbrev pub Below : ℕ → JobRow → Type 0
 Below n row = row.job.tx.0 < n
 
 commit_step : (n : ℕ) (row : JobRow) (rows : List JobRow) (job : JobId) (b : Bool) → (row.job.tx.0 == job.tx.0) ≡ b
@@ -115,9 +116,7 @@ ages_length n commits (e ∷ es) = kept (worst_ages n commits es) e ∙ ages_len
 
   kept : (worsts : Ticks) (x : Entry) → length (with_entry commits worsts x) ≡ length worsts
   kept worsts (Step job op outcome over tick) = read_kept worsts job (outside_read op outcome)
-  kept worsts (Planned tx tick) = refl
-  kept worsts (Blocked job op by ceiling tick) = refl
-  kept worsts (Idle from to) = refl
+  kept worsts e = refl
 
 -- one age more
 age_more : (worsts : Ticks) (at age item : ℕ) (xs : List ℕ) (b : Bool) → (at == item) ≡ b → item < length worsts
@@ -159,9 +158,7 @@ entry_more : (commits : List Ticks) (rows : List JobRow) → ((job : JobId) → 
     → tick_at (with_entry commits worsts e) item ≡ worst (cons_option (age_in rows item e) xs)
 entry_more commits rows are worsts item xs (Step job op outcome over tick) lt h =
     read_more commits rows are worsts job item xs (outside_read op outcome) lt h
-entry_more commits rows are worsts item xs (Planned tx tick) lt h = h
-entry_more commits rows are worsts item xs (Blocked job op by ceiling tick) lt h = h
-entry_more commits rows are worsts item xs (Idle from to) lt h = h
+entry_more commits rows are worsts item xs e lt h = h
 
 pub are_ages : (n : ℕ) (commits : List Ticks) (rows : List JobRow) → ((job : JobId) → commit_at commits job ≡ commit_of rows job)
     → (es : List Entry) (item : ℕ) → item < n → tick_at (worst_ages n commits es) item ≡ worst (ages rows item es)

@@ -1,7 +1,7 @@
 -- What is told of a legal history is within its bounds.
-use Rattle.std.proofs.Common.{◌≡◌, ◌≢◌, ◌⊎◌, inl, inr, ℕ, ◌+◌, ◌-◌, ◌<◌, ◌≤◌, Bool, true, false, cond, List, [], ◌∷◌, ◌++◌, map, length, Option, None, Some, refl, sym, ap, subst, ◌∙◌, arith}
+use Rattle.std.proofs.Common.{◌≡◌, ◌≢◌, ◌⊎◌, inl, inr, ℕ, ◌+◌, ◌-◌, ◌≤◌, Bool, true, false, cond, List, [], ◌∷◌, map, length, Option, None, Some, refl, sym, ap, subst, ◌∙◌, arith}
 use Rattle.std.specs.Prelude.{◌==◌, IsTrue}
-use Rattle.std.proofs.lemmas.Bool.{eqb-true, eqb-false}
+use Rattle.std.proofs.lemmas.Bool.{and_from, eq-eqb, eqb-true}
 use Rattle.std.specs.Option.{option_map}
 use Rattle.rt_base.specs.declared.ids.JobId.{JobId}
 use Rattle.rt_base.specs.declared.operation.End.{End}
@@ -11,18 +11,18 @@ use Rattle.item_model.specs.declared.stored.OutsideRead.{OutsideRead}
 use Rattle.txn_set.specs.Set.{Set, txn_of, IsCompiled}
 use Rattle.txn_set.specs.Ceilings.{blocking}
 use Rattle.step_journal.specs.declared.entry.Entry.{Entry}
-use Rattle.step_journal.specs.declared.entry.Entry.TheVariants.{Planned, Step, Blocked, Idle}
+use Rattle.step_journal.specs.declared.entry.Entry.TheVariants.{Step}
 use Rattle.step_journal.specs.declared.entry.EndedJob.{EndedJob}
 use Rattle.step_journal.specs.State.{Row, pending, same_job}
 use Rattle.step_journal.specs.LockRule.{in_falling_priority}
 use Rattle.step_journal.specs.History.{IsLegal, state_of}
 use Rattle.step_journal.specs.Timing.{delayers, outside_read, read_in, outside_reads_of}
 use Rattle.law_histories.proofs.Members.{In, filter_in}
+use Rattle.law_histories.proofs.Holding.{append_in}
 use Rattle.law_histories.proofs.Lists.{all_at, filter_map_in, in_filter_map}
 use Rattle.law_histories.proofs.Invariant.{same_job_is}
 use Rattle.law_histories.specs.Protocol.{OneDelay}
 use Rattle.law_histories.specs.Commits.{ConsistentCommits, IsConsistent}
-use Rattle.law_times.specs.Response.{response}
 use Rattle.law_times.specs.Deadlines.{EachIsInTime, IsInTime}
 use Rattle.law_times.specs.Freshness.{EndsAreFresh, AreWithinAge, IsWithinAge}
 use Rattle.set_admission.specs.Bounds.{response_of, age_of}
@@ -51,11 +51,6 @@ worst_within b xs found h e = subst (AtMost b) e (all_within b xs h)
 
 -- ---- the rows of a history
 
-append_cases : {A : Type 0} (x : A) (xs ys : List A) → In x (xs ++ ys) → In x xs ⊎ In x ys
-append_cases x [] ys i = inr i
-append_cases x (y ∷ xs) ys (inl e) = inl (inl e)
-append_cases x (y ∷ xs) ys (inr i) = elim (append_cases x xs ys i) [ inl j ↦ inl (inr j) | inr j ↦ inr j ]
-
 map_in : {A B : Type 0} (f : A → B) (y : B) (xs : List A) → In y (map f xs) → (x : A) × In x xs × (y ≡ f x)
 map_in f y [] i = absurd i
 map_in f y (x ∷ xs) (inl e) = (x, inl refl, e)
@@ -69,7 +64,7 @@ IsRow set entries row =
 
 row_is : (set : Set) (entries : List Entry) (row : JobRow) → In row (job_rows set entries) → IsRow set entries row
 row_is set entries row i =
-    elim (append_cases row (map (ended_row set entries) (state_of set entries).ended)
+    elim (append_in row (map (ended_row set entries) (state_of set entries).ended)
     (map (pending_row set entries) (in_falling_priority set (pending (state_of set entries).rows))) i) [
       | inl j ↦ inl (map_in (ended_row set entries) row (state_of set entries).ended j)
       | inr j ↦ (let r = map_in (pending_row set entries) row (in_falling_priority set (pending (state_of set entries).rows)) j in inr (r.0, r.2))
@@ -99,20 +94,16 @@ response_within set entries tx bound time x i =
 
 -- ---- delays
 
+delay_is : (set : Set) (entries : List Entry) (row : JobRow) → IsRow set entries row → row.delay ≡ length (delayers set entries row.job)
+delay_is set entries row (inl (e, i, same)) = subst (λ (r : JobRow). r.delay ≡ length (delayers set entries r.job)) (sym same) refl
+delay_is set entries row (inr (r, same)) = subst (λ (r : JobRow). r.delay ≡ length (delayers set entries r.job)) (sym same) refl
+
 delay_row : (set : Set) (entries : List Entry) (tx : ℕ) (row : JobRow) → OneDelay → IsCompiled set → IsLegal set entries
     → row.job.tx.0 ≡ tx → IsRow set entries row → row.delay ≤ blocking set (txn_of set tx).prio
-delay_row set entries tx row one ok legal of (inl (e, i, same)) =
-    let own : e.job.tx.0 ≡ tx = ap (λ (r : JobRow). r.job.tx.0) (sym same) ∙ of in
-    let le : length (delayers set entries e.job) ≤ blocking set (txn_of set tx).prio =
-    subst (λ (k : ℕ). length (delayers set entries e.job) ≤ blocking set (txn_of set k).prio) own (one set entries e.job ok legal).few in
-    let found : row.delay ≡ length (delayers set entries e.job) = ap (λ (r : JobRow). r.delay) same in
-    omega (arith, le, found)
-delay_row set entries tx row one ok legal of (inr (w, same)) =
-    let own : w.job.tx.0 ≡ tx = ap (λ (r : JobRow). r.job.tx.0) (sym same) ∙ of in
-    let le : length (delayers set entries w.job) ≤ blocking set (txn_of set tx).prio =
-    subst (λ (k : ℕ). length (delayers set entries w.job) ≤ blocking set (txn_of set k).prio) own (one set entries w.job ok legal).few in
-    let found : row.delay ≡ length (delayers set entries w.job) = ap (λ (r : JobRow). r.delay) same in
-    omega (arith, le, found)
+delay_row set entries tx row one ok legal of is =
+    let le : length (delayers set entries row.job) ≤ blocking set (txn_of set tx).prio =
+    subst (λ (k : ℕ). length (delayers set entries row.job) ≤ blocking set (txn_of set k).prio) of (one set entries row.job ok legal).few in
+    omega (arith, le, delay_is set entries row is)
 
 delay_within : (set : Set) (entries : List Entry) (tx : ℕ) → OneDelay → IsCompiled set → IsLegal set entries → (x : ℕ)
     → In x (delays (jobs_of tx (job_rows set entries))) → x ≤ blocking set (txn_of set tx).prio
@@ -134,11 +125,7 @@ pub record Committed (set : Set) (entries : List Entry) (job : JobId) (tick : �
 
 commit_end : (e : End) (t tick : ℕ) → commit_tick (Some (e, t)) ≡ Some tick → (e ≡ end.Committed) × (t ≡ tick)
 commit_end end.Committed t tick h = (refl, cc)
-commit_end end.Overrun t tick h = absurd cc
-commit_end end.Late t tick h = absurd cc
-commit_end (end.Stale item stamp) t tick h = absurd cc
-commit_end (end.Apart a b) t tick h = absurd cc
-commit_end end.Quit t tick h = absurd cc
+commit_end e t tick h = absurd cc
 
 found_row : (row : JobRow) (rows : List JobRow) (job : JobId) (tick : ℕ) (b : Bool) → same_job row.job job ≡ b
     → cond b (commit_tick row.end) (commit_of rows job) ≡ Some tick
@@ -183,11 +170,7 @@ pub record IsAge (set : Set) (entries : List Entry) (item x : ℕ) : Type 0 wher
   pub age : x ≡ tick - read.stamp
 
 same_itself : (job : JobId) → same_job job job ≡ true
-same_itself job = same_by job (job.tx.0 == job.tx.0) refl (job.serial == job.serial) refl where
-  same_by : (j : JobId) (a : Bool) → (j.tx.0 == j.tx.0) ≡ a → (b : Bool) → (j.serial == j.serial) ≡ b → same_job j j ≡ true
-  same_by j true e true f = rw (e, f) refl
-  same_by j false e b f = absurd (eqb-false j.tx.0 j.tx.0 e refl)
-  same_by j true e false f = absurd (eqb-false j.serial j.serial f refl)
+same_itself job = and_from _ _ (eq-eqb job.tx.0 job.tx.0 refl) (eq-eqb job.serial job.serial refl)
 
 tick_age : (set : Set) (entries : List Entry) (item x : ℕ) (job : JobId) (r : OutsideRead) (b : Bool) → (r.item.0 == item) ≡ b
     → In r (outside_reads_of entries job) → (o : Option ℕ) → commit_of (job_rows set entries) job ≡ o
@@ -218,9 +201,7 @@ entry_is set entries item x (Step job op outcome over tick) i h =
     read_is set entries item x job (outside_read op outcome)
     (λ r is. in_filter_map (read_in job) (Step job op outcome over tick) r entries i
     (ap (λ (b : Bool). cond {A = Option OutsideRead} b (outside_read op outcome) None) (same_itself job) ∙ is)) h
-entry_is set entries item x (Planned tx tick) i h = absurd cc
-entry_is set entries item x (Blocked job op by ceiling tick) i h = absurd cc
-entry_is set entries item x (Idle from to) i h = absurd cc
+entry_is set entries item x e i h = absurd cc
 
 is_age : (set : Set) (entries : List Entry) (item x : ℕ) → In x (ages (job_rows set entries) item entries) → IsAge set entries item x
 is_age set entries item x i =

@@ -1,21 +1,20 @@
 -- What is kept of the jobs of each transaction is what they come to.
-use Rattle.std.proofs.Common.{◌≡◌, ◌≢◌, ℕ, ◌+◌, ◌-◌, ◌<◌, ◌≤◌, ◌^◌, Bool, true, false, cond, List, [], ◌∷◌, length, replicate, set, get_or, Option, None, Some, refl, sym, ap, subst, ◌∙◌, arith}
+use Rattle.std.proofs.Common.{◌≡◌, ◌≢◌, ℕ, ◌+◌, ◌-◌, ◌<◌, ◌≤◌, ◌^◌, Bool, true, false, cond, List, [], ◌∷◌, length, set, get_or, Option, None, Some, refl, sym, ap, subst, ◌∙◌, arith}
 use Rattle.std.specs.Prelude.{◌==◌}
-use Rattle.std.specs.List.{All, count_by, filter}
+use Rattle.std.specs.List.{All, count_by}
 use Rattle.std.proofs.lemmas.Bool.{eqb-true, eqb-false}
-use Rattle.std.proofs.lemmas.List.{length-set, length-replicate, get_or-replicate, get_or-set_same, get_or-set_other}
+use Rattle.std.proofs.lemmas.List.{length-set, length-replicate, get_or-set_same, get_or-set_other}
 use Rattle.std.proofs.lemmas.List.Elements.{All-head, All-tail}
 use Rattle.std.proofs.lemmas.List.Sums.{sum_by-cons, length-filter, count_by-le-length}
-use Rattle.rt_base.specs.declared.ids.ItemId.{ItemId}
 use Rattle.rt_base.specs.declared.ids.JobId.{JobId}
 use Rattle.rt_base.specs.declared.operation.End.{End}
 use Rattle.rt_base.specs.declared.operation.End.TheVariants as end
 use Rattle.job_rows.specs.declared.row.JobRow.{JobRow}
-use Rattle.run_report.specs.Summary.{is_committed, is_overrun, is_late, is_quit}
 use Rattle.run_report.specs.Counts.{row_is}
 use Rattle.report_export.specs.declared.tally.Tally.{Tally}
-use Rattle.report_export.specs.Worsts.{at_least, jobs_of, is_stale, is_apart, is_pending}
-use Rattle.report_export.specs.Tallies.{no_jobs, with_row, tally_at, with_job, tallied, IsTally, FewJobs}
+use Rattle.report_export.specs.Worsts.{at_least, jobs_of, place_of, ended_at, is_pending}
+use Rattle.report_export.specs.Tallies.{no_jobs, count_at, with_row, tally_at, with_job, tallied, IsTally, FewJobs}
+use Rattle.report_export.proofs.Aging.{filled, Below}
 
 -- ---- one job more
 
@@ -23,6 +22,19 @@ count_more : (p : JobRow → Bool) (row : JobRow) (rows : List JobRow) (b : Bool
     → count_by p (row ∷ rows) ≡ cond {A = ℕ} b 1 0 + count_by p rows
 count_more p row rows b e =
     sum_by-cons (λ (x : JobRow). cond {A = ℕ} (p x) 1 0) row rows ∙ ap (λ (c : Bool). cond {A = ℕ} c 1 0 + count_by p rows) e
+
+place_few : (e : End) → place_of e < 6
+place_few end.Committed = omega arith
+place_few e = omega arith
+
+-- one more at a place of a list of numbers
+more_at : (ns : List ℕ) (at place : ℕ) (b : Bool) → (at == place) ≡ b → at < length ns
+    → get_or (set ns at (get_or ns at 0 + 1)) place 0 ≡ cond {A = ℕ} b 1 0 + get_or ns place 0
+more_at ns at place true e lt =
+    let here : get_or (set ns at (get_or ns at 0 + 1)) at 0 ≡ get_or ns at 0 + 1 = get_or-set_same ns at (get_or ns at 0 + 1) 0 lt in
+    subst (λ (k : ℕ). get_or (set ns at (get_or ns at 0 + 1)) k 0 ≡ 1 + get_or ns k 0) (eqb-true at place e) (omega (arith, here))
+more_at ns at place false e lt =
+    omega (arith, get_or-set_other ns at place (get_or ns at 0 + 1) 0 (λ same. eqb-false at place e (sym same)))
 
 abbrev row_at : JobId → ℕ → Option (End × ℕ) → Option JobId → ℕ → JobRow
 row_at job release end by delay = record { job = job; release = release; end = end; delayed_by = by; delay = delay }
@@ -32,101 +44,16 @@ OneMore close =
     (job : JobId) (release : ℕ) (by : Option JobId) (delay : ℕ) (t : Tally) (rows : List JobRow) → IsTally t rows
     → IsTally (with_row (row_at job release close by delay) t) (row_at job release close by delay ∷ rows)
 
-abbrev close : End → ℕ → Option (End × ℕ)
-close e tick = Some (e, tick)
-
-one_committed : (tick : ℕ) → OneMore (close end.Committed tick)
-one_committed tick job release by delay t rows h =
-    let row : JobRow = row_at job release (close end.Committed tick) by delay in
+one_end : (e : End) (tick : ℕ) → OneMore (Some (e, tick))
+one_end e tick job release by delay t rows h =
+    let row : JobRow = row_at job release (Some (e, tick)) by delay in
+    let at : ℕ = place_of e in
+    let lt : at < length t.ends = omega (arith, place_few e, h.places) in
     record {
+      places = length-set t.ends at (count_at t at + 1) ∙ h.places;
       ended = omega (arith, h.ended, count_more (row_is (λ e. true)) row rows true refl);
-      committed = omega (arith, h.committed, count_more (row_is is_committed) row rows true refl);
-      stale = omega (arith, h.stale, count_more (row_is is_stale) row rows false refl);
-      apart = omega (arith, h.apart, count_more (row_is is_apart) row rows false refl);
-      overrun = omega (arith, h.overrun, count_more (row_is is_overrun) row rows false refl);
-      late = omega (arith, h.late, count_more (row_is is_late) row rows false refl);
-      quit = omega (arith, h.quit, count_more (row_is is_quit) row rows false refl);
-      pending = omega (arith, h.pending, count_more (is_pending) row rows false refl);
-      response = ap (λ (o : Option ℕ). Some (at_least (tick - release) o)) h.response;
-      delay = ap (λ (o : Option ℕ). Some (at_least delay o)) h.delay;
-    }
-
-one_overrun : (tick : ℕ) → OneMore (close end.Overrun tick)
-one_overrun tick job release by delay t rows h =
-    let row : JobRow = row_at job release (close end.Overrun tick) by delay in
-    record {
-      ended = omega (arith, h.ended, count_more (row_is (λ e. true)) row rows true refl);
-      committed = omega (arith, h.committed, count_more (row_is is_committed) row rows false refl);
-      stale = omega (arith, h.stale, count_more (row_is is_stale) row rows false refl);
-      apart = omega (arith, h.apart, count_more (row_is is_apart) row rows false refl);
-      overrun = omega (arith, h.overrun, count_more (row_is is_overrun) row rows true refl);
-      late = omega (arith, h.late, count_more (row_is is_late) row rows false refl);
-      quit = omega (arith, h.quit, count_more (row_is is_quit) row rows false refl);
-      pending = omega (arith, h.pending, count_more (is_pending) row rows false refl);
-      response = ap (λ (o : Option ℕ). Some (at_least (tick - release) o)) h.response;
-      delay = ap (λ (o : Option ℕ). Some (at_least delay o)) h.delay;
-    }
-
-one_late : (tick : ℕ) → OneMore (close end.Late tick)
-one_late tick job release by delay t rows h =
-    let row : JobRow = row_at job release (close end.Late tick) by delay in
-    record {
-      ended = omega (arith, h.ended, count_more (row_is (λ e. true)) row rows true refl);
-      committed = omega (arith, h.committed, count_more (row_is is_committed) row rows false refl);
-      stale = omega (arith, h.stale, count_more (row_is is_stale) row rows false refl);
-      apart = omega (arith, h.apart, count_more (row_is is_apart) row rows false refl);
-      overrun = omega (arith, h.overrun, count_more (row_is is_overrun) row rows false refl);
-      late = omega (arith, h.late, count_more (row_is is_late) row rows true refl);
-      quit = omega (arith, h.quit, count_more (row_is is_quit) row rows false refl);
-      pending = omega (arith, h.pending, count_more (is_pending) row rows false refl);
-      response = ap (λ (o : Option ℕ). Some (at_least (tick - release) o)) h.response;
-      delay = ap (λ (o : Option ℕ). Some (at_least delay o)) h.delay;
-    }
-
-one_stale : (item : ItemId) (stamp : ℕ) (tick : ℕ) → OneMore (close (end.Stale item stamp) tick)
-one_stale item stamp tick job release by delay t rows h =
-    let row : JobRow = row_at job release (close (end.Stale item stamp) tick) by delay in
-    record {
-      ended = omega (arith, h.ended, count_more (row_is (λ e. true)) row rows true refl);
-      committed = omega (arith, h.committed, count_more (row_is is_committed) row rows false refl);
-      stale = omega (arith, h.stale, count_more (row_is is_stale) row rows true refl);
-      apart = omega (arith, h.apart, count_more (row_is is_apart) row rows false refl);
-      overrun = omega (arith, h.overrun, count_more (row_is is_overrun) row rows false refl);
-      late = omega (arith, h.late, count_more (row_is is_late) row rows false refl);
-      quit = omega (arith, h.quit, count_more (row_is is_quit) row rows false refl);
-      pending = omega (arith, h.pending, count_more (is_pending) row rows false refl);
-      response = ap (λ (o : Option ℕ). Some (at_least (tick - release) o)) h.response;
-      delay = ap (λ (o : Option ℕ). Some (at_least delay o)) h.delay;
-    }
-
-one_apart : (a b : ItemId) (tick : ℕ) → OneMore (close (end.Apart a b) tick)
-one_apart a b tick job release by delay t rows h =
-    let row : JobRow = row_at job release (close (end.Apart a b) tick) by delay in
-    record {
-      ended = omega (arith, h.ended, count_more (row_is (λ e. true)) row rows true refl);
-      committed = omega (arith, h.committed, count_more (row_is is_committed) row rows false refl);
-      stale = omega (arith, h.stale, count_more (row_is is_stale) row rows false refl);
-      apart = omega (arith, h.apart, count_more (row_is is_apart) row rows true refl);
-      overrun = omega (arith, h.overrun, count_more (row_is is_overrun) row rows false refl);
-      late = omega (arith, h.late, count_more (row_is is_late) row rows false refl);
-      quit = omega (arith, h.quit, count_more (row_is is_quit) row rows false refl);
-      pending = omega (arith, h.pending, count_more (is_pending) row rows false refl);
-      response = ap (λ (o : Option ℕ). Some (at_least (tick - release) o)) h.response;
-      delay = ap (λ (o : Option ℕ). Some (at_least delay o)) h.delay;
-    }
-
-one_quit : (tick : ℕ) → OneMore (close end.Quit tick)
-one_quit tick job release by delay t rows h =
-    let row : JobRow = row_at job release (close end.Quit tick) by delay in
-    record {
-      ended = omega (arith, h.ended, count_more (row_is (λ e. true)) row rows true refl);
-      committed = omega (arith, h.committed, count_more (row_is is_committed) row rows false refl);
-      stale = omega (arith, h.stale, count_more (row_is is_stale) row rows false refl);
-      apart = omega (arith, h.apart, count_more (row_is is_apart) row rows false refl);
-      overrun = omega (arith, h.overrun, count_more (row_is is_overrun) row rows false refl);
-      late = omega (arith, h.late, count_more (row_is is_late) row rows false refl);
-      quit = omega (arith, h.quit, count_more (row_is is_quit) row rows true refl);
-      pending = omega (arith, h.pending, count_more (is_pending) row rows false refl);
+      ends = λ place. omega (arith, more_at t.ends at place (at == place) refl lt, h.ends place, count_more (ended_at place) row rows (at == place) refl);
+      pending = omega (arith, h.pending, count_more is_pending row rows false refl);
       response = ap (λ (o : Option ℕ). Some (at_least (tick - release) o)) h.response;
       delay = ap (λ (o : Option ℕ). Some (at_least delay o)) h.delay;
     }
@@ -135,25 +62,13 @@ one_pending : OneMore None
 one_pending job release by delay t rows h =
     let row : JobRow = row_at job release None by delay in
     record {
+      places = h.places;
       ended = omega (arith, h.ended, count_more (row_is (λ e. true)) row rows false refl);
-      committed = omega (arith, h.committed, count_more (row_is is_committed) row rows false refl);
-      stale = omega (arith, h.stale, count_more (row_is is_stale) row rows false refl);
-      apart = omega (arith, h.apart, count_more (row_is is_apart) row rows false refl);
-      overrun = omega (arith, h.overrun, count_more (row_is is_overrun) row rows false refl);
-      late = omega (arith, h.late, count_more (row_is is_late) row rows false refl);
-      quit = omega (arith, h.quit, count_more (row_is is_quit) row rows false refl);
-      pending = omega (arith, h.pending, count_more (is_pending) row rows true refl);
+      ends = λ place. omega (arith, h.ends place, count_more (ended_at place) row rows false refl);
+      pending = omega (arith, h.pending, count_more is_pending row rows true refl);
       response = h.response;
       delay = ap (λ (o : Option ℕ). Some (at_least delay o)) h.delay;
     }
-
-one_end : (e : End) (tick : ℕ) → OneMore (close e tick)
-one_end end.Committed tick = one_committed tick
-one_end end.Overrun tick = one_overrun tick
-one_end end.Late tick = one_late tick
-one_end (end.Stale item stamp) tick = one_stale item stamp tick
-one_end (end.Apart a b) tick = one_apart a b tick
-one_end end.Quit tick = one_quit tick
 
 one_close : (c : Option (End × ℕ)) → OneMore c
 one_close None = one_pending
@@ -168,9 +83,6 @@ pub tallied_length : (n : ℕ) (rows : List JobRow) → length (tallied n rows) 
 tallied_length n [] = length-replicate n no_jobs
 tallied_length n (row ∷ rows) =
     length-set (tallied n rows) row.job.tx.0 (with_row row (tally_at (tallied n rows) row.job.tx.0)) ∙ tallied_length n rows
-
-abbrev Below : ℕ → JobRow → Type 0
-Below n row = row.job.tx.0 < n
 
 step : (n : ℕ) (row : JobRow) (rows : List JobRow) (tx : ℕ) (b : Bool) → (row.job.tx.0 == tx) ≡ b → row.job.tx.0 < n
     → IsTally (tally_at (tallied n rows) tx) (jobs_of tx rows)
@@ -193,13 +105,9 @@ step n row rows tx false e lt h =
 
 no_jobs_tallied : IsTally no_jobs []
 no_jobs_tallied = record {
+  places = refl;
   ended = refl;
-  committed = refl;
-  stale = refl;
-  apart = refl;
-  overrun = refl;
-  late = refl;
-  quit = refl;
+  ends = λ place. filled 6 place 0;
   pending = refl;
   response = refl;
   delay = refl;
@@ -207,7 +115,7 @@ no_jobs_tallied = record {
 
 pub are_tallied : (n : ℕ) (rows : List JobRow) (tx : ℕ) → tx < n → All (Below n) rows
     → IsTally (tally_at (tallied n rows) tx) (jobs_of tx rows)
-are_tallied n [] tx lt all = subst (λ (t : Tally). IsTally t []) (sym (get_or-replicate n tx no_jobs no_jobs lt)) no_jobs_tallied
+are_tallied n [] tx lt all = subst (λ (t : Tally). IsTally t []) (sym (filled n tx no_jobs)) no_jobs_tallied
 are_tallied n (row ∷ rows) tx lt all =
     step n row rows tx (row.job.tx.0 == tx) refl (All-head (Below n) row rows all)
     (are_tallied n rows tx lt (All-tail (Below n) row rows all))
@@ -221,13 +129,8 @@ jobs_le tx rows =
 few : (t : Tally) (rows : List JobRow) (m : ℕ) → IsTally t rows → length rows ≤ m → m + 1 < 2 ^ 64 → FewJobs t
 few t rows m h le lt = record {
   ended = omega (arith, h.ended, count_by-le-length (row_is (λ e. true)) rows, le, lt);
-  committed = omega (arith, h.committed, count_by-le-length (row_is is_committed) rows, le, lt);
-  stale = omega (arith, h.stale, count_by-le-length (row_is is_stale) rows, le, lt);
-  apart = omega (arith, h.apart, count_by-le-length (row_is is_apart) rows, le, lt);
-  overrun = omega (arith, h.overrun, count_by-le-length (row_is is_overrun) rows, le, lt);
-  late = omega (arith, h.late, count_by-le-length (row_is is_late) rows, le, lt);
-  quit = omega (arith, h.quit, count_by-le-length (row_is is_quit) rows, le, lt);
-  pending = omega (arith, h.pending, count_by-le-length (is_pending) rows, le, lt);
+  ends = λ place. omega (arith, h.ends place, count_by-le-length (ended_at place) rows, le, lt);
+  pending = omega (arith, h.pending, count_by-le-length is_pending rows, le, lt);
 }
 
 pub few_jobs : (n : ℕ) (rows : List JobRow) (tx : ℕ) → tx < n → All (Below n) rows → length rows + 1 < 2 ^ 64

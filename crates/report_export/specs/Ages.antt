@@ -1,9 +1,9 @@
 -- What is kept to find the greatest ages: the commits by transaction and serial, and the greatest age of each item.
-use Rattle.std.specs.Prelude.{◌≡◌, ℕ, ◌+◌, ◌-◌, ◌<◌, nat_lt, List, [], ◌∷◌, ◌++◌, take, length, replicate, slice_set, slice_index_or, Option, None, Some, if◌then◌else◌}
+use Rattle.std.specs.Prelude.{ℕ, ◌+◌, ◌-◌, nat_lt, List, [], ◌∷◌, ◌++◌, take, length, replicate, slice_set, slice_index_or, Option, None, Some, if◌then◌else◌}
 use Rattle.rt_base.specs.declared.ids.JobId.{JobId}
 use Rattle.item_model.specs.declared.stored.OutsideRead.{OutsideRead}
 use Rattle.step_journal.specs.declared.entry.Entry.{Entry}
-use Rattle.step_journal.specs.declared.entry.Entry.TheVariants.{Planned, Step, Blocked, Idle}
+use Rattle.step_journal.specs.declared.entry.Entry.TheVariants.{Step}
 use Rattle.step_journal.specs.Timing.{outside_read}
 use Rattle.job_rows.specs.declared.row.JobRow.{JobRow}
 use Rattle.report_export.specs.Worsts.{at_least, commit_tick}
@@ -46,9 +46,7 @@ with_read commits worsts job (Some r) = with_end_of worsts r (commit_at commits 
 
 abbrev pub with_entry : List (List (Option ℕ)) → List (Option ℕ) → Entry → List (Option ℕ)
 with_entry commits worsts (Step job op outcome over tick) = with_read commits worsts job (outside_read op outcome)
-with_entry commits worsts (Planned tx tick) = worsts
-with_entry commits worsts (Blocked job op by ceiling tick) = worsts
-with_entry commits worsts (Idle from to) = worsts
+with_entry commits worsts e = worsts
 
 -- those of so many items
 abbrev pub worst_ages : ℕ → List (List (Option ℕ)) → List Entry → List (Option ℕ)

@@ -1,16 +1,15 @@
 -- The lines of a report as JSON: each is an object whose one member is named for the first word of the line. What a report
 -- writes as `-` is null.
-use Rattle.std.specs.Prelude.{ℕ, ◌-◌, Bool, List, [], ◌∷◌, codes, decimal, Option, Some, None, if◌then◌else◌}
+use Rattle.std.specs.Prelude.{ℕ, ℤ, ◌-◌, Bool, List, [], ◌∷◌, codes, decimal, drop, Option, Some, None, if◌then◌else◌}
 use Rattle.std.specs.Fmt.{signed_decimal}
 use Rattle.rt_base.specs.declared.name.Names.{Names}
 use Rattle.rt_base.specs.declared.ids.ItemId.{ItemId}
 use Rattle.rt_base.specs.declared.ids.JobId.{JobId}
-use Rattle.rt_base.specs.declared.ids.TxId.{TxId}
 use Rattle.rt_base.specs.declared.ids.TogetherDecl.{TogetherDecl}
 use Rattle.rt_base.specs.declared.operation.Op.{Op}
 use Rattle.rt_base.specs.declared.operation.Op.TheVariants.{Read, Write, Compute, Commit, Quit}
 use Rattle.rt_base.specs.declared.operation.Outcome.{Outcome}
-use Rattle.rt_base.specs.declared.operation.Outcome.TheVariants.{Got, Put, Computed, Closed}
+use Rattle.rt_base.specs.declared.operation.Outcome.TheVariants.{Got}
 use Rattle.rt_base.specs.declared.operation.End.{End}
 use Rattle.rt_base.specs.declared.operation.End.TheVariants as end
 use Rattle.item_model.specs.declared.decl.ItemKind.{ItemKind}
@@ -21,25 +20,37 @@ use Rattle.txn_set.specs.declared.decl.TxnDecl.{TxnDecl}
 use Rattle.step_journal.specs.declared.entry.Entry.{Entry}
 use Rattle.step_journal.specs.declared.entry.Entry.TheVariants.{Planned, Step, Blocked, Idle}
 use Rattle.journal_text.specs.Ids.{name_at, job_text}
-use Rattle.journal_text.specs.Lines.{◌⊕◌}
+use Rattle.journal_text.specs.Lines.{◌⊕◌, end_text}
 use Rattle.job_rows.specs.declared.row.JobRow.{JobRow}
 use Rattle.report_text.specs.Rows.{numbered}
 use Rattle.report_text.specs.Texts.{item_name}
+
+-- ---- parts
+
+-- bytes and a number, a signed one, or a name
+unfoldable pub counted : List ℕ → ℕ → List ℕ
+counted bytes n = bytes ⊕ decimal n
+
+unfoldable pub valued : List ℕ → ℤ → List ℕ
+valued bytes value = bytes ⊕ signed_decimal value
+
+unfoldable pub named : List ℕ → List (List ℕ) → ℕ → List ℕ
+named bytes names at = bytes ⊕ name_at names at
 
 -- ---- declarations
 
 abbrev pub report_json : Bool → List ℕ
 report_json second = if second then codes "{\"report\":{\"version\":2}}\n" else codes "{\"report\":{\"version\":1}}\n"
 
-abbrev pub kind_json : ItemKind → List ℕ
-kind_json (Sensor validity) = codes "sensor\",\"validity\":" ⊕ decimal validity
-kind_json (Derived validity) = codes "derived\",\"validity\":" ⊕ decimal validity
-kind_json State = codes "state\",\"validity\":null"
+unfoldable pub kind_json : ItemKind → List ℕ
+kind_json (Sensor validity) = counted (codes "\",\"kind\":\"sensor\",\"validity\":") validity
+kind_json (Derived validity) = counted (codes "\",\"kind\":\"derived\",\"validity\":") validity
+kind_json State = codes "\",\"kind\":\"state\",\"validity\":null"
 
 abbrev pub item_json : Names → ℕ → ItemDecl → List ℕ
 item_json names item decl =
-    codes "{\"item\":{\"name\":\"" ⊕ name_at names.items item ⊕ codes "\",\"kind\":\"" ⊕ kind_json decl.kind
-    ⊕ codes ",\"value\":" ⊕ signed_decimal decl.initial ⊕ codes "}}\n"
+    named (codes "{\"item\":{\"name\":\"") names.items item ⊕ kind_json decl.kind
+    ⊕ valued (codes ",\"value\":") decl.initial ⊕ codes "}}\n"
 
 -- a name after the first
 abbrev pub more_item : Names → ℕ → ItemId → List ℕ
@@ -49,23 +60,24 @@ abbrev pub items_json : Names → List ItemId → List ℕ
 items_json names [] = codes "[]"
 items_json names (i ∷ is) = codes "[\"" ⊕ item_name names i ⊕ numbered (more_item names) 1 is ⊕ codes "\"]"
 
-abbrev pub times_json : Names → ℕ → TxnDecl → List ℕ
+unfoldable pub listed : List ℕ → Names → List ItemId → List ℕ
+listed bytes names items = bytes ⊕ items_json names items
+
+unfoldable pub times_json : Names → ℕ → TxnDecl → List ℕ
 times_json names tx decl =
-    codes "{\"txn\":{\"name\":\"" ⊕ name_at names.txns tx ⊕ codes "\",\"prio\":" ⊕ decimal decl.prio
-    ⊕ codes ",\"period\":" ⊕ decimal decl.period ⊕ codes ",\"offset\":" ⊕ decimal decl.offset
-    ⊕ codes ",\"deadline\":" ⊕ decimal decl.deadline ⊕ codes ",\"steps\":" ⊕ decimal decl.steps
-    ⊕ codes ",\"quiet\":" ⊕ decimal decl.quiet
+    named (codes "{\"txn\":{\"name\":\"") names.txns tx ⊕ counted (codes "\",\"prio\":") decl.prio
+    ⊕ counted (codes ",\"period\":") decl.period ⊕ counted (codes ",\"offset\":") decl.offset
+    ⊕ counted (codes ",\"deadline\":") decl.deadline ⊕ counted (codes ",\"steps\":") decl.steps
+    ⊕ counted (codes ",\"quiet\":") decl.quiet
 
 abbrev pub txn_json : Names → ℕ → TxnDecl → List ℕ
 txn_json names tx decl =
-    times_json names tx decl ⊕ codes ",\"reads\":" ⊕ items_json names decl.reads
-    ⊕ codes ",\"writes\":" ⊕ items_json names decl.writes ⊕ codes "}}\n"
-
-abbrev pub within_json : ℕ → List ℕ
-within_json within = codes "{\"together\":{\"within\":" ⊕ decimal within ⊕ codes ",\"items\":"
+    times_json names tx decl ⊕ listed (codes ",\"reads\":") names decl.reads
+    ⊕ listed (codes ",\"writes\":") names decl.writes ⊕ codes "}}\n"
 
 abbrev pub together_json : Names → ℕ → TogetherDecl → List ℕ
-together_json names place decl = within_json decl.within ⊕ items_json names decl.items ⊕ codes "}}\n"
+together_json names place decl =
+    counted (codes "{\"together\":{\"within\":") decl.within ⊕ listed (codes ",\"items\":") names decl.items ⊕ codes "}}\n"
 
 abbrev pub mode_json : Bool → List ℕ
 mode_json admitted =
@@ -75,55 +87,52 @@ mode_json admitted =
 
 abbrev pub ceiling_json : Names → ℕ → ℕ → ℕ → List ℕ
 ceiling_json names item write absolute =
-    codes "{\"ceiling\":{\"item\":\"" ⊕ name_at names.items item ⊕ codes "\",\"write\":" ⊕ decimal write
-    ⊕ codes ",\"absolute\":" ⊕ decimal absolute ⊕ codes "}}\n"
+    named (codes "{\"ceiling\":{\"item\":\"") names.items item ⊕ counted (codes "\",\"write\":") write
+    ⊕ counted (codes ",\"absolute\":") absolute ⊕ codes "}}\n"
 
 abbrev pub bound_json : Names → ℕ → ℕ → ℕ → List ℕ
 bound_json names tx blocking response =
-    codes "{\"bound\":{\"txn\":\"" ⊕ name_at names.txns tx ⊕ codes "\",\"blocking\":" ⊕ decimal blocking
-    ⊕ codes ",\"response\":" ⊕ decimal response ⊕ codes "}}\n"
+    named (codes "{\"bound\":{\"txn\":\"") names.txns tx ⊕ counted (codes "\",\"blocking\":") blocking
+    ⊕ counted (codes ",\"response\":") response ⊕ codes "}}\n"
 
 abbrev pub age_json : Names → ℕ → ℕ → List ℕ
 age_json names item age =
-    codes "{\"age\":{\"item\":\"" ⊕ name_at names.items item ⊕ codes "\",\"bound\":" ⊕ decimal age ⊕ codes "}}\n"
+    named (codes "{\"age\":{\"item\":\"") names.items item ⊕ counted (codes "\",\"bound\":") age ⊕ codes "}}\n"
 
 -- ---- entries
 
 abbrev pub op_json : Names → Op → List ℕ
-op_json names (Read item) = codes "{\"read\":\"" ⊕ name_at names.items item.0 ⊕ codes "\"}"
+op_json names (Read item) = named (codes "{\"read\":\"") names.items item.0 ⊕ codes "\"}"
 op_json names (Write item value) =
-    codes "{\"write\":\"" ⊕ name_at names.items item.0 ⊕ codes "\",\"value\":" ⊕ signed_decimal value ⊕ codes "}"
+    named (codes "{\"write\":\"") names.items item.0 ⊕ valued (codes "\",\"value\":") value ⊕ codes "}"
 op_json names Compute = codes "\"compute\""
 op_json names Commit = codes "\"commit\""
 op_json names Quit = codes "\"quit\""
 
-abbrev pub stamp_json : Option ℕ → List ℕ
-stamp_json (Some stamp) = decimal stamp
-stamp_json None = codes "null"
+-- the stamp of what a read got; that of a job's own write is null
+unfoldable pub stamp_json : Option ℕ → List ℕ
+stamp_json (Some stamp) = counted (codes ",\"stamp\":") stamp ⊕ codes "}"
+stamp_json None = codes ",\"stamp\":null}"
 
 abbrev pub value_json : Outcome → List ℕ
-value_json (Got value stamp) = signed_decimal value
-value_json Put = []
-value_json Computed = []
-value_json Closed = []
+value_json (Got value stamp) = valued (codes ",\"got\":{\"value\":") value
+value_json outcome = []
 
--- what a read got; the stamp of a job's own write is null
+-- what a read got
 abbrev pub got_json : Outcome → List ℕ
-got_json (Got value stamp) =
-    codes ",\"got\":{\"value\":" ⊕ signed_decimal value ⊕ codes ",\"stamp\":" ⊕ stamp_json stamp ⊕ codes "}"
-got_json Put = []
-got_json Computed = []
-got_json Closed = []
+got_json (Got value stamp) = value_json (Got value stamp) ⊕ stamp_json stamp
+got_json outcome = []
+
+-- an end as a report has it, without the blank before it
+abbrev pub end_words : Names → End → List ℕ
+end_words names e = drop 1 (end_text names e)
 
 abbrev pub end_json : Names → End → List ℕ
-end_json names end.Committed = codes "\"committed\""
-end_json names end.Overrun = codes "\"overrun\""
-end_json names end.Late = codes "\"late\""
 end_json names (end.Stale item stamp) =
-    codes "{\"stale\":\"" ⊕ name_at names.items item.0 ⊕ codes "\",\"stamp\":" ⊕ decimal stamp ⊕ codes "}"
+    named (codes "{\"stale\":\"") names.items item.0 ⊕ counted (codes "\",\"stamp\":") stamp ⊕ codes "}"
 end_json names (end.Apart a b) =
-    codes "{\"apart\":[\"" ⊕ name_at names.items a.0 ⊕ codes "\",\"" ⊕ name_at names.items b.0 ⊕ codes "\"]}"
-end_json names end.Quit = codes "\"quit\""
+    named (codes "{\"apart\":[\"") names.items a.0 ⊕ named (codes "\",\"") names.items b.0 ⊕ codes "\"]}"
+end_json names e = codes "\"" ⊕ end_words names e ⊕ codes "\""
 
 abbrev pub over_json : Names → Option End → List ℕ
 over_json names None = []
@@ -143,28 +152,15 @@ abbrev pub refusal_json : Names → JobId → ℕ → List ℕ
 refusal_json names by ceiling =
     codes ",\"by\":\"" ⊕ job_text names.txns by ⊕ codes "\",\"ceiling\":" ⊕ decimal ceiling
 
--- entries, up to what closes their objects
-
-abbrev pub plan_body : Names → TxId → ℕ → List ℕ
-plan_body names tx tick =
-    codes "{\"plan\":{\"txn\":\"" ⊕ name_at names.txns tx.0 ⊕ codes "\",\"tick\":" ⊕ decimal tick
-
-abbrev pub step_body : Names → JobId → Op → Outcome → Option End → ℕ → List ℕ
-step_body names job op outcome over tick =
-    codes "{\"step\":{\"job\":\"" ⊕ asked_json names job op tick ⊕ answer_json names outcome over
-
-abbrev pub block_body : Names → JobId → Op → JobId → ℕ → ℕ → List ℕ
-block_body names job op by ceiling tick =
-    codes "{\"block\":{\"job\":\"" ⊕ asked_json names job op tick ⊕ refusal_json names by ceiling
-
-abbrev pub idle_body : ℕ → ℕ → List ℕ
-idle_body from to = codes "{\"idle\":{\"from\":" ⊕ decimal from ⊕ codes ",\"to\":" ⊕ decimal to
-
+-- an entry, up to what closes its object
 abbrev pub entry_body : Names → Entry → List ℕ
-entry_body names (Planned tx tick) = plan_body names tx tick
-entry_body names (Step job op outcome over tick) = step_body names job op outcome over tick
-entry_body names (Blocked job op by ceiling tick) = block_body names job op by ceiling tick
-entry_body names (Idle from to) = idle_body from to
+entry_body names (Planned tx tick) =
+    named (codes "{\"plan\":{\"txn\":\"") names.txns tx.0 ⊕ counted (codes "\",\"tick\":") tick
+entry_body names (Step job op outcome over tick) =
+    codes "{\"step\":{\"job\":\"" ⊕ asked_json names job op tick ⊕ answer_json names outcome over
+entry_body names (Blocked job op by ceiling tick) =
+    codes "{\"block\":{\"job\":\"" ⊕ asked_json names job op tick ⊕ refusal_json names by ceiling
+entry_body names (Idle from to) = counted (codes "{\"idle\":{\"from\":") from ⊕ counted (codes ",\"to\":") to
 
 abbrev pub entry_json : Names → ℕ → Entry → List ℕ
 entry_json names place e = entry_body names e ⊕ codes "}}\n"
@@ -174,23 +170,22 @@ entry_json names place e = entry_body names e ⊕ codes "}}\n"
 abbrev pub close_json : Names → ℕ → Option (End × ℕ) → List ℕ
 close_json names release None = codes ",\"tick\":null,\"end\":\"pending\",\"response\":null"
 close_json names release (Some e) =
-    codes ",\"tick\":" ⊕ decimal e.1 ⊕ codes ",\"end\":" ⊕ end_json names e.0 ⊕ codes ",\"response\":"
-    ⊕ decimal (e.1 - release)
+    counted (codes ",\"tick\":") e.1 ⊕ codes ",\"end\":" ⊕ end_json names e.0 ⊕ counted (codes ",\"response\":") (e.1 - release)
 
 abbrev pub by_json : Names → Option JobId → List ℕ
-by_json names None = codes "null"
-by_json names (Some job) = codes "\"" ⊕ job_text names.txns job ⊕ codes "\""
+by_json names None = codes ",\"by\":null"
+by_json names (Some job) = codes ",\"by\":\"" ⊕ job_text names.txns job ⊕ codes "\""
 
 abbrev pub job_json : Names → ℕ → JobRow → List ℕ
 job_json names place row =
-    codes "{\"job\":{\"job\":\"" ⊕ job_text names.txns row.job ⊕ codes "\",\"release\":" ⊕ decimal row.release
-    ⊕ close_json names row.release row.end ⊕ codes ",\"by\":" ⊕ by_json names row.delayed_by ⊕ codes ",\"delay\":"
-    ⊕ decimal row.delay ⊕ codes "}}\n"
+    codes "{\"job\":{\"job\":\"" ⊕ job_text names.txns row.job ⊕ counted (codes "\",\"release\":") row.release
+    ⊕ close_json names row.release row.end ⊕ by_json names row.delayed_by ⊕ counted (codes ",\"delay\":") row.delay
+    ⊕ codes "}}\n"
 
 abbrev pub final_json : Names → ℕ → Stored → List ℕ
 final_json names item stored =
-    codes "{\"final\":{\"item\":\"" ⊕ name_at names.items item ⊕ codes "\",\"value\":" ⊕ signed_decimal stored.value
-    ⊕ codes ",\"stamp\":" ⊕ decimal stored.stamp ⊕ codes "}}\n"
+    named (codes "{\"final\":{\"item\":\"") names.items item ⊕ valued (codes "\",\"value\":") stored.value
+    ⊕ counted (codes ",\"stamp\":") stored.stamp ⊕ codes "}}\n"
 
 abbrev pub last_json : List ℕ
 last_json = codes "{\"end\":{}}\n"

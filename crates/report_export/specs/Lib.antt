@@ -1,3 +1,4 @@
+pub mod Adding
 pub mod Json
 pub mod Table
 pub mod Whole

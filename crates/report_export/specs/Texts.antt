@@ -3,7 +3,7 @@ use Rattle.std.specs.Prelude.{ℕ, Bool, true, List, [], codes, decimal, Option,
 use Rattle.std.specs.List.{count_by}
 use Rattle.rt_base.specs.declared.name.Names.{Names}
 use Rattle.item_model.specs.declared.decl.ItemDecl.{ItemDecl}
-use Rattle.item_model.specs.Kinds.{validity_of_kind}
+use Rattle.item_model.specs.Kinds.{validity_of}
 use Rattle.txn_set.specs.declared.decl.TxnDecl.{TxnDecl}
 use Rattle.txn_set.specs.Set.{Set}
 use Rattle.txn_set.specs.Ceilings.{blocking}
@@ -16,38 +16,35 @@ use Rattle.journal_text.specs.Lines.{◌⊕◌}
 use Rattle.report_text.specs.Rows.{numbered}
 use Rattle.report_text.specs.Texts.{line_end}
 use Rattle.set_admission.specs.Bounds.{response_of, age_of}
-use Rattle.run_report.specs.Summary.{counted, is_committed, is_overrun, is_late, is_quit}
+use Rattle.run_report.specs.Summary.{counted}
 use Rattle.run_report.specs.Counts.{row_is}
-use Rattle.report_export.specs.Worsts.{worst, jobs_of, is_stale, is_apart, is_pending, responses, delays, ages}
+use Rattle.report_export.specs.Worsts.{worst, jobs_of, ended_at, is_pending, responses, delays, ages}
 
 -- a number, or `-` where there is none
 abbrev pub number_text : Option ℕ → List ℕ
 number_text None = codes "-"
 number_text (Some n) = decimal n
 
--- how many jobs ended, and so many of them so
-abbrev pub ended_text : ℕ → ℕ → ℕ → ℕ → List ℕ
-ended_text all committed stale apart =
-    counted (codes "jobs") all ⊕ counted (codes "committed") committed ⊕ counted (codes "stale") stale
-    ⊕ counted (codes "apart") apart
+-- how many jobs ended, and so many of them by the place of their end
+abbrev pub ended_text : ℕ → (ℕ → ℕ) → List ℕ
+ended_text all so =
+    counted (codes "jobs") all ⊕ counted (codes "committed") (so 0) ⊕ counted (codes "stale") (so 1)
+    ⊕ counted (codes "apart") (so 2)
 
 -- so many otherwise, and how many are pending
-abbrev pub others_text : ℕ → ℕ → ℕ → ℕ → List ℕ
-others_text overrun late quit pending =
-    counted (codes "overrun") overrun ⊕ counted (codes "late") late ⊕ counted (codes "quit") quit
+abbrev pub others_text : (ℕ → ℕ) → ℕ → List ℕ
+others_text so pending =
+    counted (codes "overrun") (so 3) ⊕ counted (codes "late") (so 4) ⊕ counted (codes "quit") (so 5)
     ⊕ counted (codes "pending") pending
 
-abbrev pub counts_line : Names → ℕ → ℕ → ℕ → ℕ → ℕ → ℕ → ℕ → ℕ → ℕ → List ℕ
-counts_line names tx all committed stale apart overrun late quit pending =
-    codes "txn" ⊕ field (name_at names.txns tx) ⊕ ended_text all committed stale apart
-    ⊕ others_text overrun late quit pending ⊕ line_end
+abbrev pub counts_line : Names → ℕ → ℕ → (ℕ → ℕ) → ℕ → List ℕ
+counts_line names tx all so pending =
+    codes "txn" ⊕ field (name_at names.txns tx) ⊕ ended_text all so ⊕ others_text so pending ⊕ line_end
 
 -- of these jobs
 abbrev pub jobs_counted : Names → ℕ → List JobRow → List ℕ
 jobs_counted names tx rows =
-    counts_line names tx (count_by (row_is (λ e. true)) rows) (count_by (row_is is_committed) rows)
-    (count_by (row_is is_stale) rows) (count_by (row_is is_apart) rows) (count_by (row_is is_overrun) rows)
-    (count_by (row_is is_late) rows) (count_by (row_is is_quit) rows) (count_by is_pending rows)
+    counts_line names tx (count_by (row_is (λ e. true)) rows) (λ place. count_by (ended_at place) rows) (count_by is_pending rows)
 
 -- the worst of something, beside its bound
 abbrev pub worst_line : Names → List ℕ → ℕ → Option ℕ → Option ℕ → List ℕ
@@ -78,7 +75,7 @@ age_text names item (Some found) bound (Some validity) = age_line names item fou
 
 abbrev pub item_lines : Names → Set → Bool → List JobRow → List Entry → ℕ → ItemDecl → List ℕ
 item_lines names set admitted rows entries item decl =
-    age_text names item (worst (ages rows item entries)) (bound_in admitted (age_of set item)) (validity_of_kind decl.kind)
+    age_text names item (worst (ages rows item entries)) (bound_in admitted (age_of set item)) (validity_of set.items item)
 
 abbrev pub summary_with : Names → Set → Bool → List JobRow → List Entry → List ℕ
 summary_with names set admitted rows entries =

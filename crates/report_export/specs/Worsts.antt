@@ -1,5 +1,5 @@
 -- What is said of the jobs of a transaction, and of the ages of what committed jobs had read.
-use Rattle.std.specs.Prelude.{ℕ, ◌-◌, ◌==◌, max, Bool, true, false, List, [], ◌∷◌, map, Option, None, Some, if◌then◌else◌}
+use Rattle.std.specs.Prelude.{ℕ, ◌-◌, ◌==◌, max, is_none, Bool, List, [], ◌∷◌, map, Option, None, Some, if◌then◌else◌}
 use Rattle.std.specs.List.{filter, filter_map}
 use Rattle.std.specs.Option.{option_map}
 use Rattle.rt_base.specs.declared.ids.JobId.{JobId}
@@ -7,10 +7,11 @@ use Rattle.rt_base.specs.declared.operation.End.{End}
 use Rattle.rt_base.specs.declared.operation.End.TheVariants as end
 use Rattle.item_model.specs.declared.stored.OutsideRead.{OutsideRead}
 use Rattle.step_journal.specs.declared.entry.Entry.{Entry}
-use Rattle.step_journal.specs.declared.entry.Entry.TheVariants.{Planned, Step, Blocked, Idle}
+use Rattle.step_journal.specs.declared.entry.Entry.TheVariants.{Step}
 use Rattle.step_journal.specs.State.{same_job}
 use Rattle.step_journal.specs.Timing.{outside_read}
 use Rattle.job_rows.specs.declared.row.JobRow.{JobRow}
+use Rattle.run_report.specs.Counts.{row_is}
 
 -- ---- the greatest of some numbers, if there is one
 
@@ -27,29 +28,22 @@ worst (x ∷ xs) = Some (at_least x (worst xs))
 abbrev pub jobs_of : ℕ → List JobRow → List JobRow
 jobs_of tx rows = filter (λ row. row.job.tx.0 == tx) rows
 
-abbrev pub is_stale : End → Bool
-is_stale end.Committed = false
-is_stale end.Overrun = false
-is_stale end.Late = false
-is_stale (end.Stale item stamp) = true
-is_stale (end.Apart a b) = false
-is_stale end.Quit = false
+-- the place of an end among the counts of a summary
+abbrev pub place_of : End → ℕ
+place_of end.Committed = 0
+place_of (end.Stale item stamp) = 1
+place_of (end.Apart a b) = 2
+place_of end.Overrun = 3
+place_of end.Late = 4
+place_of end.Quit = 5
 
-abbrev pub is_apart : End → Bool
-is_apart end.Committed = false
-is_apart end.Overrun = false
-is_apart end.Late = false
-is_apart (end.Stale item stamp) = false
-is_apart (end.Apart a b) = true
-is_apart end.Quit = false
-
-abbrev pub is_open : Option (End × ℕ) → Bool
-is_open None = true
-is_open (Some e) = false
+-- the job had an end of this place
+abbrev pub ended_at : ℕ → JobRow → Bool
+ended_at place row = row_is (λ e. place_of e == place) row
 
 -- the job is pending
 abbrev pub is_pending : JobRow → Bool
-is_pending row = is_open row.end
+is_pending row = is_none row.end
 
 -- the response of an ended job: its end less its release
 abbrev pub response_in : JobRow → Option ℕ
@@ -64,17 +58,9 @@ delays rows = map (λ row. row.delay) rows
 -- ---- the ages of an item
 
 -- the tick of an end, if it is a commit
-abbrev pub tick_of : End → ℕ → Option ℕ
-tick_of end.Committed tick = Some tick
-tick_of end.Overrun tick = None
-tick_of end.Late tick = None
-tick_of (end.Stale item stamp) tick = None
-tick_of (end.Apart a b) tick = None
-tick_of end.Quit tick = None
-
 abbrev pub commit_tick : Option (End × ℕ) → Option ℕ
-commit_tick None = None
-commit_tick (Some e) = tick_of e.0 e.1
+commit_tick (Some (end.Committed, tick)) = Some tick
+commit_tick close = None
 
 -- the tick at which a job committed, by its row
 abbrev pub commit_of : List JobRow → JobId → Option ℕ
@@ -88,9 +74,7 @@ read_age rows item job (Some r) = if r.item.0 == item then option_map (λ tick. 
 
 abbrev pub age_in : List JobRow → ℕ → Entry → Option ℕ
 age_in rows item (Step job op outcome over tick) = read_age rows item job (outside_read op outcome)
-age_in rows item (Planned tx tick) = None
-age_in rows item (Blocked job op by ceiling tick) = None
-age_in rows item (Idle from to) = None
+age_in rows item e = None
 
 -- the ages of an item at the end of the committed jobs that had read it from outside, one for each such read
 abbrev pub ages : List JobRow → ℕ → List Entry → List ℕ

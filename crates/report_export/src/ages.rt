@@ -2,7 +2,7 @@
 ghost use Rattle.std.specs.Prelude.{◌≡◌, ◌<◌, ◌^◌, length, replicate, IfOk, OnOk, [], None};
 ghost use Rattle.std.specs.List.{All};
 ghost use Rattle.step_journal.specs.Timing.{outside_read as outside_read_of};
-ghost use Rattle.report_export.specs.Worsts.{tick_of as tick_of_end, commit_tick as commit_tick_of};
+ghost use Rattle.report_export.specs.Worsts.{commit_tick as commit_tick_of};
 ghost use Rattle.report_export.specs.Ages.{with_place, with_tick, commit_at as commit_at_job, with_commit, commits_in, with_age, with_end_of, with_read, with_entry, worst_ages};
 
 use crate::tally::at_least;
@@ -14,25 +14,12 @@ use std::mem;
 use step_journal::Entry;
 
 // The tick of an end, if it is a commit.
-fn tick_of(end: End, tick: Tick) -> Option<Tick>
-    ensures { result ≡ tick_of_end end tick }
-{
-    match end {
-        End::Committed => Some(tick),
-        End::Overrun => None,
-        End::Late => None,
-        End::Stale { .. } => None,
-        End::Apart { .. } => None,
-        End::Quit => None,
-    }
-}
-
 fn commit_tick(end: Option<(End, Tick)>) -> Option<Tick>
     ensures { result ≡ commit_tick_of end }
 {
     match end {
-        Some((end, tick)) => tick_of(end, tick),
-        None => None,
+        Some((End::Committed, tick)) => Some(tick),
+        _ => None,
     }
 }
 
@@ -133,15 +120,9 @@ fn outside_read(op: Op, outcome: Outcome) -> Option<OutsideRead>
                 stamp: Some(stamp),
                 ..
             } => Some(OutsideRead { item, stamp }),
-            Outcome::Got { stamp: None, .. } => None,
-            Outcome::Put => None,
-            Outcome::Computed => None,
-            Outcome::Closed => None,
+            _ => None,
         },
-        Op::Write(_, _) => None,
-        Op::Compute => None,
-        Op::Commit => None,
-        Op::Quit => None,
+        _ => None,
     }
 }
 
@@ -194,9 +175,7 @@ fn put_entry(worsts: &mut [Option<Tick>], commits: &[List<Option<Tick>>], entry:
             outcome,
             ..
         } => put_step(worsts, commits, job, outside_read(op, outcome)),
-        Entry::Planned { .. } => {}
-        Entry::Blocked { .. } => {}
-        Entry::Idle { .. } => {}
+        _ => {}
     }
 }
 

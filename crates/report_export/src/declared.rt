@@ -1,44 +1,33 @@
 //! Declarations as JSON.
 ghost use Rattle.std.specs.Prelude.{◌≡◌, ◌+◌, ◌<◌, ◌≤◌, ◌++◌, ◌==◌, not, length, drop, OnOk, vec_len, vec_capacity};
 ghost use Rattle.std.specs.List.{All, list_any};
-ghost use Rattle.std.specs.Fmt.{signed_decimal};
 ghost use Rattle.report_text.specs.Rows.{numbered};
 ghost use Rattle.report_text.specs.Texts.{item_name, is_second as is_second_set, NamesSet};
-ghost use Rattle.report_export.specs.Json.{report_json, kind_json, item_json, more_item, items_json, times_json, txn_json, within_json, together_json, mode_json};
+ghost use Rattle.report_export.specs.Adding.{Grows};
+ghost use Rattle.report_export.specs.Json.{report_json, kind_json, item_json, more_item, listed, times_json, txn_json, together_json, mode_json};
 ghost use Rattle.report_export.specs.Whole.{declared_json};
 
-use crate::parts::{put_integer, put_name, put_number, put_short};
+use crate::parts::{add_text, put_counted, put_named, put_valued};
 use item_model::{ItemDecl, ItemKind};
 use journal_text::put;
-use rt_base::{ItemId, Names, OutOfMemory, TogetherDecl, TxId};
+use rt_base::{ItemId, List, Names, OutOfMemory, TogetherDecl};
 use txn_set::{CompiledSet, TxnDecl};
 
+#[tactic(auto, unfolding(crate::specs::Json::kind_json))]
 fn put_kind(into: &mut Vec<u8>, kind: ItemKind)
     requires { vec_len into.old + 50 ≤ vec_capacity into.old }
     ensures items { into.new.items ≡ into.old.items ++ kind_json kind }
-    ensures len { vec_len into.new ≤ vec_len into.old + 50 }
-    ensures room { vec_capacity into.old ≤ vec_capacity into.new }
+    ensures most { Grows into.old into.new 50 }
 {
     match kind {
         ItemKind::Sensor { validity } => {
-            put(into, b"sensor\",\"validity\":");
-            put_number(into, validity);
+            put_counted(into, b"\",\"kind\":\"sensor\",\"validity\":", validity);
         }
         ItemKind::Derived { validity } => {
-            put(into, b"derived\",\"validity\":");
-            put_number(into, validity);
+            put_counted(into, b"\",\"kind\":\"derived\",\"validity\":", validity);
         }
-        ItemKind::State => put(into, b"state\",\"validity\":null"),
+        ItemKind::State => put(into, b"\",\"kind\":\"state\",\"validity\":null"),
     }
-}
-
-fn put_initial(into: &mut Vec<u8>, decl: &ItemDecl)
-    requires { vec_len into.old + 20 ≤ vec_capacity into.old }
-    ensures items { into.new.items ≡ into.old.items ++ signed_decimal decl.now.initial }
-    ensures len { vec_len into.new ≤ vec_len into.old + 20 }
-    ensures room { vec_capacity into.old ≤ vec_capacity into.new }
-{
-    put_integer(into, decl.initial);
 }
 
 fn add_item(into: &mut Vec<u8>, names: &Names, at: u32, decl: &ItemDecl) -> Result<(), OutOfMemory>
@@ -46,12 +35,9 @@ fn add_item(into: &mut Vec<u8>, names: &Names, at: u32, decl: &ItemDecl) -> Resu
     ensures { OnOk result (into.new.items ≡ into.old.items ++ item_json names.now at decl.now) }
 {
     into.reserve(256)?;
-    put(into, b"{\"item\":{\"name\":\"");
-    put_name(into, &names.items, at);
-    put(into, b"\",\"kind\":\"");
+    put_named(into, b"{\"item\":{\"name\":\"", &names.items, at);
     put_kind(into, decl.kind);
-    put(into, b",\"value\":");
-    put_initial(into, decl);
+    put_valued(into, b",\"value\":", decl.initial);
     put(into, b"}}\n");
     Ok(())
 }
@@ -61,17 +47,9 @@ fn add_items(into: &mut Vec<u8>, names: &Names, set: &CompiledSet) -> Result<(),
     ensures { OnOk result (into.new.items ≡ into.old.items ++ numbered (item_json names.now) 0 set.now.items) }
 {
     set.is_compiled();
-    let items = set.items();
-    for i in 0..items.len() {
-        add_item(into, names, i as u32, &items[i])?;
+    for (i, decl) in set.items().iter().enumerate() {
+        add_item(into, names, i as u32, decl)?;
     }
-    Ok(())
-}
-
-fn add_text(into: &mut Vec<u8>, text: &[u8]) -> Result<(), OutOfMemory>
-    ensures { OnOk result (into.new.items ≡ into.old.items ++ text.now) }
-{
-    into.extend_from_slice(text)?;
     Ok(())
 }
 
@@ -81,42 +59,47 @@ fn add_name(into: &mut Vec<u8>, names: &Names, id: ItemId) -> Result<(), OutOfMe
     requires { id.0 < length names.now.items }
     ensures { OnOk result (into.new.items ≡ into.old.items ++ item_name names.now id) }
 {
-    into.extend_from_slice(names.items.as_slice()[id.0 as usize].as_slice())?;
-    Ok(())
+    add_text(into, names.items.as_slice()[id.0 as usize].as_slice())
 }
 
 fn add_more(into: &mut Vec<u8>, names: &Names, id: ItemId) -> Result<(), OutOfMemory>
     requires { id.0 < length names.now.items }
     ensures { OnOk result (into.new.items ≡ into.old.items ++ more_item names.now 0 id) }
 {
-    into.extend_from_slice(b"\",\"")?;
+    add_text(into, b"\",\"")?;
     add_name(into, names, id)
 }
 
 fn add_others(into: &mut Vec<u8>, names: &Names, ids: &[ItemId]) -> Result<(), OutOfMemory>
-    requires known { All (λ i. i.0 < length names.now.items) ids.now }
-    requires some { 1 ≤ length ids.now }
-    ensures { OnOk result (into.new.items ≡ into.old.items ++ numbered (more_item names.now) 1 (drop 1 ids.now)) }
+    requires { All (λ i. i.0 < length names.now.items) ids.now }
+    ensures { OnOk result (into.new.items ≡ into.old.items ++ numbered (more_item names.now) 1 ids.now) }
 {
-    for i in 1..ids.len() {
-        add_more(into, names, ids[i])?;
+    for id in ids {
+        add_more(into, names, *id)?;
     }
     Ok(())
 }
 
-fn add_list(into: &mut Vec<u8>, names: &Names, ids: &[ItemId]) -> Result<(), OutOfMemory>
+#[tactic(auto, unfolding(crate::specs::Json::listed))]
+fn add_list(
+    into: &mut Vec<u8>,
+    bytes: &[u8],
+    names: &Names,
+    ids: &List<ItemId>,
+) -> Result<(), OutOfMemory>
     requires { All (λ i. i.0 < length names.now.items) ids.now }
-    ensures { OnOk result (into.new.items ≡ into.old.items ++ items_json names.now ids.now) }
+    ensures { OnOk result (into.new.items ≡ into.old.items ++ listed bytes.now names.now ids.now) }
 {
-    if ids.is_empty() {
-        into.extend_from_slice(b"[]")?;
-        return Ok(());
+    add_text(into, bytes)?;
+    match ids.as_slice() {
+        [] => add_text(into, b"[]"),
+        [first, rest @ ..] => {
+            add_text(into, b"[\"")?;
+            add_name(into, names, *first)?;
+            add_others(into, names, rest)?;
+            add_text(into, b"\"]")
+        }
     }
-    into.extend_from_slice(b"[\"")?;
-    add_name(into, names, ids[0])?;
-    add_others(into, names, ids)?;
-    into.extend_from_slice(b"\"]")?;
-    Ok(())
 }
 
 // ---- transactions and relative sets
@@ -126,20 +109,13 @@ fn add_times(into: &mut Vec<u8>, names: &Names, at: u32, decl: &TxnDecl) -> Resu
     ensures { OnOk result (into.new.items ≡ into.old.items ++ times_json names.now at decl.now) }
 {
     into.reserve(400)?;
-    put(into, b"{\"txn\":{\"name\":\"");
-    put_name(into, &names.txns, at);
-    put(into, b"\",\"prio\":");
-    put_short(into, decl.prio);
-    put(into, b",\"period\":");
-    put_number(into, decl.period);
-    put(into, b",\"offset\":");
-    put_number(into, decl.offset);
-    put(into, b",\"deadline\":");
-    put_number(into, decl.deadline);
-    put(into, b",\"steps\":");
-    put_number(into, decl.steps);
-    put(into, b",\"quiet\":");
-    put_number(into, decl.quiet);
+    put_named(into, b"{\"txn\":{\"name\":\"", &names.txns, at);
+    put_counted(into, b"\",\"prio\":", decl.prio as u64);
+    put_counted(into, b",\"period\":", decl.period);
+    put_counted(into, b",\"offset\":", decl.offset);
+    put_counted(into, b",\"deadline\":", decl.deadline);
+    put_counted(into, b",\"steps\":", decl.steps);
+    put_counted(into, b",\"quiet\":", decl.quiet);
     Ok(())
 }
 
@@ -150,10 +126,8 @@ fn add_txn(into: &mut Vec<u8>, names: &Names, at: u32, decl: &TxnDecl) -> Result
     ensures { OnOk result (into.new.items ≡ into.old.items ++ txn_json names.now at decl.now) }
 {
     add_times(into, names, at, decl)?;
-    add_text(into, b",\"reads\":")?;
-    add_list(into, names, decl.reads.as_slice())?;
-    add_text(into, b",\"writes\":")?;
-    add_list(into, names, decl.writes.as_slice())?;
+    add_list(into, b",\"reads\":", names, &decl.reads)?;
+    add_list(into, b",\"writes\":", names, &decl.writes)?;
     add_text(into, b"}}\n")?;
     Ok(())
 }
@@ -163,19 +137,9 @@ fn add_txns(into: &mut Vec<u8>, names: &Names, set: &CompiledSet) -> Result<(), 
     ensures { OnOk result (into.new.items ≡ into.old.items ++ numbered (txn_json names.now) 0 set.now.txns) }
 {
     set.is_compiled();
-    for i in 0..set.txns().len() {
-        add_txn(into, names, i as u32, set.txn(TxId(i as u32)))?;
+    for (i, decl) in set.txns().iter().enumerate() {
+        add_txn(into, names, i as u32, decl)?;
     }
-    Ok(())
-}
-
-fn add_within(into: &mut Vec<u8>, within: u64) -> Result<(), OutOfMemory>
-    ensures { OnOk result (into.new.items ≡ into.old.items ++ within_json within) }
-{
-    into.reserve(256)?;
-    put(into, b"{\"together\":{\"within\":");
-    put_number(into, within);
-    put(into, b",\"items\":");
     Ok(())
 }
 
@@ -183,10 +147,10 @@ fn add_set(into: &mut Vec<u8>, names: &Names, decl: &TogetherDecl) -> Result<(),
     requires { All (λ i. i.0 < length names.now.items) decl.now.items }
     ensures { OnOk result (into.new.items ≡ into.old.items ++ together_json names.now 0 decl.now) }
 {
-    add_within(into, decl.within)?;
-    add_list(into, names, decl.items.as_slice())?;
-    into.extend_from_slice(b"}}\n")?;
-    Ok(())
+    into.reserve(256)?;
+    put_counted(into, b"{\"together\":{\"within\":", decl.within);
+    add_list(into, b",\"items\":", names, &decl.items)?;
+    add_text(into, b"}}\n")
 }
 
 fn add_sets(into: &mut Vec<u8>, names: &Names, set: &CompiledSet) -> Result<(), OutOfMemory>
@@ -194,9 +158,8 @@ fn add_sets(into: &mut Vec<u8>, names: &Names, set: &CompiledSet) -> Result<(), 
     ensures { OnOk result (into.new.items ≡ into.old.items ++ numbered (together_json names.now) 0 set.now.together) }
 {
     set.is_compiled();
-    let sets = set.together();
-    for i in 0..sets.len() {
-        add_set(into, names, &sets[i])?;
+    for decl in set.together() {
+        add_set(into, names, decl)?;
     }
     Ok(())
 }
@@ -220,11 +183,9 @@ fn add_report(into: &mut Vec<u8>, second: bool) -> Result<(), OutOfMemory>
     ensures { OnOk result (into.new.items ≡ into.old.items ++ report_json second) }
 {
     if second {
-        into.extend_from_slice(b"{\"report\":{\"version\":2}}\n")?;
-        Ok(())
+        add_text(into, b"{\"report\":{\"version\":2}}\n")
     } else {
-        into.extend_from_slice(b"{\"report\":{\"version\":1}}\n")?;
-        Ok(())
+        add_text(into, b"{\"report\":{\"version\":1}}\n")
     }
 }
 
@@ -232,11 +193,9 @@ fn add_mode(into: &mut Vec<u8>, admitted: bool) -> Result<(), OutOfMemory>
     ensures { OnOk result (into.new.items ≡ into.old.items ++ mode_json admitted) }
 {
     if admitted {
-        into.extend_from_slice(b"{\"mode\":{\"admitted\":true}}\n")?;
-        Ok(())
+        add_text(into, b"{\"mode\":{\"admitted\":true}}\n")
     } else {
-        into.extend_from_slice(b"{\"mode\":{\"admitted\":false}}\n")?;
-        Ok(())
+        add_text(into, b"{\"mode\":{\"admitted\":false}}\n")
     }
 }
 

@@ -1,6 +1,7 @@
 //! Numbers that come again from line to line.
 ghost use Rattle.std.specs.Prelude.{◌≡◌, ◌+◌, ◌<◌, ◌≤◌, ◌++◌, length, decimal, vec_len, vec_capacity};
 ghost use Rattle.journal_text.specs.Ids.{job_text};
+ghost use Rattle.report_export.specs.Adding.{Grows};
 
 use crate::parts::put_name;
 use journal_text::Numeral;
@@ -33,8 +34,7 @@ impl Digits {
     pub(crate) fn put_tick(&mut self, into: &mut Vec<u8>, tick: Tick)
         requires { vec_len into.old + 32 ≤ vec_capacity into.old }
         ensures items { into.new.items ≡ into.old.items ++ decimal tick }
-        ensures len { vec_len into.new ≤ vec_len into.old + 20 }
-        ensures room { vec_capacity into.old ≤ vec_capacity into.new }
+        ensures most { Grows into.old into.new 20 }
     {
         self.tick.go_to(tick);
         self.tick.put(into);
@@ -47,8 +47,7 @@ impl Digits {
         requires known { job.tx.0 < length txns.now }
         requires room { vec_len into.old + 65 ≤ vec_capacity into.old }
         ensures items { into.new.items ≡ into.old.items ++ job_text txns.now job }
-        ensures len { vec_len into.new ≤ vec_len into.old + 43 }
-        ensures room { vec_capacity into.old ≤ vec_capacity into.new }
+        ensures most { Grows into.old into.new 43 }
     {
         put_name(into, txns, job.tx.0);
         into.push_reserved(b'/');

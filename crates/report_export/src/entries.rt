@@ -3,12 +3,13 @@ ghost use Rattle.std.specs.Prelude.{◌≡◌, ◌+◌, ◌<◌, ◌≤◌, ◌+
 ghost use Rattle.std.specs.List.{All};
 ghost use Rattle.journal_text.specs.Lines.{KnownOp, KnownOver, IsWritable};
 ghost use Rattle.report_text.specs.Rows.{numbered};
-ghost use Rattle.report_export.specs.Json.{op_json, stamp_json, value_json, got_json, over_json, asked_json, answer_json, refusal_json, plan_body, idle_body, entry_body, entry_json};
+ghost use Rattle.report_export.specs.Adding.{Grows};
+ghost use Rattle.report_export.specs.Json.{op_json, stamp_json, value_json, got_json, over_json, asked_json, answer_json, refusal_json, entry_body, entry_json};
 
 use crate::digits::Digits;
-use crate::parts::{put_end, put_integer, put_name, put_number, put_short};
+use crate::parts::{put_counted, put_end, put_named, put_short, put_valued};
 use journal_text::put;
-use rt_base::{End, JobId, Names, Op, OutOfMemory, Outcome, Prio, Tick, TxId};
+use rt_base::{End, JobId, Names, Op, OutOfMemory, Outcome, Prio, Tick};
 use std::mem;
 use step_journal::Entry;
 
@@ -17,20 +18,16 @@ fn put_op(into: &mut Vec<u8>, names: &Names, op: Op)
     requires known { KnownOp names.now op }
     requires room { vec_len into.old + 80 ≤ vec_capacity into.old }
     ensures items { into.new.items ≡ into.old.items ++ op_json names.now op }
-    ensures len { vec_len into.new ≤ vec_len into.old + 80 }
-    ensures room { vec_capacity into.old ≤ vec_capacity into.new }
+    ensures most { Grows into.old into.new 80 }
 {
     match op {
         Op::Read(item) => {
-            put(into, b"{\"read\":\"");
-            put_name(into, &names.items, item.0);
+            put_named(into, b"{\"read\":\"", &names.items, item.0);
             put(into, b"\"}");
         }
         Op::Write(item, value) => {
-            put(into, b"{\"write\":\"");
-            put_name(into, &names.items, item.0);
-            put(into, b"\",\"value\":");
-            put_integer(into, value);
+            put_named(into, b"{\"write\":\"", &names.items, item.0);
+            put_valued(into, b"\",\"value\":", value);
             put(into, b"}");
         }
         Op::Compute => put(into, b"\"compute\""),
@@ -40,31 +37,31 @@ fn put_op(into: &mut Vec<u8>, names: &Names, op: Op)
 }
 
 #[inline(always)]
+#[tactic(auto, unfolding(crate::specs::Json::stamp_json))]
 fn put_stamp(into: &mut Vec<u8>, stamp: Option<Tick>)
-    requires { vec_len into.old + 20 ≤ vec_capacity into.old }
+    requires { vec_len into.old + 30 ≤ vec_capacity into.old }
     ensures items { into.new.items ≡ into.old.items ++ stamp_json stamp }
-    ensures len { vec_len into.new ≤ vec_len into.old + 20 }
-    ensures room { vec_capacity into.old ≤ vec_capacity into.new }
+    ensures most { Grows into.old into.new 30 }
 {
     match stamp {
-        Some(stamp) => put_number(into, stamp),
-        None => put(into, b"null"),
+        Some(stamp) => {
+            put_counted(into, b",\"stamp\":", stamp);
+            put(into, b"}");
+        }
+        None => put(into, b",\"stamp\":null}"),
     }
 }
 
 // Adds the value that a read got.
 #[inline(always)]
 fn put_value(into: &mut Vec<u8>, outcome: Outcome)
-    requires { vec_len into.old + 20 ≤ vec_capacity into.old }
+    requires { vec_len into.old + 40 ≤ vec_capacity into.old }
     ensures items { into.new.items ≡ into.old.items ++ value_json outcome }
-    ensures len { vec_len into.new ≤ vec_len into.old + 20 }
-    ensures room { vec_capacity into.old ≤ vec_capacity into.new }
+    ensures most { Grows into.old into.new 40 }
 {
     match outcome {
-        Outcome::Got { value, .. } => put_integer(into, value),
-        Outcome::Put => {}
-        Outcome::Computed => {}
-        Outcome::Closed => {}
+        Outcome::Got { value, .. } => put_valued(into, b",\"got\":{\"value\":", value),
+        _ => {}
     }
 }
 
@@ -72,20 +69,14 @@ fn put_value(into: &mut Vec<u8>, outcome: Outcome)
 fn put_got(into: &mut Vec<u8>, outcome: Outcome)
     requires { vec_len into.old + 70 ≤ vec_capacity into.old }
     ensures items { into.new.items ≡ into.old.items ++ got_json outcome }
-    ensures len { vec_len into.new ≤ vec_len into.old + 70 }
-    ensures room { vec_capacity into.old ≤ vec_capacity into.new }
+    ensures most { Grows into.old into.new 70 }
 {
     match outcome {
         Outcome::Got { stamp, .. } => {
-            put(into, b",\"got\":{\"value\":");
             put_value(into, outcome);
-            put(into, b",\"stamp\":");
             put_stamp(into, stamp);
-            put(into, b"}");
         }
-        Outcome::Put => {}
-        Outcome::Computed => {}
-        Outcome::Closed => {}
+        _ => {}
     }
 }
 
@@ -94,8 +85,7 @@ fn put_over(into: &mut Vec<u8>, names: &Names, over: Option<End>)
     requires known { KnownOver names.now over }
     requires room { vec_len into.old + 100 ≤ vec_capacity into.old }
     ensures items { into.new.items ≡ into.old.items ++ over_json names.now over }
-    ensures len { vec_len into.new ≤ vec_len into.old + 100 }
-    ensures room { vec_capacity into.old ≤ vec_capacity into.new }
+    ensures most { Grows into.old into.new 100 }
 {
     match over {
         None => {}
@@ -113,8 +103,7 @@ fn put_asked(into: &mut Vec<u8>, names: &Names, digits: &mut Digits, job: JobId,
     requires op { KnownOp names.now op }
     requires room { vec_len into.old + 160 ≤ vec_capacity into.old }
     ensures items { into.new.items ≡ into.old.items ++ asked_json names.now job op tick }
-    ensures len { vec_len into.new ≤ vec_len into.old + 160 }
-    ensures room { vec_capacity into.old ≤ vec_capacity into.new }
+    ensures most { Grows into.old into.new 160 }
 {
     digits.put_job(into, &names.txns, job);
     put(into, b"\",\"tick\":");
@@ -129,8 +118,7 @@ fn put_answer(into: &mut Vec<u8>, names: &Names, outcome: Outcome, over: Option<
     requires known { KnownOver names.now over }
     requires room { vec_len into.old + 170 ≤ vec_capacity into.old }
     ensures items { into.new.items ≡ into.old.items ++ answer_json names.now outcome over }
-    ensures len { vec_len into.new ≤ vec_len into.old + 170 }
-    ensures room { vec_capacity into.old ≤ vec_capacity into.new }
+    ensures most { Grows into.old into.new 170 }
 {
     put_got(into, outcome);
     put_over(into, names, over);
@@ -142,8 +130,7 @@ fn put_refusal(into: &mut Vec<u8>, names: &Names, digits: &mut Digits, by: JobId
     requires by { by.tx.0 < length names.now.txns }
     requires room { vec_len into.old + 80 ≤ vec_capacity into.old }
     ensures items { into.new.items ≡ into.old.items ++ refusal_json names.now by ceiling }
-    ensures len { vec_len into.new ≤ vec_len into.old + 80 }
-    ensures room { vec_capacity into.old ≤ vec_capacity into.new }
+    ensures most { Grows into.old into.new 80 }
 {
     put(into, b",\"by\":\"");
     digits.put_job(into, &names.txns, by);
@@ -152,42 +139,17 @@ fn put_refusal(into: &mut Vec<u8>, names: &Names, digits: &mut Digits, by: JobId
 }
 
 #[inline(always)]
-fn put_plan(into: &mut Vec<u8>, names: &Names, tx: TxId, tick: Tick)
-    requires known { tx.0 < length names.now.txns }
-    requires room { vec_len into.old + 390 ≤ vec_capacity into.old }
-    ensures items { into.new.items ≡ into.old.items ++ plan_body names.now tx tick }
-    ensures len { vec_len into.new ≤ vec_len into.old + 390 }
-    ensures room { vec_capacity into.old ≤ vec_capacity into.new }
-{
-    put(into, b"{\"plan\":{\"txn\":\"");
-    put_name(into, &names.txns, tx.0);
-    put(into, b"\",\"tick\":");
-    put_number(into, tick);
-}
-
-#[inline(always)]
-fn put_idle(into: &mut Vec<u8>, from: Tick, to: Tick)
-    requires { vec_len into.old + 390 ≤ vec_capacity into.old }
-    ensures items { into.new.items ≡ into.old.items ++ idle_body from to }
-    ensures len { vec_len into.new ≤ vec_len into.old + 390 }
-    ensures room { vec_capacity into.old ≤ vec_capacity into.new }
-{
-    put(into, b"{\"idle\":{\"from\":");
-    put_number(into, from);
-    put(into, b",\"to\":");
-    put_number(into, to);
-}
-
-#[inline(always)]
 fn put_body(into: &mut Vec<u8>, names: &Names, digits: &mut Digits, entry: &Entry)
     requires known { IsWritable names.now entry.now }
     requires room { vec_len into.old + 390 ≤ vec_capacity into.old }
     ensures items { into.new.items ≡ into.old.items ++ entry_body names.now entry.now }
-    ensures len { vec_len into.new ≤ vec_len into.old + 390 }
-    ensures room { vec_capacity into.old ≤ vec_capacity into.new }
+    ensures most { Grows into.old into.new 390 }
 {
     match entry {
-        Entry::Planned { tx, tick } => put_plan(into, names, *tx, *tick),
+        Entry::Planned { tx, tick } => {
+            put_named(into, b"{\"plan\":{\"txn\":\"", &names.txns, tx.0);
+            put_counted(into, b"\",\"tick\":", *tick);
+        }
         Entry::Step {
             job,
             op,
@@ -210,7 +172,10 @@ fn put_body(into: &mut Vec<u8>, names: &Names, digits: &mut Digits, entry: &Entr
             put_asked(into, names, digits, *job, *op, *tick);
             put_refusal(into, names, digits, *by, *ceiling);
         }
-        Entry::Idle { from, to } => put_idle(into, *from, *to),
+        Entry::Idle { from, to } => {
+            put_counted(into, b"{\"idle\":{\"from\":", *from);
+            put_counted(into, b",\"to\":", *to);
+        }
     }
 }
 
@@ -252,8 +217,8 @@ pub(crate) fn add_entries(
     ensures { OnOk result (into.new.items ≡ into.old.items ++ numbered (entry_json names.now) 0 entries.now) }
 {
     let mut digits = Digits::new();
-    for i in 0..entries.len() {
-        add_entry(into, names, &mut digits, &entries[i])?;
+    for entry in entries {
+        add_entry(into, names, &mut digits, entry)?;
     }
     Ok(())
 }

@@ -5,7 +5,7 @@ ghost use Rattle.report_text.specs.Texts.{NamesSet};
 ghost use Rattle.report_export.specs.Json.{ceiling_json, bound_json, age_json};
 ghost use Rattle.report_export.specs.Whole.{ceilings_json, bounds_json, age_of_item, ages_json, limits_json};
 
-use crate::parts::{put_name, put_number, put_short};
+use crate::parts::{put_counted, put_named};
 use journal_text::put;
 use rt_base::{ItemId, Names, OutOfMemory, Prio, Tick, TxId};
 use set_admission::AdmittedSet;
@@ -22,12 +22,9 @@ fn add_ceiling(
     ensures { OnOk result (into.new.items ≡ into.old.items ++ ceiling_json names.now item.0 write absolute) }
 {
     into.reserve(256)?;
-    put(into, b"{\"ceiling\":{\"item\":\"");
-    put_name(into, &names.items, item.0);
-    put(into, b"\",\"write\":");
-    put_short(into, write);
-    put(into, b",\"absolute\":");
-    put_short(into, absolute);
+    put_named(into, b"{\"ceiling\":{\"item\":\"", &names.items, item.0);
+    put_counted(into, b"\",\"write\":", write as u64);
+    put_counted(into, b",\"absolute\":", absolute as u64);
     put(into, b"}}\n");
     Ok(())
 }
@@ -66,12 +63,9 @@ fn add_bound(
     ensures { OnOk result (into.new.items ≡ into.old.items ++ bound_json names.now tx.0 blocking response) }
 {
     into.reserve(256)?;
-    put(into, b"{\"bound\":{\"txn\":\"");
-    put_name(into, &names.txns, tx.0);
-    put(into, b"\",\"blocking\":");
-    put_number(into, blocking);
-    put(into, b",\"response\":");
-    put_number(into, response);
+    put_named(into, b"{\"bound\":{\"txn\":\"", &names.txns, tx.0);
+    put_counted(into, b"\",\"blocking\":", blocking);
+    put_counted(into, b",\"response\":", response);
     put(into, b"}}\n");
     Ok(())
 }
@@ -81,7 +75,7 @@ fn add_bounds(into: &mut Vec<u8>, names: &Names, set: &AdmittedSet) -> Result<()
     ensures { OnOk result (into.new.items ≡ into.old.items ++ numbered (bounds_json names.now set.now) 0 set.now.txns) }
 {
     set.is_admitted();
-    for i in 0..set.set().txns().len() {
+    for (i, _) in set.set().txns().iter().enumerate() {
         let tx = TxId(i as u32);
         add_bound(into, names, tx, set.blocking(tx), set.response(tx))?;
     }
@@ -93,10 +87,8 @@ fn add_age(into: &mut Vec<u8>, names: &Names, item: ItemId, age: Tick) -> Result
     ensures { OnOk result (into.new.items ≡ into.old.items ++ age_json names.now item.0 age) }
 {
     into.reserve(256)?;
-    put(into, b"{\"age\":{\"item\":\"");
-    put_name(into, &names.items, item.0);
-    put(into, b"\",\"bound\":");
-    put_number(into, age);
+    put_named(into, b"{\"age\":{\"item\":\"", &names.items, item.0);
+    put_counted(into, b"\",\"bound\":", age);
     put(into, b"}}\n");
     Ok(())
 }

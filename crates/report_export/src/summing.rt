@@ -58,7 +58,7 @@ fn add_items(
     let commits = commits(alloc, set.txns().len(), rows)?;
     let worsts = ages(alloc, items.len(), commits.as_slice(), entries)?;
     for i in 0..items.len() {
-        add_age(into, summed, i as u32, items[i].kind, worsts[i])?;
+        add_age(into, summed, i as u32, worsts[i])?;
     }
     Ok(())
 }

@@ -1,24 +1,19 @@
 //! How the jobs of each transaction ended, with their worst response and delay.
 ghost use Rattle.std.specs.Prelude.{◌≡◌, ◌<◌, length, replicate, IfOk};
 ghost use Rattle.std.specs.List.{All};
-ghost use Rattle.report_export.specs.Worsts.{at_least};
+ghost use Rattle.report_export.specs.Worsts.{at_least, place_of};
 ghost use Rattle.report_export.specs.Tallies.{no_jobs, with_end, with_close, with_row, tally_at, with_job, tallied, FewJobs};
 
 use job_rows::JobRow;
 use rt_base::{End, OutOfMemory, Tick};
 use std::alloc::Global;
 
-/// What is kept of the jobs of a transaction: how many ended, and how, how many are pending, the greatest response of the
-/// ended ones and the greatest delay, None where there is none.
+/// What is kept of the jobs of a transaction: how many ended, and how, by the places of ends, how many are pending, the greatest
+/// response of the ended ones and the greatest delay, None where there is none.
 #[derive(Clone, Copy)]
 pub(crate) struct Tally {
     pub ended: u64,
-    pub committed: u64,
-    pub stale: u64,
-    pub apart: u64,
-    pub overrun: u64,
-    pub late: u64,
-    pub quit: u64,
+    pub ends: [u64; 6],
     pub pending: u64,
     pub response: Option<Tick>,
     pub delay: Option<Tick>,
@@ -34,19 +29,26 @@ pub(crate) fn at_least(next: Tick, greatest: Option<Tick>) -> Tick
     }
 }
 
+fn place(end: End) -> usize
+    ensures value { result ≡ place_of end }
+    ensures few { result < 6 }
+{
+    match end {
+        End::Committed => 0,
+        End::Stale { .. } => 1,
+        End::Apart { .. } => 2,
+        End::Overrun => 3,
+        End::Late => 4,
+        End::Quit => 5,
+    }
+}
+
 fn count_end(tally: &mut Tally, end: End)
     requires { FewJobs tally.old }
     ensures { tally.new ≡ with_end end tally.old }
 {
     tally.ended += 1;
-    match end {
-        End::Committed => tally.committed += 1,
-        End::Overrun => tally.overrun += 1,
-        End::Late => tally.late += 1,
-        End::Stale { .. } => tally.stale += 1,
-        End::Apart { .. } => tally.apart += 1,
-        End::Quit => tally.quit += 1,
-    }
+    tally.ends[place(end)] += 1;
 }
 
 fn count_close(tally: &mut Tally, release: Tick, end: Option<(End, Tick)>)
@@ -88,12 +90,7 @@ fn no_tallies(alloc: Global, txns: usize) -> Result<Vec<Tally>, OutOfMemory>
         txns,
         Tally {
             ended: 0,
-            committed: 0,
-            stale: 0,
-            apart: 0,
-            overrun: 0,
-            late: 0,
-            quit: 0,
+            ends: [0; 6],
             pending: 0,
             response: None,
             delay: None,

@@ -1,16 +1,17 @@
 //! The lines of a summary.
 ghost use Rattle.std.specs.Prelude.{◌≡◌, ◌+◌, ◌<◌, ◌≤◌, ◌++◌, length, is_some, IsTrue, IfSome, OnOk, vec_len, vec_capacity};
-ghost use Rattle.item_model.specs.Kinds.{validity_of, validity_of_kind, is_dated};
+ghost use Rattle.item_model.specs.Kinds.{validity_of, is_dated};
 ghost use Rattle.txn_set.specs.Set.{txn_of};
 ghost use Rattle.txn_set.specs.Ceilings.{blocking as blocking_of};
 ghost use Rattle.set_admission.specs.Bounds.{response_of, age_of};
 ghost use Rattle.journal_text.specs.Cuts.{field};
 ghost use Rattle.run_report.specs.Summary.{counted};
+ghost use Rattle.report_export.specs.Adding.{Grows};
 ghost use Rattle.report_export.specs.Texts.{number_text, ended_text, others_text, counts_line, worst_line, bound_in, age_line, age_text};
-ghost use Rattle.report_export.specs.Tallies.{tally_lines};
+ghost use Rattle.report_export.specs.Tallies.{count_at, tally_lines};
 
 use crate::tally::Tally;
-use item_model::ItemKind;
+use item_model::validity;
 use journal_text::{put, put_field, put_name, put_unsigned};
 use rt_base::{ItemId, Names, OutOfMemory, Tick, TxId};
 use set_admission::AdmittedSet;
@@ -31,8 +32,7 @@ pub(crate) struct Summed<'a> {
 fn put_count(into: &mut Vec<u8>, word: &[u8], n: u64)
     requires { vec_len into.old + length word.now + 22 ≤ vec_capacity into.old }
     ensures items { into.new.items ≡ into.old.items ++ counted word.now n }
-    ensures len { vec_len into.new ≤ vec_len into.old + length word.now + 22 }
-    ensures room { vec_capacity into.old ≤ vec_capacity into.new }
+    ensures most { Grows into.old into.new (length word.now + 22) }
 {
     put_field(into, word);
     put_unsigned(into, n);
@@ -42,8 +42,7 @@ fn put_count(into: &mut Vec<u8>, word: &[u8], n: u64)
 fn put_number(into: &mut Vec<u8>, n: Option<u64>)
     requires { vec_len into.old + 21 ≤ vec_capacity into.old }
     ensures items { into.new.items ≡ into.old.items ++ field (number_text n) }
-    ensures len { vec_len into.new ≤ vec_len into.old + 21 }
-    ensures room { vec_capacity into.old ≤ vec_capacity into.new }
+    ensures most { Grows into.old into.new 21 }
 {
     match n {
         Some(n) => put_unsigned(into, n),
@@ -54,32 +53,30 @@ fn put_number(into: &mut Vec<u8>, n: Option<u64>)
 // Adds how many jobs ended, and how many of them committed, or were stale or apart.
 fn put_ended(into: &mut Vec<u8>, tally: &Tally)
     requires { vec_len into.old + 120 ≤ vec_capacity into.old }
-    ensures items { into.new.items ≡ into.old.items ++ ended_text tally.now.ended tally.now.committed tally.now.stale tally.now.apart }
-    ensures len { vec_len into.new ≤ vec_len into.old + 120 }
-    ensures room { vec_capacity into.old ≤ vec_capacity into.new }
+    ensures items { into.new.items ≡ into.old.items ++ ended_text tally.now.ended (count_at tally.now) }
+    ensures most { Grows into.old into.new 120 }
 {
     put_count(into, b"jobs", tally.ended);
-    put_count(into, b"committed", tally.committed);
-    put_count(into, b"stale", tally.stale);
-    put_count(into, b"apart", tally.apart);
+    put_count(into, b"committed", tally.ends[0]);
+    put_count(into, b"stale", tally.ends[1]);
+    put_count(into, b"apart", tally.ends[2]);
 }
 
 // Adds how many jobs ended otherwise, and how many are pending.
 fn put_others(into: &mut Vec<u8>, tally: &Tally)
     requires { vec_len into.old + 120 ≤ vec_capacity into.old }
-    ensures items { into.new.items ≡ into.old.items ++ others_text tally.now.overrun tally.now.late tally.now.quit tally.now.pending }
-    ensures len { vec_len into.new ≤ vec_len into.old + 120 }
-    ensures room { vec_capacity into.old ≤ vec_capacity into.new }
+    ensures items { into.new.items ≡ into.old.items ++ others_text (count_at tally.now) tally.now.pending }
+    ensures most { Grows into.old into.new 120 }
 {
-    put_count(into, b"overrun", tally.overrun);
-    put_count(into, b"late", tally.late);
-    put_count(into, b"quit", tally.quit);
+    put_count(into, b"overrun", tally.ends[3]);
+    put_count(into, b"late", tally.ends[4]);
+    put_count(into, b"quit", tally.ends[5]);
     put_count(into, b"pending", tally.pending);
 }
 
 fn add_counts(into: &mut Vec<u8>, names: &Names, tx: u32, tally: &Tally) -> Result<(), OutOfMemory>
     requires { tx < length names.now.txns }
-    ensures { OnOk result (into.new.items ≡ into.old.items ++ counts_line names.now tx tally.now.ended tally.now.committed tally.now.stale tally.now.apart tally.now.overrun tally.now.late tally.now.quit tally.now.pending) }
+    ensures { OnOk result (into.new.items ≡ into.old.items ++ counts_line names.now tx tally.now.ended (count_at tally.now) tally.now.pending) }
 {
     into.reserve(512)?;
     put(into, b"txn");
@@ -118,10 +115,7 @@ fn response(set: &CompiledSet, bounds: Option<&AdmittedSet>, tx: TxId) -> Option
     requires tx { tx.0 < length set.now.txns }
     ensures { result ≡ bound_in (is_some bounds.entry) (response_of set.now tx.0) }
 {
-    match bounds {
-        Some(admitted) => Some(admitted.response(tx)),
-        None => None,
-    }
+    bounds.map(|admitted| admitted.response(tx))
 }
 
 // The blocking of a transaction of an admitted set.
@@ -131,10 +125,7 @@ fn blocking(set: &CompiledSet, bounds: Option<&AdmittedSet>, tx: TxId) -> Option
     requires tx { tx.0 < length set.now.txns }
     ensures { result ≡ bound_in (is_some bounds.entry) (blocking_of set.now (txn_of set.now tx.0).prio) }
 {
-    match bounds {
-        Some(admitted) => Some(admitted.blocking(tx)),
-        None => None,
-    }
+    bounds.map(|admitted| admitted.blocking(tx))
 }
 
 /// Adds the lines of a transaction.
@@ -157,16 +148,6 @@ pub(crate) fn add_txn(
     add_worst(into, names, b"delay", tx, tally.delay, bound)
 }
 
-fn validity(kind: ItemKind) -> Option<Tick>
-    ensures { result ≡ validity_of_kind kind }
-{
-    match kind {
-        ItemKind::Sensor { validity } => Some(validity),
-        ItemKind::Derived { validity } => Some(validity),
-        ItemKind::State => None,
-    }
-}
-
 // The age bound of a sensor or derived item of an admitted set.
 #[tactic(auto, using(crate::proofs::SumTelling::age_told))]
 fn age_bound(set: &CompiledSet, bounds: Option<&AdmittedSet>, item: ItemId) -> Option<Tick>
@@ -175,10 +156,7 @@ fn age_bound(set: &CompiledSet, bounds: Option<&AdmittedSet>, item: ItemId) -> O
     requires dated { IsTrue (is_dated set.now.items item.0) }
     ensures { result ≡ bound_in (is_some bounds.entry) (age_of set.now item.0) }
 {
-    match bounds {
-        Some(admitted) => admitted.age(item),
-        None => None,
-    }
+    bounds?.age(item)
 }
 
 fn add_age_line(
@@ -208,19 +186,17 @@ pub(crate) fn add_age(
     into: &mut Vec<u8>,
     summed: Summed,
     item: u32,
-    kind: ItemKind,
     found: Option<Tick>,
 ) -> Result<(), OutOfMemory>
     requires same { IfSome summed.bounds (λ b. b.now ≡ summed.set.now) }
     requires name { item < length summed.names.now.items }
     requires item { item < length summed.set.now.items }
-    requires kind { validity_of summed.set.now.items item ≡ validity_of_kind kind }
-    ensures { OnOk result (into.new.items ≡ into.old.items ++ age_text summed.entry.names.now item found (bound_in (is_some summed.entry.bounds) (age_of summed.entry.set.now item)) (validity_of_kind kind)) }
+    ensures { OnOk result (into.new.items ≡ into.old.items ++ age_text summed.entry.names.now item found (bound_in (is_some summed.entry.bounds) (age_of summed.entry.set.now item)) (validity_of summed.entry.set.now.items item)) }
 {
     let Some(found) = found else {
         return Ok(());
     };
-    let Some(validity) = validity(kind) else {
+    let Some(validity) = validity(summed.set.items(), ItemId(item)) else {
         return Ok(());
     };
     let bound = age_bound(summed.set, summed.bounds, ItemId(item));

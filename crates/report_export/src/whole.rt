@@ -9,6 +9,7 @@ use crate::declared::add_declarations;
 use crate::entries::add_entries;
 use crate::jobs::{add_finals, add_jobs, add_table};
 use crate::limits::{add_ceilings, add_limits};
+use crate::parts::add_text;
 use item_model::{Items, Stored};
 use job_rows::{JobRow, rows_of};
 use rt_base::{Names, OutOfMemory};
@@ -46,8 +47,7 @@ fn add_closing(
 {
     add_jobs(into, names, rows)?;
     add_finals(into, names, items)?;
-    into.extend_from_slice(b"{\"end\":{}}\n")?;
-    Ok(())
+    add_text(into, b"{\"end\":{}}\n")
 }
 
 /// The report of a legal history as JSON: an object a line, for each line of the report and in its order, where the last items are

@@ -1,12 +1,12 @@
 -- A `RawBox` is a struct of two words, its pointer and its allocator. Taken apart it is the block of the box and the
 -- allocator, and of these two it is made. Assumes `Logic`.
-use Rattle.std.proofs.Common.{◌≡◌, ℕ, List, [], ◌∷◌, ◌++◌, refl, ap, ◌∙◌, true, ◌&&◌, T}
+use Rattle.std.proofs.Common.{◌≡◌, ℕ, List, [], ◌∷◌, ◌++◌, refl, ap, ◌∙◌, true, ◌&&◌, T, lit<}
 use seplogic.Ra.Ura.{Ura}
 use mir.Syntax.{impl, tnil, dnil}
 use mir.Raw.{raw as bare}
 use mir.Val.{Val, vptr, vstruct, vcons, vnil, of_list, has_ty, WT}
 use base.Logic.{never, fst∗}
-use base.Fml.{Fml}
+use base.Fml.{Fml, fsep}
 use types.Logic.{Logic, sem}
 use types.Kit.{Item, Goal, Seq, Step, step, ‵, ◌$◌, move, drop, fsplit, fjoin, fpick, fpack, feq_i, feq_l}
 use denote.RattleType.{RattleType, Valss}
@@ -34,9 +34,14 @@ pub as_two : {vs ps hs : List Val} {p h : Val} → vs ≡ vstruct (of_list (ps +
 as_two {hs = hs} {p = p} whole first second =
     whole ∙ ap (λ (us : List Val). vstruct (of_list (us ++ (hs ++ []))) ∷ []) first ∙ ap (λ (us : List Val). vstruct (of_list (p ∷ (us ++ []))) ∷ []) second
 
+pub ptr_fits : (p : Ptr) → Good (layout RawPtr) (ptr_val p)
+ptr_fits (block_ptr b o) = (tt, tt)
+ptr_fits null_ptr = (tt, record { fits = lit< tt })
+
 module _ (A : RattleType) (laws : Laws A) where
-  pub two_fits : (b o : ℕ) (h : Val) → Good (layout A) h → T (has_ty (layout A) h && true) × WT (two (vptr b o) h)
-  two_fits b o h fits = (and_tt (has_ty (layout A) h) fits.0, (tt, (fits.1, tt)))
+  pub words_fit : (p : Ptr) (h : Val) → Good (layout A) h → T (has_ty (layout RawPtr) (ptr_val p) && (has_ty (layout A) h && true)) × WT (two (ptr_val p) h)
+  words_fit (block_ptr b o) h fits = (and_tt (has_ty (layout A) h) fits.0, (tt, (fits.1, tt)))
+  words_fit null_ptr h fits = (and_tt (has_ty (layout A) h) fits.0, (record { fits = lit< tt }, (fits.1, tt)))
 
   module _ (g : Ghosts A.Denot) {M : Type 1} {𝓤 : Ura M} {𝓛 : Logic 𝓤} {K : Type 0} {Γ : List (Item 𝓤)} {G : Goal 𝓤 𝓛.H} where
     -- a struct or a pair of a pointer and an allocator: what is left is what the allocator owns
@@ -48,6 +53,13 @@ module _ (A : RattleType) (laws : Laws A) where
         fpick t (λ words. fsplit t $ feq_l t (λ whole. fsplit t $ feq_l t (λ first. fsplit t $
         -- [the allocator; the end of the fields]
         handle_tells allocator t a words.1.0 (λ h second fits. move t (1 ∷ []) $ drop t $ next h (as_two whole first second) fits))))
+
+    -- of [what the struct owns beside its fields; the allocator]
+    pub fields_together : K → (s : Shape) (F : Fml) (p : Ptr) (h : Val) (a : A.Denot)
+        → Step K 𝓛 (‵ (fsep ((Struct (record s { fields = RawPtr ∷ A ∷ [] })).own_val (p, (a, tt)) (two (ptr_val p) h ∷ [])) F) ∷ Γ) G (‵ F ∷ ‵ (A.own_val a (h ∷ [])) ∷ Γ) G
+    fields_together t s F p h a = step (λ rest. let word : List Val = ptr_val p ∷ [] in let whole : List Val = two (ptr_val p) h ∷ [] in
+        nothing t $ move t (2 ∷ 0 ∷ []) $ fjoin t $ feq_i t (List Val) word word refl $ fjoin t $ feq_i t (List Val) whole whole refl $ fjoin t $
+        fpack t (Valss (RawPtr ∷ A ∷ [])) (within (record s { fields = RawPtr ∷ A ∷ [] }) (p, (a, tt)) whole) (word, (h ∷ [], tt)) $ fjoin t $ rest)
 
 module _ (E A : RattleType) (g : Ghosts A.Denot) where
   abbrev pub Row : RattleType
@@ -62,14 +74,12 @@ module _ (E A : RattleType) (g : Ghosts A.Denot) where
     pub in_its_block : K → (a : A.Denot) (p : Ptr) (x : E.Denot) → ((b o : ℕ) → p ≡ block_ptr b o → Seq K 𝓛 (‵ (block_of a (block_ptr b o) x) ∷ Γ) G) → Seq K 𝓛 (‵ (block_of a p x) ∷ Γ) G
     in_its_block t a p x = in_a_block t p (λ q. block_of a q x) (fst∗ 𝓤 (never 𝓤) (sem 𝓛 (g.dealloc_token a (bare (lone E.mir)) null_ptr)))
 
-    -- of a block and an allocator
-    pub put_together : K → (b o : ℕ) (h : Val) (a : A.Denot) (x : E.Denot)
-        → Step K 𝓛 (‵ (Row.own_val (record { at = block_ptr b o; alloc = a; value = x }) (two (vptr b o) h ∷ [])) ∷ Γ) G (‵ (block_of a (block_ptr b o) x) ∷ ‵ (A.own_val a (h ∷ [])) ∷ Γ) G
-    put_together t b o h a x = step (λ rest. let word : List Val = vptr b o ∷ [] in let whole : List Val = two (vptr b o) h ∷ [] in
-        nothing t $ move t (2 ∷ 0 ∷ []) $ fjoin t $ feq_i t (List Val) word word refl $ fjoin t $ feq_i t (List Val) whole whole refl $ fjoin t $
-        fpack t (Valss (RawPtr ∷ A ∷ [])) (within (shape (raw_box.the_type E A g)) (block_ptr b o, (a, tt)) whole) (word, (h ∷ [], tt)) $ fjoin t $ rest)
-
 module _ (E A : RattleType) (laws : Laws A) (g : Ghosts A.Denot) {M : Type 1} {𝓤 : Ura M} {𝓛 : Logic 𝓤} {K : Type 0} {Γ : List (Item 𝓤)} {G : Goal 𝓤 𝓛.H} where
+  -- of [the block; the allocator]
+  pub put_together : K → (p : Ptr) (h : Val) (a : A.Denot) (x : E.Denot)
+      → Step K 𝓛 (‵ ((Row E A g).own_val (record { at = p; alloc = a; value = x }) (two (ptr_val p) h ∷ [])) ∷ Γ) G (‵ (block_of E A g a p x) ∷ ‵ (A.own_val a (h ∷ [])) ∷ Γ) G
+  put_together t p h a x = fields_together A laws g t (shape (raw_box.the_type E A g)) (block_of E A g a p x) p h a
+
   -- [the block; the allocator]
   pub taken_apart : K → (d : (Row E A g).Denot) (vs : List Val)
       → ((b o : ℕ) (h : Val) → d.at ≡ block_ptr b o → vs ≡ two (vptr b o) h ∷ [] → Good (layout A) h

@@ -1,8 +1,7 @@
 pub mod Apart
-pub mod Crosses
-pub mod LogApart
-pub mod LogCrosses
-pub mod SeatApart
-pub mod SeatCrosses
-pub mod Told
 pub mod BoxApart
+pub mod Crosses
+pub mod Holders
+pub mod Moved
+pub mod Steps
+pub mod Told

@@ -7,7 +7,8 @@
 ghost use Rattle.std.specs.Prelude.{◌≡◌, ◌≢◌, None, MatchOption, IfOk, IfErr, IfSome, IsSomeAnd};
 ghost use Rattle.c_core.specs.Refusals.{WhyNotOpened, WhyNotTried, form_of_refusal};
 ghost use Rattle.c_core.specs.declared.refusals.Refused.TheVariants.{OutOfMemory as WantOfMemory};
-ghost use Rattle.rtdb_c.specs.Called.{Called, ToldWhy, ToldWhyNotTried, OpenedTrial, Stepped, Planned, Idled, IsRunningOf, Peeked, IsNowOf, Opened, PlannedNext, IsPendingOf, IsEndedOf, IsResponseOf, IsBlockingOf, IsAgeOf, Drained, IsKeptOf, IsPlannedOf};
+ghost use Rattle.c_core.specs.Called.{Opened, OpenedTrial, Stepped, Planned, Idled, IsRunningOf, Peeked, PlannedNext, IsPendingOf, IsEndedOf, IsResponseOf, IsBlockingOf, IsAgeOf, Drained};
+ghost use Rattle.rtdb_c.specs.Called.{Called, ToldWhy, ToldWhyNotTried, IsNowOf, IsKeptOf, IsPlannedOf};
 
 mod causes;
 mod handle;
@@ -17,14 +18,15 @@ mod margin;
 mod plant;
 mod raw_box;
 mod seat;
+mod slot;
 mod telling;
 mod text;
 mod text_laws;
 mod words;
 
 use c_core::{
-    CheckedCore, EntryForm, ItemRow, JobForm, OK, RefusalForm, Refused, StepForm, StoredForm,
-    Tables, TimeForm, TogetherRow, TxnRow, refusal_form,
+    CheckedCore, EntryForm, JobForm, OK, OpForm, RefusalForm, Refused, StepForm, StoredForm,
+    Tables, TimeForm, refusal_form,
 };
 pub use handle::Handle;
 pub use log::CallForm;
@@ -60,17 +62,17 @@ fn boxed(alloc: Global, core: CheckedCore) -> Result<Box<CheckedCore>, Refused>
 }
 
 // A core over the admitted set of these tables, in a box.
-fn opened(alloc: Global, tables: Tables, room: usize) -> Result<Box<CheckedCore>, Refused>
-    ensures opened { IfOk result (λ b. Opened tables.entry.items.now tables.entry.txns.now tables.entry.together.now tables.entry.ids.now room b.value) }
-    ensures refused { IfErr result (WhyNotOpened tables.entry.items.now tables.entry.txns.now tables.entry.together.now tables.entry.ids.now room) }
+fn opened(alloc: Global, tables: &Tables, room: usize) -> Result<Box<CheckedCore>, Refused>
+    ensures opened { IfOk result (λ b. Opened tables.now room b.value) }
+    ensures refused { IfErr result (WhyNotOpened tables.now room) }
 {
     boxed(alloc, CheckedCore::open(alloc, tables, room)?)
 }
 
 // The same of a set that is not to be admitted.
-fn opened_trial(alloc: Global, tables: Tables, room: usize) -> Result<Box<CheckedCore>, Refused>
-    ensures opened { IfOk result (λ b. OpenedTrial tables.entry.items.now tables.entry.txns.now tables.entry.together.now tables.entry.ids.now room b.value) }
-    ensures refused { IfErr result (WhyNotTried tables.entry.items.now tables.entry.txns.now tables.entry.together.now tables.entry.ids.now room) }
+fn opened_trial(alloc: Global, tables: &Tables, room: usize) -> Result<Box<CheckedCore>, Refused>
+    ensures opened { IfOk result (λ b. OpenedTrial tables.now room b.value) }
+    ensures refused { IfErr result (WhyNotTried tables.now room) }
 {
     boxed(alloc, CheckedCore::open_trial(alloc, tables, room)?)
 }
@@ -90,28 +92,19 @@ fn told_why(refused: Refused) -> (u32, RefusalForm)
 pub extern "C" fn rtdb_open(
     alloc: Global,
     db: &mut Handle,
-    items: &[ItemRow],
-    txns: &[TxnRow],
-    together: &[TogetherRow],
-    ids: &[u32],
+    tables: &Tables,
     room: usize,
     refusal: &mut RefusalForm,
 ) -> u32
-    ensures opened { result ≡ 0 → (db.old.core ≡ None) × (refusal.new ≡ refusal.old) × IsSomeAnd db.new.core (Opened items.now txns.now together.now ids.now room) }
+    ensures opened { result ≡ 0 → (db.old.core ≡ None) × (refusal.new ≡ refusal.old) × IsSomeAnd db.new.core (Opened tables.now room) }
     ensures refused { result ≢ 0 → db.new.core ≡ db.old.core }
     ensures open { IfSome db.old.core (λ s. (result ≡ 2) × (refusal.new ≡ refusal.old)) }
-    ensures why { db.old.core ≡ None → result ≢ 0 → ToldWhy items.now txns.now together.now ids.now room result refusal.new }
+    ensures why { db.old.core ≡ None → result ≢ 0 → ToldWhy tables.now room result refusal.new }
 {
     if let Some(core) = db.take(alloc) {
         db.put(core);
         return OPEN;
     }
-    let tables = Tables {
-        items,
-        txns,
-        together,
-        ids,
-    };
     match opened(alloc, tables, room) {
         Ok(core) => {
             db.put(core);
@@ -131,28 +124,19 @@ pub extern "C" fn rtdb_open(
 pub extern "C" fn rtdb_open_trial(
     alloc: Global,
     db: &mut Handle,
-    items: &[ItemRow],
-    txns: &[TxnRow],
-    together: &[TogetherRow],
-    ids: &[u32],
+    tables: &Tables,
     room: usize,
     refusal: &mut RefusalForm,
 ) -> u32
-    ensures opened { result ≡ 0 → (db.old.core ≡ None) × (refusal.new ≡ refusal.old) × IsSomeAnd db.new.core (OpenedTrial items.now txns.now together.now ids.now room) }
+    ensures opened { result ≡ 0 → (db.old.core ≡ None) × (refusal.new ≡ refusal.old) × IsSomeAnd db.new.core (OpenedTrial tables.now room) }
     ensures refused { result ≢ 0 → db.new.core ≡ db.old.core }
     ensures open { IfSome db.old.core (λ s. (result ≡ 2) × (refusal.new ≡ refusal.old)) }
-    ensures why { db.old.core ≡ None → result ≢ 0 → ToldWhyNotTried items.now txns.now together.now ids.now room result refusal.new }
+    ensures why { db.old.core ≡ None → result ≢ 0 → ToldWhyNotTried tables.now room result refusal.new }
 {
     if let Some(core) = db.take(alloc) {
         db.put(core);
         return OPEN;
     }
-    let tables = Tables {
-        items,
-        txns,
-        together,
-        ids,
-    };
     match opened_trial(alloc, tables, room) {
         Ok(core) => {
             db.put(core);
@@ -181,13 +165,6 @@ pub extern "C" fn rtdb_close(alloc: Global, db: &mut Handle) -> u32
     }
 }
 
-// As the core's call, in one clause.
-fn planned(core: &mut CheckedCore, tx: u32, tick: u64, answer: &mut TimeForm) -> u32
-    ensures { Planned tx tick result answer.old answer.new core.old core.new }
-{
-    core.plan(tx, tick, answer)
-}
-
 /// Plans the transaction's next job for a tick. NO_TRANSACTION where it is none of the set.
 #[unsafe(no_mangle)]
 pub extern "C" fn rtdb_plan(
@@ -201,7 +178,7 @@ pub extern "C" fn rtdb_plan(
 {
     match db.take(alloc) {
         Some(mut core) => {
-            let status = planned(&mut core, tx, tick, answer);
+            let status = core.plan(tx, tick, answer);
             db.put(core);
             status
         }
@@ -224,22 +201,20 @@ pub extern "C" fn rtdb_idle(alloc: Global, db: &mut Handle, answer: &mut TimeFor
     }
 }
 
-/// A job asks for an operation, which is named by a number. NO_OPERATION, else NO_TRANSACTION, where a number names none.
+/// A job asks for an operation. NO_OPERATION, else NO_TRANSACTION, where a number names none.
 #[unsafe(no_mangle)]
 pub extern "C" fn rtdb_step(
     alloc: Global,
     db: &mut Handle,
     job: JobForm,
-    code: u32,
-    item: u32,
-    value: i64,
+    op: OpForm,
     answer: &mut StepForm,
 ) -> u32
-    ensures { Called db.old.core db.new.core ((result ≡ 1) × (answer.new ≡ answer.old)) (Stepped job code item value result answer.old answer.new) }
+    ensures { Called db.old.core db.new.core ((result ≡ 1) × (answer.new ≡ answer.old)) (Stepped job op result answer.old answer.new) }
 {
     match db.take(alloc) {
         Some(mut core) => {
-            let status = core.step(job, code, item, value, answer);
+            let status = core.step(job, op, answer);
             db.put(core);
             status
         }
@@ -299,13 +274,6 @@ pub extern "C" fn rtdb_now(alloc: Global, db: &mut Handle, tick: &mut u64) -> u3
     }
 }
 
-// As the core's call, in one clause.
-fn planned_next(core: &mut CheckedCore, tx: u32, answer: &mut TimeForm) -> u32
-    ensures { PlannedNext tx result answer.old answer.new core.old core.new }
-{
-    core.plan_next(tx, answer)
-}
-
 /// Plans the transaction's next job for the earliest tick that may be. NO_TRANSACTION where it is none of the set.
 #[unsafe(no_mangle)]
 pub extern "C" fn rtdb_plan_next(
@@ -318,7 +286,7 @@ pub extern "C" fn rtdb_plan_next(
 {
     match db.take(alloc) {
         Some(mut core) => {
-            let status = planned_next(&mut core, tx, answer);
+            let status = core.plan_next(tx, answer);
             db.put(core);
             status
         }

@@ -4,12 +4,11 @@ ghost use Rattle.std.specs.Coded.{coded_option};
 ghost use Rattle.c_log.specs.Kept.{Station as Seen};
 ghost use Rattle.c_log.specs.contracts.station.LogStation.{the_row};
 
-use crate::raw_box::RawBox;
+use crate::slot::Slot;
 use c_log::LogStation;
 use std::alloc::Global;
 use std::marker::Model;
 use std::mem;
-use std::ptr::null_mut;
 
 /// A pointer to a station, or null where the handle is closed. In C it is a struct of one pointer, which begins as null, and
 /// which C neither changes nor copies.
@@ -21,42 +20,30 @@ pub struct LogHandle {
 }
 
 impl Model for LogHandle {
-    ghost use Rattle.rtdb_c.specs.LogHeld.{held};
+    ghost use Rattle.c_log.specs.contracts.station.LogStation.{the_row};
+    ghost use Rattle.rtdb_c.specs.Held.{held};
 
-    ghost also_owns = { λ h. held h.alloc h.at h.station };
+    ghost also_owns = { λ h. held the_row h.alloc h.at h.station };
 }
 
 impl LogHandle {
-    fn closed(alloc: Global) -> LogHandle
-        ensures { result.station ≡ None }
+    fn of(slot: Slot<LogStation>) -> LogHandle
+        ensures { result.station ≡ slot.value }
     {
-        LogHandle {
-            at: null_mut(),
-            alloc,
-        }
-    }
-
-    fn of(station: RawBox<LogStation, Global>) -> LogHandle
-        ensures { result.station ≡ Some station.value }
-    {
-        let RawBox { at, alloc } = station;
+        let Slot { at, alloc } = slot;
         LogHandle {
             at: at as *mut u8,
             alloc,
         }
     }
 
-    fn into_raw_box(self) -> Option<RawBox<LogStation, Global>>
-        ensures { MatchOption result (self.station ≡ None) (λ b. self.station ≡ Some b.value) }
+    fn into_slot(self) -> Slot<LogStation>
+        ensures { result.value ≡ self.station }
     {
         let LogHandle { at, alloc } = self;
-        if at.is_null() {
-            None
-        } else {
-            Some(RawBox {
-                at: at as *mut LogStation,
-                alloc,
-            })
+        Slot {
+            at: at as *mut LogStation,
+            alloc,
         }
     }
 
@@ -65,10 +52,9 @@ impl LogHandle {
         ensures taken { MatchOption result (self.old.station ≡ None) (λ b. self.old.station ≡ Some b.value) }
         ensures closed { self.new.station ≡ None }
     {
-        match mem::replace(self, LogHandle::closed(alloc)).into_raw_box() {
-            Some(station) => Some(station.into_box()),
-            None => None,
-        }
+        mem::replace(self, LogHandle::of(Slot::closed(alloc)))
+            .into_slot()
+            .into_box()
     }
 
     /// Puts a station in. The handle is closed, so that it has nothing to be freed.
@@ -76,14 +62,14 @@ impl LogHandle {
         requires { self.old.station ≡ None }
         ensures { self.new.station ≡ Some station.value }
     {
-        mem::forget(mem::replace(self, LogHandle::of(RawBox::of(station))));
+        mem::forget(mem::replace(self, LogHandle::of(Slot::of(station))));
     }
 }
 
 impl Drop for LogHandle {
     fn drop(self) {
-        if let Some(station) = self.into_raw_box() {
-            drop(station.into_box());
+        if let Some(station) = self.into_slot().into_box() {
+            drop(station);
         }
     }
 }

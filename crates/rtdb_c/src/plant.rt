@@ -9,8 +9,8 @@ ghost use Rattle.rtdb_c.specs.SeatCalls.{SeatCalled, HandedTo, IsFrontOf};
 use crate::seat::SeatHandle;
 use crate::{CLOSED, OPEN, told_why};
 use c_core::{
-    EntryForm, ItemRow, OK, RefusalForm, SeatStation, StepForm, StoredForm, Tables, TimeForm,
-    TogetherRow, TxnRow, plant_over,
+    EntryForm, OK, OpForm, RefusalForm, SeatStation, StepForm, StoredForm, Tables, TimeForm,
+    plant_over,
 };
 use std::alloc::Global;
 
@@ -22,28 +22,19 @@ use std::alloc::Global;
 pub extern "C" fn rtdb_plant_open(
     alloc: Global,
     operator: &mut SeatHandle,
-    items: &[ItemRow],
-    txns: &[TxnRow],
-    together: &[TogetherRow],
-    ids: &[u32],
+    tables: &Tables,
     room: usize,
     refusal: &mut RefusalForm,
 ) -> u32
-    ensures opened { result ≡ 0 → (operator.old.seat ≡ None) × (refusal.new ≡ refusal.old) × IsSomeAnd operator.new.seat (PlantOpened items.now txns.now together.now ids.now room) }
+    ensures opened { result ≡ 0 → (operator.old.seat ≡ None) × (refusal.new ≡ refusal.old) × IsSomeAnd operator.new.seat (PlantOpened tables.now room) }
     ensures refused { result ≢ 0 → operator.new.seat ≡ operator.old.seat }
     ensures open { IfSome operator.old.seat (λ s. (result ≡ 2) × (refusal.new ≡ refusal.old)) }
-    ensures why { operator.old.seat ≡ None → result ≢ 0 → ToldWhy items.now txns.now together.now ids.now room result refusal.new }
+    ensures why { operator.old.seat ≡ None → result ≢ 0 → ToldWhy tables.now room result refusal.new }
 {
     if let Some(station) = operator.take(alloc) {
         operator.put(station);
         return OPEN;
     }
-    let tables = Tables {
-        items,
-        txns,
-        together,
-        ids,
-    };
     match plant_over(alloc, tables, room) {
         Ok(station) => {
             operator.put(station);
@@ -110,23 +101,21 @@ pub extern "C" fn rtdb_seat_close(alloc: Global, seat: &mut SeatHandle) -> u32
     }
 }
 
-/// A job of the seat's own transaction asks for an operation, which is named by a number. BUSY where another seat's call has
-/// the turn. WRONG_SEAT by the operator's seat, else NO_OPERATION where the number names none.
+/// A job of the seat's own transaction asks for an operation. BUSY where another seat's call has the turn. WRONG_SEAT by the
+/// operator's seat, else NO_OPERATION where the number names none.
 #[unsafe(no_mangle)]
 pub extern "C" fn rtdb_seat_step(
     alloc: Global,
     seat: &mut SeatHandle,
     serial: u32,
-    code: u32,
-    item: u32,
-    value: i64,
+    op: OpForm,
     answer: &mut StepForm,
 ) -> u32
-    ensures { SeatCalled seat.old.seat seat.new.seat ((result ≡ 1) × (answer.new ≡ answer.old)) (SeatStepped serial code item value result answer.old answer.new) }
+    ensures { SeatCalled seat.old.seat seat.new.seat ((result ≡ 1) × (answer.new ≡ answer.old)) (SeatStepped serial op result answer.old answer.new) }
 {
     match seat.take(alloc) {
         Some(mut station) => {
-            let status = station.step(serial, code, item, value, answer);
+            let status = station.step(serial, op, answer);
             seat.put(station);
             status
         }

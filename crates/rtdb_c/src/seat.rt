@@ -4,12 +4,11 @@ ghost use Rattle.std.specs.Coded.{coded_option};
 ghost use Rattle.c_core.specs.Seats.{SeatSeen as Seen};
 ghost use Rattle.c_core.specs.contracts.seat_station.SeatStation.{the_row};
 
-use crate::raw_box::RawBox;
+use crate::slot::Slot;
 use c_core::SeatStation;
 use std::alloc::Global;
 use std::marker::Model;
 use std::mem;
-use std::ptr::null_mut;
 
 /// A pointer to a seat of a plant, or null where the handle is closed. In C it is a struct of one pointer, which begins as
 /// null, and which C neither changes nor copies.
@@ -21,42 +20,30 @@ pub struct SeatHandle {
 }
 
 impl Model for SeatHandle {
-    ghost use Rattle.rtdb_c.specs.Seated.{seated};
+    ghost use Rattle.c_core.specs.contracts.seat_station.SeatStation.{the_row};
+    ghost use Rattle.rtdb_c.specs.Held.{held};
 
-    ghost also_owns = { λ h. seated h.alloc h.at h.seat };
+    ghost also_owns = { λ h. held the_row h.alloc h.at h.seat };
 }
 
 impl SeatHandle {
-    fn closed(alloc: Global) -> SeatHandle
-        ensures { result.seat ≡ None }
+    fn of(slot: Slot<SeatStation>) -> SeatHandle
+        ensures { result.seat ≡ slot.value }
     {
-        SeatHandle {
-            at: null_mut(),
-            alloc,
-        }
-    }
-
-    fn of(station: RawBox<SeatStation, Global>) -> SeatHandle
-        ensures { result.seat ≡ Some station.value }
-    {
-        let RawBox { at, alloc } = station;
+        let Slot { at, alloc } = slot;
         SeatHandle {
             at: at as *mut u8,
             alloc,
         }
     }
 
-    fn into_raw_box(self) -> Option<RawBox<SeatStation, Global>>
-        ensures { MatchOption result (self.seat ≡ None) (λ b. self.seat ≡ Some b.value) }
+    fn into_slot(self) -> Slot<SeatStation>
+        ensures { result.value ≡ self.seat }
     {
         let SeatHandle { at, alloc } = self;
-        if at.is_null() {
-            None
-        } else {
-            Some(RawBox {
-                at: at as *mut SeatStation,
-                alloc,
-            })
+        Slot {
+            at: at as *mut SeatStation,
+            alloc,
         }
     }
 
@@ -65,10 +52,9 @@ impl SeatHandle {
         ensures taken { MatchOption result (self.old.seat ≡ None) (λ b. self.old.seat ≡ Some b.value) }
         ensures closed { self.new.seat ≡ None }
     {
-        match mem::replace(self, SeatHandle::closed(alloc)).into_raw_box() {
-            Some(station) => Some(station.into_box()),
-            None => None,
-        }
+        mem::replace(self, SeatHandle::of(Slot::closed(alloc)))
+            .into_slot()
+            .into_box()
     }
 
     /// Puts a seat in. The handle is closed, so that it has nothing to be freed.
@@ -76,14 +62,14 @@ impl SeatHandle {
         requires { self.old.seat ≡ None }
         ensures { self.new.seat ≡ Some station.value }
     {
-        mem::forget(mem::replace(self, SeatHandle::of(RawBox::of(station))));
+        mem::forget(mem::replace(self, SeatHandle::of(Slot::of(station))));
     }
 }
 
 impl Drop for SeatHandle {
     fn drop(self) {
-        if let Some(station) = self.into_raw_box() {
-            drop(station.into_box());
+        if let Some(station) = self.into_slot().into_box() {
+            drop(station);
         }
     }
 }

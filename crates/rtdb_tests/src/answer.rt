@@ -5,6 +5,7 @@ use picture_command::draw_report;
 use rt_base::TxId;
 use rtdb_command::{Status, rtdb, rtdb_plain};
 use std::alloc::Global;
+use std::mem;
 use std::sync::Wait;
 use std::sync::atomic::AtomicU64;
 use std::sync::atomic::Ordering::SeqCst;
@@ -71,11 +72,32 @@ pub fn answer<R: Threads + Wait + Sync>(rt: &R, alloc: Global, case: &mut Case) 
     };
     let status = call(rt, alloc, case, &mut source, &mut sink, &gate);
     drop(source);
-    let said = sink.bytes().to_vec(alloc);
+    case.said.clear();
+    let kept = case.said.extend_from_slice(sink.bytes());
     drop(sink);
-    case.said = said.ok()?;
+    kept.ok()?;
     case.asked = gate.asked.load(SeqCst);
     Some(status)
+}
+
+// Adds the answer to each proper prefix of a text, if each has the status.
+fn add_answers<R: Threads + Wait + Sync>(
+    rt: &R,
+    alloc: Global,
+    case: &mut Case,
+    whole: &[u8],
+    status: u8,
+    answers: &mut Vec<u8>,
+) -> Option<bool> {
+    for end in 0..whole.len() {
+        case.input.clear();
+        case.input.extend_from_slice(&whole[..end]).ok()?;
+        if answer(rt, alloc, case)? as u8 != status {
+            return Some(false);
+        }
+        answers.extend_from_slice(&case.said).ok()?;
+    }
+    Some(true)
 }
 
 /// The answers to each proper prefix of the input, one behind the other, if each has the status.
@@ -87,15 +109,10 @@ pub fn answer_prefixes<R: Threads + Wait + Sync>(
 ) -> Option<bool> {
     let whole = case.input.to_vec(alloc).ok()?;
     let mut answers = Vec::new(alloc);
-    for end in 0..whole.len() {
-        case.input = whole[..end].to_vec(alloc).ok()?;
-        if answer(rt, alloc, case)? as u8 != status {
-            return Some(false);
-        }
-        answers.extend_from_slice(&case.said).ok()?;
-    }
-    case.said = answers;
-    Some(true)
+    let right = add_answers(rt, alloc, case, &whole, status, &mut answers);
+    drop(whole);
+    drop(mem::replace(&mut case.said, answers));
+    right
 }
 
 /// Fails each call of the sink in turn, until none fails: whether each leaves a front of the wanted text, and then the whole is
@@ -107,7 +124,8 @@ pub fn answer_faults<R: Threads + Wait + Sync>(
     wanted: &[u8],
 ) -> Option<bool> {
     for call in 0..10_000usize {
-        case.write_faults = vec![in alloc; call as u64].ok()?;
+        case.write_faults.clear();
+        case.write_faults.push(call as u64).ok()?;
         let status = answer(rt, alloc, case)?;
         if status == Status::Ok {
             return Some(case.said.as_slice() == wanted);

@@ -1,6 +1,7 @@
 //! A case: what a command is run on, and what it said.
 use rtdb_command::Word;
 use std::alloc::Global;
+use std::mem;
 
 /// What the command of a case is run on. A case begins with the text of the last `input` and with none of the rest.
 #[derive(Drop)]
@@ -56,12 +57,14 @@ impl Case {
     }
 
     /// Begins a case of this name.
-    pub fn begin(&mut self, alloc: Global, name: &str) -> Option<()> {
-        self.name = String::from_str(alloc, name).ok()?;
-        self.input = self.base.to_vec(alloc).ok()?;
-        self.words = Vec::new(alloc);
-        self.read_faults = Vec::new(alloc);
-        self.write_faults = Vec::new(alloc);
+    pub fn begin(&mut self, name: &str) -> Option<()> {
+        self.name.clear();
+        self.name.push_str(name).ok()?;
+        self.input.clear();
+        self.input.extend_from_slice(&self.base).ok()?;
+        self.words.clear();
+        self.read_faults.clear();
+        self.write_faults.clear();
         self.piece = ROOM;
         self.room = ROOM;
         self.plain = false;
@@ -71,36 +74,46 @@ impl Case {
     }
 
     /// Takes this text for the input, in this case and the next ones.
-    pub fn take(&mut self, alloc: Global, text: Vec<u8>) -> Option<()> {
-        self.base = text.to_vec(alloc).ok()?;
-        self.input = text;
-        Some(())
+    pub fn take(&mut self, text: &[u8]) -> Option<()> {
+        self.base.clear();
+        self.base.extend_from_slice(text).ok()?;
+        self.input.clear();
+        self.input.extend_from_slice(text).ok()
     }
 
     /// Takes what was said last for the input.
-    pub fn take_answer(&mut self, alloc: Global) -> Option<()> {
-        let said = self.said.to_vec(alloc).ok()?;
-        self.take(alloc, said)
+    pub fn take_answer(&mut self) -> Option<()> {
+        self.base.clear();
+        self.base.extend_from_slice(&self.said).ok()?;
+        self.input.clear();
+        self.input.extend_from_slice(&self.said).ok()
     }
 
     /// Puts one piece of the input in the place of another, which has to stand in it.
     pub fn change(&mut self, alloc: Global, from: &str, to: &str) -> Option<()> {
         let text = str::from_utf8(&self.input).ok()?;
-        let (before, after) = text.split_once(from)?;
-        let mut changed = String::from_str(alloc, before).ok()?;
-        changed.push_str(to).ok()?;
-        changed.push_str(after).ok()?;
-        self.input = changed.as_bytes().to_vec(alloc).ok()?;
+        let changed = replaced(alloc, text, from, to)?;
+        drop(mem::replace(&mut self.input, changed));
         Some(())
     }
 
     /// Takes the words that blanks part. A pair of quotes is the empty word.
     pub fn call(&mut self, alloc: Global, text: &str) -> Option<()> {
-        self.words = Vec::new(alloc);
+        self.words.clear();
         for word in text.split(' ') {
             let word = if word == "\"\"" { "" } else { word };
             self.words.push(Word::new(alloc, word).ok()?).ok()?;
         }
         Some(())
     }
+}
+
+// A text in which the first such piece is replaced by another.
+fn replaced(alloc: Global, text: &str, from: &str, to: &str) -> Option<Vec<u8>> {
+    let (before, after) = text.split_once(from)?;
+    let mut bytes = Vec::new(alloc);
+    bytes.extend_from_slice(before.as_bytes()).ok()?;
+    bytes.extend_from_slice(to.as_bytes()).ok()?;
+    bytes.extend_from_slice(after.as_bytes()).ok()?;
+    Some(bytes)
 }

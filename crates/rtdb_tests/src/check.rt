@@ -3,10 +3,10 @@ use crate::answer::{answer, answer_faults, answer_prefixes};
 use crate::below::{command_text, rewritten};
 use crate::case::Case;
 use std::alloc::Global;
-use std::fs;
 use std::rt::Files;
 use std::sync::Wait;
 use std::thread::Threads;
+use std::{fs, mem};
 
 // Prints the case's name, with what was said where that is not what is wanted.
 fn report<R: Print>(rt: &R, case: &Case, holds: bool) -> Option<()> {
@@ -45,14 +45,14 @@ fn prepare<R: Files + Alloc<A = Global>>(
 ) -> Option<()> {
     let alloc = rt.alloc();
     match key {
-        "case" => case.begin(alloc, rest),
-        "input" => case.take(alloc, fs::read(rt, rest).ok()?),
-        "text" => case.take(alloc, text_of(alloc, rest)?),
-        "blanks" => case.take(alloc, vec![in alloc; b' '; rest.parse().ok()?].ok()?),
-        "answer" => case.take_answer(alloc),
+        "case" => case.begin(rest),
+        "input" => case.take(&fs::read(rt, rest).ok()?),
+        "text" => case.take(&text_of(alloc, rest)?),
+        "blanks" => case.take(&vec![in alloc; b' '; rest.parse().ok()?].ok()?),
+        "answer" => case.take_answer(),
         "change" => change(alloc, case, rest),
         "words" => case.call(alloc, rest),
-        _ => tune(alloc, case, key, rest.parse().ok()?),
+        _ => tune(case, key, rest.parse().ok()?),
     }
 }
 
@@ -68,16 +68,22 @@ fn change(alloc: Global, case: &mut Case, rest: &str) -> Option<()> {
     case.change(alloc, from.as_str(), to.as_str())
 }
 
+// Has the call of this number fail, and no other.
+fn fail_at(faults: &mut Vec<u64>, number: u32) -> Option<()> {
+    faults.clear();
+    faults.push(number as u64).ok()
+}
+
 // Sets a number of the case.
-fn tune(alloc: Global, case: &mut Case, key: &str, number: u32) -> Option<()> {
+fn tune(case: &mut Case, key: &str, number: u32) -> Option<()> {
     match key {
         "plain" => case.plain = number == 1,
         "picture" => case.picture = number == 1,
         "tool" => case.tool = number == 1,
         "piece" => case.piece = number as usize,
         "room" => case.room = number as usize,
-        "read-fault" => case.read_faults = vec![in alloc; number as u64].ok()?,
-        "write-fault" => case.write_faults = vec![in alloc; number as u64].ok()?,
+        "read-fault" => return fail_at(&mut case.read_faults, number),
+        "write-fault" => return fail_at(&mut case.write_faults, number),
         _ => return None,
     }
     Some(())
@@ -133,7 +139,8 @@ fn holds<R: Threads + Wait + Sync>(
         "prefixes" => answer_prefixes(rt, alloc, case, status)?,
         "fronts" => answer_faults(rt, alloc, case, wanted)?,
         "rewrites" => {
-            case.said = rewritten(alloc, &case.input)?;
+            let text = rewritten(alloc, &case.input)?;
+            drop(mem::replace(&mut case.said, text));
             true
         }
         _ => answer(rt, alloc, case)? as u8 == status,

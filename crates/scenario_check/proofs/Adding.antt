@@ -1,5 +1,5 @@
 -- Lines that are added.
-use Rattle.std.proofs.Common.{◌≡◌, ℕ, Bool, true, false, not, ◌||◌, List, [], ◌∷◌, ◌++◌, map, Option, Some, true≢false, refl, sym, ap, ap₂, subst, ◌∙◌, append_assoc}
+use Rattle.std.proofs.Common.{◌≡◌, ℕ, Bool, true, false, not, ◌||◌, List, [], ◌∷◌, ◌++◌, map, Some, true≢false, refl, sym, ap, ap₂, subst, ◌∙◌, append_assoc}
 use Rattle.std.specs.Prelude.{IsPermutation}
 use Rattle.std.specs.List.{All, Contains}
 use Rattle.std.proofs.lemmas.List.{append-nil, map-append}
@@ -9,7 +9,7 @@ use Rattle.rt_base.specs.declared.name.Names.{Names}
 use Rattle.scenario_check.specs.declared.found.Finding.{Finding}
 use Rattle.scenario_check.specs.declared.found.Refusal.{Refusal}
 use Rattle.scenario_check.specs.declared.found.What.{What}
-use Rattle.scenario_check.specs.declared.found.What.TheVariants.{Refused, Repeated, Warned}
+use Rattle.scenario_check.specs.declared.found.What.TheVariants.{Refused, Repeated}
 use Rattle.scenario_check.specs.Verdicts.{no_names}
 use Rattle.scenario_check.specs.Texts.{line_of, lines_of}
 use Rattle.scenario_check.specs.Findings.{IsNoWarning, AreLines, AddsLine, Adds, what}

@@ -1,5 +1,5 @@
 -- The answer to a verdict.
-use Rattle.std.proofs.Common.{◌≡◌, ℕ, Bool, List, [], Option, Some, None, Result, Ok, Err, refl, sym, ap, subst, ◌∙◌}
+use Rattle.std.proofs.Common.{◌≡◌, ℕ, Bool, List, [], Option, Some, Result, Ok, Err, sym, ap, subst, ◌∙◌}
 use Rattle.serde_json.specs.Data.{Data}
 use Rattle.rt_base.specs.declared.name.Names.{Names}
 use Rattle.io_edge.specs.declared.status.Status.{Status}

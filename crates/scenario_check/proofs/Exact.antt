@@ -1,5 +1,5 @@
 -- A warning is told exactly if it holds.
-use Rattle.std.proofs.Common.{◌≡◌, ◌⊎◌, ℕ, suc, zero, ◌+◌, ◌<◌, ◌≤◌, Bool, true, false, not, List, [], ◌∷◌, ◌++◌, length, Option, Some, None, refl, sym, ap, subst, ◌∙◌, inl, inr, arith, lit<}
+use Rattle.std.proofs.Common.{◌≡◌, ℕ, suc, zero, ◌<◌, Bool, true, false, not, List, ◌++◌, length, Option, Some, None, refl, sym, subst, inl, inr, arith, lit<}
 use Rattle.std.specs.Prelude.{◌&&◌, ◌==◌, ◌↔◌, nat_lt, take, slice_get}
 use Rattle.std.specs.Option.{option_map, option_to_list, option_and_then}
 use Rattle.std.specs.List.{Contains, list_any}

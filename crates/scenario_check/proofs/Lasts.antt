@@ -1,11 +1,11 @@
 -- The marks of a walk over a script stand for the reads of the operations before.
-use Rattle.std.proofs.Common.{◌≡◌, ℕ, suc, zero, ◌+◌, ◌<◌, ◌≤◌, Bool, true, false, List, [], ◌∷◌, ◌++◌, length, map, take, get_or, set, replicate, Option, Some, None, refl, sym, ap, ◌∙◌, inl, inr, arith, length-set}
+use Rattle.std.proofs.Common.{◌≡◌, ℕ, suc, zero, ◌+◌, ◌<◌, Bool, true, false, List, [], ◌∷◌, ◌++◌, length, map, take, get_or, set, replicate, Option, Some, None, refl, sym, ap, ◌∙◌, inl, inr, arith, length-set}
 use Rattle.std.specs.Prelude.{◌||◌, ◌==◌, slice_get, if◌then◌else◌}
 use Rattle.std.specs.Option.{option_or, option_map, option_and_then, option_to_list}
 use Rattle.std.specs.List.{list_any, list_all, All}
 use Rattle.std.proofs.lemmas.Bool.{ltb-true, cases_eq, ne_eqb, eq-eqb}
 use Rattle.std.proofs.lemmas.Option.{slice_get-map, slice_get_read}
-use Rattle.std.proofs.lemmas.List.{take_more, get_or-map, get_or-set_same, get_or-set_other, length-map, length-replicate}
+use Rattle.std.proofs.lemmas.List.{take_more, get_or-map, get_or-set_same, get_or-set_other, length-map}
 use Rattle.std.proofs.lemmas.List.Sums.{AllPass-from_list_all}
 use Rattle.rt_base.specs.declared.ids.ItemId.{ItemId}
 use Rattle.rt_base.specs.declared.ids.TxId.{TxId}
@@ -14,7 +14,6 @@ use Rattle.step_script.specs.declared.script.ScriptOp.{ScriptOp}
 use Rattle.step_script.specs.Scripts.{Operation, Program, read, write, compute, commit, quit, operation, program_of, is_good}
 use Rattle.step_script.specs.declared.script.Script.{Script}
 use Rattle.step_script.specs.Scenarios.{IsProgramOver}
-use Rattle.scenario_check.specs.declared.kinds.Warning.{Warning}
 use Rattle.scenario_check.specs.declared.kinds.Warning.TheVariants.{UnreadLast}
 use Rattle.scenario_check.specs.Scripts.{is_read_of, unread_in, unread_by, unread_at, mark_of}
 use Rattle.scenario_check.specs.Warnings.{of_last}

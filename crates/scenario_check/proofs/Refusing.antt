@@ -1,5 +1,5 @@
 -- Why a scenario is refused, from what was found of it.
-use Rattle.std.proofs.Common.{◌≡◌, Bool, true, false, List, [], Option, Some, None, Result, Ok, sym, ap, ◌∙◌}
+use Rattle.std.proofs.Common.{◌≡◌, Bool, true, false, List, [], Option, Some, None, Ok, sym, ap, ◌∙◌}
 use Rattle.std.specs.Prelude.{if◌then◌else◌}
 use Rattle.std.specs.Option.{option_or, option_map}
 use Rattle.txn_set.specs.Set.{Set}
@@ -10,7 +10,6 @@ use Rattle.set_admission.specs.declared.error.AdmitError.{AdmitError}
 use Rattle.step_script.specs.Shown.{Shown}
 use Rattle.scenario_check.specs.declared.kinds.Warning.{Warning}
 use Rattle.scenario_check.specs.Warnings.{warnings_of}
-use Rattle.scenario_check.specs.declared.found.Refusal.{Refusal}
 use Rattle.scenario_check.specs.declared.found.Refusal.TheVariants.{Compile, Admit}
 use Rattle.scenario_check.specs.Verdicts.{admit_refusal, set_refusal, is_small, told_warnings}
 

@@ -1,5 +1,5 @@
 -- When a warning holds of a scenario.
-use Rattle.std.specs.Prelude.{◌≡◌, ◌<◌, ℕ, true, false, nat_lt, length, Some}
+use Rattle.std.specs.Prelude.{◌≡◌, ◌<◌, true, false, length, Some}
 use Rattle.txn_set.specs.Set.{txn_of}
 use Rattle.step_script.specs.Releases.{jobs_of, releases_of}
 use Rattle.step_script.specs.Bodies.{steps_of}

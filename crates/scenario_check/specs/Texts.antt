@@ -1,7 +1,5 @@
 -- The lines of findings.
-use Rattle.std.specs.Prelude.{ℕ, List, [], ◌∷◌, ◌++◌, codes, decimal, slice_index_or}
-use Rattle.rt_base.specs.declared.ids.ItemId.{ItemId}
-use Rattle.rt_base.specs.declared.ids.TxId.{TxId}
+use Rattle.std.specs.Prelude.{ℕ, List, [], ◌∷◌, ◌++◌, codes, decimal}
 use Rattle.rt_base.specs.declared.name.Names.{Names}
 use Rattle.refusal_lines.specs.Causes.{scenario_cause, compile_cause, admit_cause, item, txn}
 use Rattle.scenario_check.specs.declared.kinds.Warning.{Warning}

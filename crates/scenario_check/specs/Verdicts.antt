@@ -1,17 +1,16 @@
 -- Why a scenario is refused, and the warnings of one that is read.
-use Rattle.std.specs.Prelude.{◌≡◌, ℕ, nat_le, ◌&&◌, Bool, true, false, if◌then◌else◌, List, [], length, Option, Some, None, option_map, Result, Ok, Err}
+use Rattle.std.specs.Prelude.{◌≡◌, nat_le, ◌&&◌, Bool, true, false, if◌then◌else◌, List, [], length, Option, Some, None, option_map, Result, Ok, Err}
 use Rattle.std.specs.Option.{option_or}
 use Rattle.rt_base.specs.declared.name.Names.{Names}
 use Rattle.serde_json.specs.Data.{Data}
-use Rattle.scenario_forms.specs.declared.error.FormError.{FormError}
-use Rattle.scenario_forms.specs.Root.{Formed, forms_at}
 use Rattle.txn_set.specs.Set.{Set}
 use Rattle.step_script.specs.Shown.{Shown, set_of}
 use Rattle.scenario_reader.specs.declared.error.ScenarioError.{ScenarioError}
-use Rattle.scenario_reader.specs.declared.error.ScenarioError.TheVariants.{NotJson, BadField, UnknownName, BadScript, TooManySteps, TooManyJobs, BadRelease, RoomTooLarge, EagerTooFar, OutOfMemory}
+use Rattle.scenario_reader.specs.declared.error.ScenarioError.TheVariants.{BadRelease}
 use Rattle.scenario_reader.specs.Reading.{scenario_in}
 use Rattle.txn_compiler.specs.Refusal.{compile_refusal}
 use Rattle.set_admission.specs.Admission.{refusal}
+use Rattle.command_replies.specs.Scenarios.{names_in as declared_names}
 use Rattle.scenario_check.specs.declared.kinds.Warning.{Warning}
 use Rattle.scenario_check.specs.Warnings.{warnings_of}
 use Rattle.scenario_check.specs.declared.found.Refusal.{Refusal}
@@ -40,32 +39,15 @@ abbrev pub told_warnings : Result Shown ScenarioError → List Warning
 told_warnings (Ok s) = if is_small s then warnings_of s else []
 told_warnings (Err e) = []
 
--- the names of the items and transactions that were read
 abbrev pub no_names : Names
 no_names = record { items = []; txns = [] }
-
-abbrev pub names_of_forms : Result Formed FormError → Names
-names_of_forms (Ok f) = record { items = f.items.names; txns = f.txns.names }
-names_of_forms (Err e) = no_names
-
-abbrev pub names_of_data : Option Data → Names
-names_of_data None = no_names
-names_of_data (Some d) = names_of_forms (forms_at d)
 
 -- The names that the words of a refusal or warning need: those of a scenario that is read, and those of the forms if a release
 -- is refused.
 abbrev pub names_by : Result Shown ScenarioError → Option Data → Names
 names_by (Ok s) d = s.names
-names_by (Err NotJson) d = no_names
-names_by (Err (BadField place)) d = no_names
-names_by (Err (UnknownName place)) d = no_names
-names_by (Err (BadScript tx op)) d = no_names
-names_by (Err (TooManySteps tx)) d = no_names
-names_by (Err (TooManyJobs count)) d = no_names
-names_by (Err (BadRelease tx index cause)) d = names_of_data d
-names_by (Err (RoomTooLarge needed)) d = no_names
-names_by (Err (EagerTooFar needed)) d = no_names
-names_by (Err OutOfMemory) d = no_names
+names_by (Err (BadRelease tx index cause)) d = declared_names d
+names_by (Err e) d = no_names
 
 abbrev pub names_in : Option Data → Names
 names_in d = names_by (scenario_in d) d

@@ -3,46 +3,24 @@ ghost use Rattle.std.specs.Prelude.{◌≡◌, ◌≤◌, ◌&&◌, nat_le, leng
 ghost use Rattle.txn_compiler.specs.Kept.{AreLists};
 ghost use Rattle.step_script.specs.Shown.{shown, set_of};
 ghost use Rattle.step_script.specs.Scenarios.{IsScenario};
-ghost use Rattle.scenario_forms.specs.Root.{forms_view};
 ghost use Rattle.scenario_reader.specs.Reading.{data_of, scenario_in};
 ghost use Rattle.scenario_check.specs.Warnings.{warnings_of};
-ghost use Rattle.scenario_check.specs.Verdicts.{names_of_forms, names_of_data, names_by, is_small as is_small_scenario, admit_refusal, set_refusal, told_warnings, IsVerdictOn, IsVerdictIn, IsVerdict};
+ghost use Rattle.scenario_check.specs.Verdicts.{names_by, is_small as is_small_scenario, admit_refusal, set_refusal, told_warnings, IsVerdictOn, IsVerdictIn, IsVerdict};
 
 use crate::found::{Refusal, Verdict};
 use crate::kinds::Warning;
 use crate::listing::warnings;
-use command_replies::{admitted, compiled, no_names};
+use command_replies::{SCENARIO_LIMIT, admitted, compiled, declared_names, no_names};
 use item_model::ItemDecl;
 use rt_base::{List, Names, OutOfMemory, TogetherDecl};
-use scenario_forms::{FormError, Forms, ItemTable, TextError, TxnTable, read_forms, read_value};
 use scenario_reader::{ScenarioError, read_scenario};
 use std::alloc::Global;
 use step_script::Scenario;
 use txn_compiler::{CompiledSet, TxnDecl};
 
-/// The most bytes of a scenario.
-pub const SCENARIO_LIMIT: usize = 4_194_304;
-
 const MOST_ITEMS: usize = 256;
 
 const MOST_TXNS: usize = 64;
-
-// The names that a text's forms declare.
-fn declared_names(alloc: Global, input: &[u8]) -> Result<Names, OutOfMemory>
-    requires { length input.now ≤ SCENARIO_LIMIT }
-    ensures { IfOk result (λ names. names ≡ names_of_data (data_of input.now)) }
-{
-    let value = match read_value(alloc, input) {
-        Ok(value) => value,
-        Err(TextError::OutOfMemory) => return Err(OutOfMemory),
-        Err(TextError::NotJson) => return Ok(no_names(alloc)),
-    };
-    match read_forms(alloc, &value) {
-        Ok(forms) => Ok(names_of(forms)),
-        Err(FormError::OutOfMemory) => Err(OutOfMemory),
-        Err(FormError::BadField { .. }) => Ok(no_names(alloc)),
-    }
-}
 
 // The names that the words of a refusal need.
 fn names_for(alloc: Global, error: ScenarioError, input: &[u8]) -> Result<Names, OutOfMemory>
@@ -52,29 +30,6 @@ fn names_for(alloc: Global, error: ScenarioError, input: &[u8]) -> Result<Names,
     match error {
         ScenarioError::BadRelease { .. } => declared_names(alloc, input),
         _ => Ok(no_names(alloc)),
-    }
-}
-
-fn names_of(forms: Forms) -> Names
-    ensures { result ≡ names_of_forms (Ok (forms_view forms)) }
-{
-    let Forms {
-        version: _,
-        items,
-        txns,
-        sets: _,
-    } = forms;
-    let ItemTable {
-        names: items,
-        decls: _,
-    } = items;
-    let TxnTable {
-        names: txns,
-        txns: _,
-    } = txns;
-    Names {
-        items: List::of(items.into_names()),
-        txns: List::of(txns.into_names()),
     }
 }
 

@@ -5,7 +5,7 @@ ghost use Rattle.scenario_check.specs.Texts.{line_of, lines_of};
 
 use crate::cursor::Cursor;
 use crate::found::Finding;
-use crate::warning_words::put_what;
+use crate::warning_words::{put, put_what};
 use itoa::Buffer;
 use rt_base::{Names, OutOfMemory};
 use std::alloc::Global;
@@ -23,13 +23,6 @@ pub(crate) fn placed(text: &[u8], findings: &mut Vec<Finding<'_>>) -> Result<(),
         finding.line = cursor.line;
         finding.column = cursor.column;
     }
-    Ok(())
-}
-
-fn put(out: &mut Vec<u8>, bytes: &[u8]) -> Result<(), OutOfMemory>
-    ensures { OnOk result (out.new.items ≡ out.old.items ++ bytes.now) }
-{
-    out.extend_from_slice(bytes)?;
     Ok(())
 }
 

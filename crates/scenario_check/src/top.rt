@@ -4,9 +4,9 @@ ghost use Rattle.scenario_check.specs.Findings.{CheckReply, AnswersVerdict, stat
 
 use crate::faults::fault_lines;
 use crate::found::{Refusal, Verdict};
-use crate::judge::{SCENARIO_LIMIT, judged};
+use crate::judge::judged;
 use crate::listed::listed_lines;
-use command_replies::Reply;
+use command_replies::{Reply, SCENARIO_LIMIT};
 use io_edge::Status;
 use rt_base::OutOfMemory;
 use scenario_faults::{Scratch, Sheet, Tree, tree_of};

@@ -9,7 +9,7 @@ use Rattle.rt_base.specs.declared.operation.Outcome.{Outcome}
 use Rattle.rt_base.specs.declared.operation.End.{End}
 use Rattle.txn_set.specs.Set.{Set}
 use Rattle.step_journal.specs.declared.entry.Entry.{Entry}
-use Rattle.step_journal.specs.declared.entry.Entry.TheVariants.{Planned, Step, Blocked, Idle}
+use Rattle.step_journal.specs.declared.entry.Entry.TheVariants.{Step}
 use Rattle.job_rows.specs.declared.row.JobRow.{JobRow}
 use Rattle.schedule_marks.specs.declared.part.Part.{Part}
 use Rattle.schedule_marks.specs.declared.mark.Mark.{Mark}
@@ -19,13 +19,11 @@ use Rattle.schedule_marks.specs.Marks.{until_of, lock_by, shows_lock, earlier_wr
 -- ---- a lock whose job ends before the part, or takes it after the part, is not drawn
 
 earlier_most : (job : JobId) (item : ItemId) (to : ℕ) (e : Entry) → earlier_write job item to e ≤ to
-earlier_most job item to (Planned tx tick) = omega arith
 earlier_most job item to (Step by op outcome over tick) = at (shows_lock job item true (Step by op outcome over tick)) where
   at : (b : Bool) → cond b (min tick to) to ≤ to
   at true = omega arith
   at false = omega arith
-earlier_most job item to (Blocked by op on ceiling tick) = omega arith
-earlier_most job item to (Idle from tick) = omega arith
+earlier_most job item to e = omega arith
 
 until_most : (job : JobId) (item : ItemId) (to : ℕ) (es : List Entry) → until_write job item to es ≤ to
 until_most job item to [] = omega arith

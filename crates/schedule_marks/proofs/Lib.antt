@@ -1,5 +1,5 @@
 pub mod Ticks
 pub mod Along
 pub mod Seen
-pub mod Joined
 pub mod Sums
+pub mod Finding

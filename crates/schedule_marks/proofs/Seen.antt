@@ -10,7 +10,7 @@ use Rattle.rt_base.specs.declared.operation.End.{End}
 use Rattle.txn_set.specs.Set.{Set}
 use Rattle.step_journal.specs.State.{same_job}
 use Rattle.step_journal.specs.declared.entry.Entry.{Entry}
-use Rattle.step_journal.specs.declared.entry.Entry.TheVariants.{Planned, Step, Blocked, Idle}
+use Rattle.step_journal.specs.declared.entry.Entry.TheVariants.{Step}
 use Rattle.law_histories.proofs.Invariant.{same_job_is}
 use Rattle.job_rows.specs.declared.row.JobRow.{JobRow}
 use Rattle.schedule_marks.specs.declared.part.Part.{Part}
@@ -43,25 +43,21 @@ module _ (set : Set) (part : Part) (stop : ℕ) (rows : List JobRow) where
 
   any_seen : (job : JobId) (item : ItemId) (w : Bool) (es : List Entry) → Lasts job → list_any (shows_lock job item w) (seen es) ≡ list_any (shows_lock job item w) es
   any_seen job item w [] lasts = refl
-  any_seen job item w (Planned tx t ∷ es) lasts = any_seen job item w es lasts
   any_seen job item w (Step by op outcome over t ∷ es) lasts = at (any_seen job item w es lasts) (nat_lt part.from (until_of stop rows by)) refl where
     at : list_any (shows_lock job item w) (seen es) ≡ list_any (shows_lock job item w) es → (b : Bool) → nat_lt part.from (until_of stop rows by) ≡ b
         → list_any (shows_lock job item w) (cons_option (cond b (Some (Step by op outcome over t)) None) (seen es)) ≡ (shows_lock job item w (Step by op outcome over t) || list_any (shows_lock job item w) es)
     at rec true e = ap (λ (c : Bool). shows_lock job item w (Step by op outcome over t) || c) rec
     at rec false e = rec ∙ ap (λ (c : Bool). c || list_any (shows_lock job item w) es) (sym (shows_none job item w by op outcome over t lasts e))
-  any_seen job item w (Blocked by op on c t ∷ es) lasts = any_seen job item w es lasts
-  any_seen job item w (Idle from to ∷ es) lasts = any_seen job item w es lasts
+  any_seen job item w (e ∷ es) lasts = any_seen job item w es lasts
 
   write_seen : (job : JobId) (item : ItemId) (to : ℕ) (es : List Entry) → Lasts job → until_write job item to (seen es) ≡ until_write job item to es
   write_seen job item to [] lasts = refl
-  write_seen job item to (Planned tx t ∷ es) lasts = write_seen job item to es lasts
   write_seen job item to (Step by op outcome over t ∷ es) lasts = at (λ n. write_seen job item n es lasts) (nat_lt part.from (until_of stop rows by)) refl where
     at : ((n : ℕ) → until_write job item n (seen es) ≡ until_write job item n es) → (b : Bool) → nat_lt part.from (until_of stop rows by) ≡ b
         → until_write job item to (cons_option (cond b (Some (Step by op outcome over t)) None) (seen es)) ≡ until_write job item (earlier_write job item to (Step by op outcome over t)) es
     at rec true e = rec (earlier_write job item to (Step by op outcome over t))
     at rec false e = rec to ∙ ap (λ (c : Bool). until_write job item (cond c (min t to) to) es) (sym (shows_none job item true by op outcome over t lasts e))
-  write_seen job item to (Blocked by op on c t ∷ es) lasts = write_seen job item to es lasts
-  write_seen job item to (Idle from u ∷ es) lasts = write_seen job item to es lasts
+  write_seen job item to (e ∷ es) lasts = write_seen job item to es lasts
 
   until_seen : (job : JobId) (item : ItemId) (w : Bool) (end : ℕ) (es : List Entry) → Lasts job → lock_until job item w end (seen es) ≡ lock_until job item w end es
   until_seen job item true end es lasts = refl
@@ -105,12 +101,10 @@ module _ (set : Set) (part : Part) (stop : ℕ) (rows : List JobRow) where
 
   pub seen_locks : (before es : List Entry) → locks_along set part stop rows (seen before) (seen es) ≡ locks_along set part stop rows before es
   seen_locks before [] = refl
-  seen_locks before (Planned tx t ∷ es) = skipped before es (Planned tx t) refl refl (seen_locks (before ++ Planned tx t ∷ []) es)
   seen_locks before (Step job op outcome over t ∷ es) = at (seen_locks (before ++ Step job op outcome over t ∷ []) es) (nat_lt part.from (until_of stop rows job)) refl where
     at : locks_along set part stop rows (seen (before ++ Step job op outcome over t ∷ [])) (seen es) ≡ locks_along set part stop rows (before ++ Step job op outcome over t ∷ []) es
         → (b : Bool) → nat_lt part.from (until_of stop rows job) ≡ b
         → locks_along set part stop rows (seen before) (seen (Step job op outcome over t ∷ es)) ≡ locks_along set part stop rows before (Step job op outcome over t ∷ es)
     at rec true e = kept before es (Step job op outcome over t) (ap (λ (c : Bool). cond c (Some (Step job op outcome over t)) None) e) (lock_same before es job t (lock_by op outcome) e) rec
     at rec false e = skipped before es (Step job op outcome over t) (ap (λ (c : Bool). cond c (Some (Step job op outcome over t)) None) e) (lock_gone before es job t (lock_by op outcome) e) rec
-  seen_locks before (Blocked job op on c t ∷ es) = skipped before es (Blocked job op on c t) refl refl (seen_locks (before ++ Blocked job op on c t ∷ []) es)
-  seen_locks before (Idle from to ∷ es) = skipped before es (Idle from to) refl refl (seen_locks (before ++ Idle from to ∷ []) es)
+  seen_locks before (e ∷ es) = skipped before es e refl refl (seen_locks (before ++ e ∷ []) es)

@@ -6,6 +6,6 @@ use Rattle.std.proofs.lemmas.Nat.{mul-le}
 pub wide : (ticks width : ℕ) → ticks ≤ 10000 → width ≤ 20 → ticks * width ≤ 200000
 wide ticks width few narrow = mul-le ticks width 10000 20 few narrow
 
--- a text and the one before it
-pub back : (new mid old x y : List ℕ) → new ≡ mid ++ y → mid ≡ old ++ x → new ≡ old ++ (x ++ y)
-back new mid old x y is so = is ∙ ap (λ (t : List ℕ). t ++ y) so ∙ append_assoc old x y
+-- a list, what was added to it, and what was added then
+pub joined : {A : Type 0} (old mid new x y : List A) → new ≡ mid ++ y → mid ≡ old ++ x → new ≡ old ++ (x ++ y)
+joined old mid new x y is so = is ∙ ap (λ t. t ++ y) so ∙ append_assoc old x y

@@ -1,9 +1,8 @@
 -- The marks of the lanes of items with a validity: how old the value was that stood, and which commits had read it; and the
 -- marks of the bounds of jobs.
-use Rattle.std.specs.Prelude.{ℕ, zero, suc, ◌+◌, ◌==◌, Bool, true, false, ◌&&◌, if◌then◌else◌, List, [], ◌∷◌, ◌++◌, length, Option, None, Some, slice_get}
+use Rattle.std.specs.Prelude.{ℕ, zero, suc, ◌+◌, ◌==◌, Bool, true, false, if◌then◌else◌, List, [], ◌∷◌, ◌++◌, length, Option, None, Some, slice_get}
 use Rattle.std.specs.List.{find, filter_map}
 use Rattle.std.specs.Option.{option_to_list, option_map, option_and_then}
-use Rattle.rt_base.specs.declared.ids.ItemId.{ItemId}
 use Rattle.rt_base.specs.declared.ids.JobId.{JobId}
 use Rattle.rt_base.specs.declared.operation.End.{End}
 use Rattle.rt_base.specs.declared.operation.End.TheVariants as end
@@ -25,11 +24,7 @@ use Rattle.schedule_marks.specs.Marks.{last_instant}
 
 abbrev pub commits : End → Bool
 commits end.Committed = true
-commits end.Overrun = false
-commits end.Late = false
-commits (end.Stale item stamp) = false
-commits (end.Apart a b) = false
-commits end.Quit = false
+commits e = false
 
 -- the instant at which a job committed
 abbrev pub commit_tick : Option (End × ℕ) → Option ℕ

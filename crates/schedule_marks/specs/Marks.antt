@@ -4,15 +4,15 @@ use Rattle.std.specs.List.{filter_map, cons_option, list_any, fold}
 use Rattle.rt_base.specs.declared.ids.ItemId.{ItemId}
 use Rattle.rt_base.specs.declared.ids.JobId.{JobId}
 use Rattle.rt_base.specs.declared.operation.Op.{Op}
-use Rattle.rt_base.specs.declared.operation.Op.TheVariants.{Read, Write, Compute, Commit, Quit}
+use Rattle.rt_base.specs.declared.operation.Op.TheVariants.{Read, Write}
 use Rattle.rt_base.specs.declared.operation.Outcome.{Outcome}
-use Rattle.rt_base.specs.declared.operation.Outcome.TheVariants.{Got, Put, Computed, Closed}
+use Rattle.rt_base.specs.declared.operation.Outcome.TheVariants.{Got}
 use Rattle.rt_base.specs.declared.operation.End.{End}
 use Rattle.txn_set.specs.Set.{Set, txn_of}
 use Rattle.txn_set.specs.Ceilings.{greatest, write_ceiling, absolute_ceiling}
 use Rattle.step_journal.specs.State.{same_job}
 use Rattle.step_journal.specs.declared.entry.Entry.{Entry}
-use Rattle.step_journal.specs.declared.entry.Entry.TheVariants.{Planned, Step, Blocked, Idle}
+use Rattle.step_journal.specs.declared.entry.Entry.TheVariants.{Step, Blocked, Idle}
 use Rattle.job_rows.specs.declared.row.JobRow.{JobRow}
 use Rattle.schedule_marks.specs.declared.part.Part.{Part}
 use Rattle.schedule_marks.specs.declared.mark.Mark.{Mark}
@@ -36,10 +36,9 @@ until_of stop (row ∷ rows) job = if same_job row.job job then until stop row e
 
 -- the present instant after an entry, or the end of the part if that is earlier
 abbrev pub instant_to : ℕ → Entry → ℕ
-instant_to to (Planned tx tick) = 0
 instant_to to (Step job op outcome over tick) = min (tick + 1) to
-instant_to to (Blocked job op by ceiling tick) = 0
 instant_to to (Idle from tick) = min tick to
+instant_to to e = 0
 
 -- the last instant of a history, or the end of the part if that is earlier
 abbrev pub last_instant : ℕ → List Entry → ℕ
@@ -70,27 +69,21 @@ end_in part row = end_at part row.job row.end
 -- ---- marks of entries
 
 abbrev pub step_in : Part → Entry → Option Mark
-step_in part (Planned tx tick) = None
 step_in part (Step job op outcome over tick) = if has_tick part tick then Some (mark.Step job op tick) else None
-step_in part (Blocked job op by ceiling tick) = None
-step_in part (Idle from to) = None
+step_in part e = None
 
 abbrev pub refusal_in : Part → Entry → Option Mark
-refusal_in part (Planned tx tick) = None
-refusal_in part (Step job op outcome over tick) = None
 refusal_in part (Blocked job op by ceiling tick) = if has_tick part tick then Some (mark.Refusal job op by tick) else None
-refusal_in part (Idle from to) = None
+refusal_in part e = None
 
 -- a refused job waits until the other ends, or itself
 abbrev pub wait_mark : Part → JobId → JobId → ℕ → ℕ → Option Mark
 wait_mark part job by from to = if meets part from to then Some (mark.Wait job by from to) else None
 
 abbrev pub wait_in : Part → ℕ → List JobRow → Entry → Option Mark
-wait_in part stop rows (Planned tx tick) = None
-wait_in part stop rows (Step job op outcome over tick) = None
 wait_in part stop rows (Blocked job op by ceiling tick) =
     wait_mark part job by tick (min (until_of stop rows job) (until_of stop rows by))
-wait_in part stop rows (Idle from to) = None
+wait_in part stop rows e = None
 
 -- the ceiling of a lock, and 0 where the set has no such item
 abbrev pub ceiling_in : Set → ItemId → Bool → ℕ
@@ -104,14 +97,8 @@ lock_mark set part job item is_write from to =
 -- the lock that a step shows that its job holds: a write lock for a write, and a read lock for a read from outside
 abbrev pub lock_by : Op → Outcome → Option (ItemId × Bool)
 lock_by (Read item) (Got value (Some stamp)) = Some (item, false)
-lock_by (Read item) (Got value None) = None
-lock_by (Read item) Put = None
-lock_by (Read item) Computed = None
-lock_by (Read item) Closed = None
 lock_by (Write item value) outcome = Some (item, true)
-lock_by Compute outcome = None
-lock_by Commit outcome = None
-lock_by Quit outcome = None
+lock_by op outcome = None
 
 -- a lock on the item: a write lock if one is asked for, and else any
 abbrev pub is_lock_on : ItemId → Bool → Option (ItemId × Bool) → Bool
@@ -120,18 +107,14 @@ is_lock_on item is_write (Some l) = (l.0.0 == item.0) && (l.1 || not is_write)
 
 -- whether an entry is a step of the job that shows a lock on the item: a write lock if one is asked for, and else any
 abbrev pub shows_lock : JobId → ItemId → Bool → Entry → Bool
-shows_lock job item is_write (Planned tx tick) = false
 shows_lock job item is_write (Step by op outcome over tick) = same_job by job && is_lock_on item is_write (lock_by op outcome)
-shows_lock job item is_write (Blocked by op on ceiling tick) = false
-shows_lock job item is_write (Idle from to) = false
+shows_lock job item is_write e = false
 
 -- the tick of a job's write of an item, if that is earlier than this one
 abbrev pub earlier_write : JobId → ItemId → ℕ → Entry → ℕ
-earlier_write job item to (Planned tx tick) = to
 earlier_write job item to (Step by op outcome over tick) =
     if shows_lock job item true (Step by op outcome over tick) then min tick to else to
-earlier_write job item to (Blocked by op on ceiling tick) = to
-earlier_write job item to (Idle from tick) = to
+earlier_write job item to e = to
 
 -- the tick of the job's first write of an item among entries, or this one if that is earlier
 abbrev pub until_write : JobId → ItemId → ℕ → List Entry → ℕ
@@ -150,11 +133,9 @@ lock_from set part to before after job tick (Some l) =
     else lock_mark set part job l.0 l.1 tick (lock_until job l.0 l.1 to after)
 
 abbrev pub lock_in : Set → Part → ℕ → List JobRow → List Entry → List Entry → Entry → Option Mark
-lock_in set part stop rows before after (Planned tx tick) = None
 lock_in set part stop rows before after (Step job op outcome over tick) =
     lock_from set part (until_of stop rows job) before after job tick (lock_by op outcome)
-lock_in set part stop rows before after (Blocked job op by ceiling tick) = None
-lock_in set part stop rows before after (Idle from to) = None
+lock_in set part stop rows before after e = None
 
 -- the locks that entries take, one after another
 abbrev pub locks_along : Set → Part → ℕ → List JobRow → List Entry → List Entry → List Mark
@@ -167,14 +148,7 @@ locks_along set part stop rows before (e ∷ es) =
 -- the ceiling of a lock that is held in a tick, and 0 of every other mark
 abbrev pub ceiling_by : ℕ → Mark → ℕ
 ceiling_by tick (mark.Lock job item is_write ceiling from to) = if nat_le from tick && nat_lt tick to then ceiling else 0
-ceiling_by tick (mark.Pending job from to) = 0
-ceiling_by tick (mark.Ceiling t ceiling) = 0
-ceiling_by tick (mark.Wait job by from to) = 0
-ceiling_by tick (mark.Step job op t) = 0
-ceiling_by tick (mark.Refusal job op by t) = 0
-ceiling_by tick (mark.Release job t) = 0
-ceiling_by tick (mark.Deadline job t) = 0
-ceiling_by tick (mark.Ended job end t) = 0
+ceiling_by tick m = 0
 
 abbrev pub ceiling_at : List Mark → ℕ → Mark
 ceiling_at locks tick = mark.Ceiling tick (greatest (map (ceiling_by tick) locks))

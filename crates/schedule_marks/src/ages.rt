@@ -13,10 +13,7 @@ const AGE_LIMIT: u64 = 1 << 50;
 pub fn validity_or_none(set: &CompiledSet, item: ItemId) -> Tick
     ensures { result ≡ validity_in set.now item.0 }
 {
-    match validity(set.items(), item) {
-        Some(validity) => validity,
-        None => 0,
-    }
+    validity(set.items(), item).unwrap_or(0)
 }
 
 // How many items below this place have a validity.

@@ -31,7 +31,8 @@ pub(crate) fn until(stop: Tick, row: &JobRow) -> Tick
     }
 }
 
-fn is_job(a: JobId, b: JobId) -> bool
+/// Whether two ids are of one job.
+pub(crate) fn is_job(a: JobId, b: JobId) -> bool
     ensures { result ≡ same_job a b }
 {
     a.tx.0 == b.tx.0 && a.serial == b.serial
@@ -53,21 +54,13 @@ fn until_of(stop: Tick, rows: &[JobRow], job: JobId) -> Tick
 pub(crate) fn present_row(window: Window, row: &JobRow) -> Option<JobRow>
     ensures { result ≡ present_in window.part window.stop row.now }
 {
-    if row.release <= window.part.to && window.part.from <= until(window.stop, row) {
-        Some(*row)
-    } else {
-        None
-    }
+    (row.release <= window.part.to && window.part.from <= until(window.stop, row)).then_some(*row)
 }
 
 fn wait(part: Part, job: JobId, by: JobId, from: Tick, to: Tick) -> Option<Mark>
     ensures { result ≡ wait_mark part job by from to }
 {
-    if meets(part, from, to) {
-        Some(Mark::Wait { job, by, from, to })
-    } else {
-        None
-    }
+    meets(part, from, to).then_some(Mark::Wait { job, by, from, to })
 }
 
 pub(crate) fn wait_of(window: Window, rows: &[JobRow], entry: &Entry) -> Option<Mark>
@@ -78,9 +71,7 @@ pub(crate) fn wait_of(window: Window, rows: &[JobRow], entry: &Entry) -> Option<
             let to = until_of(window.stop, rows, job).min(until_of(window.stop, rows, by));
             wait(window.part, job, by, tick, to)
         }
-        Entry::Planned { .. } => None,
-        Entry::Step { .. } => None,
-        Entry::Idle { .. } => None,
+        _ => None,
     }
 }
 
@@ -100,18 +91,14 @@ fn ceiling(set: &CompiledSet, item: ItemId, is_write: bool) -> Prio
 fn lock_mark(set: &CompiledSet, part: Part, lock: ItemLock, from: Tick, to: Tick) -> Option<Mark>
     ensures { result ≡ mark_of_lock set.now part lock.job lock.item lock.is_write from to }
 {
-    if meets(part, from, to) {
-        Some(Mark::Lock {
-            job: lock.job,
-            item: lock.item,
-            is_write: lock.is_write,
-            ceiling: ceiling(set, lock.item, lock.is_write),
-            from,
-            to,
-        })
-    } else {
-        None
-    }
+    meets(part, from, to).then(|| Mark::Lock {
+        job: lock.job,
+        item: lock.item,
+        is_write: lock.is_write,
+        ceiling: ceiling(set, lock.item, lock.is_write),
+        from,
+        to,
+    })
 }
 
 /// The entry, where it is a step of a job that ends after the part begins.
@@ -120,15 +107,9 @@ pub(crate) fn seen_step(window: Window, rows: &[JobRow], entry: &Entry) -> Optio
 {
     match *entry {
         Entry::Step { job, .. } => {
-            if window.part.from < until_of(window.stop, rows, job) {
-                Some(*entry)
-            } else {
-                None
-            }
+            (window.part.from < until_of(window.stop, rows, job)).then_some(*entry)
         }
-        Entry::Planned { .. } => None,
-        Entry::Blocked { .. } => None,
-        Entry::Idle { .. } => None,
+        _ => None,
     }
 }
 
@@ -139,15 +120,10 @@ fn taken(op: Op, outcome: Outcome) -> Option<(ItemId, bool)>
     match op {
         Op::Read(item) => match outcome {
             Outcome::Got { stamp: Some(_), .. } => Some((item, false)),
-            Outcome::Got { stamp: None, .. } => None,
-            Outcome::Put => None,
-            Outcome::Computed => None,
-            Outcome::Closed => None,
+            _ => None,
         },
         Op::Write(item, _) => Some((item, true)),
-        Op::Compute => None,
-        Op::Commit => None,
-        Op::Quit => None,
+        _ => None,
     }
 }
 
@@ -172,9 +148,7 @@ fn is_showing(lock: ItemLock, entry: &Entry) -> bool
             outcome,
             ..
         } => is_job(by, lock.job) && is_lock(lock.item, lock.is_write, taken(op, outcome)),
-        Entry::Planned { .. } => false,
-        Entry::Blocked { .. } => false,
-        Entry::Idle { .. } => false,
+        _ => false,
     }
 }
 
@@ -206,9 +180,7 @@ fn earlier(lock: ItemLock, to: Tick, entry: &Entry) -> Tick
                 to
             }
         }
-        Entry::Planned { .. } => to,
-        Entry::Blocked { .. } => to,
-        Entry::Idle { .. } => to,
+        _ => to,
     }
 }
 
@@ -261,9 +233,7 @@ pub(crate) fn lock_of(
             }
             None => None,
         },
-        Entry::Planned { .. } => None,
-        Entry::Blocked { .. } => None,
-        Entry::Idle { .. } => None,
+        _ => None,
     }
 }
 
@@ -283,14 +253,7 @@ fn ceiling_then(tick: Tick, mark: Mark) -> Prio
                 0
             }
         }
-        Mark::Pending { .. } => 0,
-        Mark::Ceiling { .. } => 0,
-        Mark::Wait { .. } => 0,
-        Mark::Step { .. } => 0,
-        Mark::Refusal { .. } => 0,
-        Mark::Release { .. } => 0,
-        Mark::Deadline { .. } => 0,
-        Mark::Ended { .. } => 0,
+        _ => 0,
     }
 }
 

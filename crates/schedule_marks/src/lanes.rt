@@ -8,7 +8,8 @@ ghost use Rattle.txn_set.specs.Set.{txn_of, may_write};
 ghost use Rattle.step_journal.specs.Timing.{outside_read as read_by, read_in, outside_reads_of};
 ghost use Rattle.schedule_marks.specs.Lanes.{commits as is_commit, commit_tick as tick_of_commit, install_tick as tick_of_install, stamp_by as stamp_by_job, stamp_of as stamp_of_value, or_start, start_of as start_of_value, age_span as span_of_age, age_until, spans_from, dated_below, age_spans_to, age_spans_of, read_of_item, read_at, read_in_part, age_reads_of, bound_at, bound_in, bounds_of};
 
-use crate::lists::add;
+use crate::held::is_job;
+use crate::lists::{add, add_each};
 use crate::part::{Part, Window, has_instant, meets};
 use crate::whole::last_instant;
 use item_model::{ItemDecl, OutsideRead, is_dated, is_derived};
@@ -56,34 +57,22 @@ struct Standing {
 pub fn commits(end: End) -> bool
     ensures { result ≡ is_commit end }
 {
-    match end {
-        End::Committed => true,
-        End::Overrun => false,
-        End::Late => false,
-        End::Stale { .. } => false,
-        End::Apart { .. } => false,
-        End::Quit => false,
-    }
+    matches!(end, End::Committed)
 }
 
 fn commit_tick(end: Option<(End, Tick)>) -> Option<Tick>
     ensures { result ≡ tick_of_commit end }
 {
-    match end {
-        Some((end, tick)) => { if commits(end) { Some(tick) } else { None } }
-        None => None,
-    }
+    let (end, tick) = end?;
+    commits(end).then_some(tick)
 }
 
 fn writes(set: &CompiledSet, tx: TxId, item: ItemId) -> bool
     ensures { result ≡ may_write (txn_of set.now tx.0) item.0 }
 {
-    let txns = set.txns();
-    let at = tx.0 as usize;
-    if at < txns.len() {
-        names_item(txns[at].writes.as_slice(), item)
-    } else {
-        false
+    match set.txns().get(tx.0 as usize) {
+        Some(txn) => names_item(txn.writes.as_slice(), item),
+        None => false,
     }
 }
 
@@ -106,15 +95,9 @@ fn outside_read(op: Op, outcome: Outcome) -> Option<OutsideRead>
                 stamp: Some(stamp),
                 ..
             } => Some(OutsideRead { item, stamp }),
-            Outcome::Got { stamp: None, .. } => None,
-            Outcome::Put => None,
-            Outcome::Computed => None,
-            Outcome::Closed => None,
+            _ => None,
         },
-        Op::Write(_, _) => None,
-        Op::Compute => None,
-        Op::Commit => None,
-        Op::Quit => None,
+        _ => None,
     }
 }
 
@@ -128,15 +111,13 @@ fn read_of_entry(job: JobId, entry: &Entry) -> Option<OutsideRead>
             outcome,
             ..
         } => {
-            if by.tx.0 == job.tx.0 && by.serial == job.serial {
+            if is_job(by, job) {
                 outside_read(op, outcome)
             } else {
                 None
             }
         }
-        Entry::Planned { .. } => None,
-        Entry::Blocked { .. } => None,
-        Entry::Idle { .. } => None,
+        _ => None,
     }
 }
 
@@ -148,11 +129,8 @@ fn outside_reads(
 ) -> Result<Vec<OutsideRead>, OutOfMemory>
     ensures { IfOk result (λ v. v.items ≡ outside_reads_of entries.now job) }
 {
-    let mut reads = Vec::new(alloc);
-    for entry in entries {
-        add(&mut reads, read_of_entry(job, entry))?;
-    }
-    Ok(reads)
+    let reads = entries.iter().filter_map(|entry| read_of_entry(job, entry));
+    Ok(reads.collect(alloc)?)
 }
 
 #[tactic(auto, unfolding(item_model::specs::Work::is_older))]
@@ -229,10 +207,7 @@ fn start_of(by: Option<JobRow>) -> Tick
     ensures { result ≡ start_of_value by }
 {
     match by {
-        Some(row) => match commit_tick(row.end) {
-            Some(tick) => tick,
-            None => 0,
-        },
+        Some(row) => commit_tick(row.end).unwrap_or(0),
         None => 0,
     }
 }
@@ -357,36 +332,19 @@ fn read_mark(
     if !has_instant(part, tick) {
         return None;
     }
-    match read_of(entries, job, item) {
-        Some(read) => Some(AgeRead {
-            item: read.item,
-            job,
-            stamp: read.stamp,
-            tick,
-        }),
-        None => None,
-    }
+    let read = read_of(entries, job, item)?;
+    Some(AgeRead {
+        item: read.item,
+        job,
+        stamp: read.stamp,
+        tick,
+    })
 }
 
 fn age_read(part: Part, entries: &[Entry], item: ItemId, row: &JobRow) -> Option<AgeRead>
     ensures { result ≡ read_in_part part entries.now item.0 row.now }
 {
     read_mark(part, entries, item, row.job, commit_tick(row.end))
-}
-
-fn add_reads_of(
-    into: &mut Vec<AgeRead>,
-    part: Part,
-    rows: &[JobRow],
-    entries: &[Entry],
-    item: ItemId,
-) -> Result<(), OutOfMemory>
-    ensures { OnOk result (into.new.items ≡ into.old.items ++ filter_map (read_in_part part entries.now item.0) rows.now) }
-{
-    for row in rows {
-        add(into, age_read(part, entries, item, row))?;
-    }
-    Ok(())
 }
 
 /// For each sensor and derived item the commits in the part of jobs that had read it. For each of these jobs it goes over the
@@ -405,7 +363,7 @@ pub fn age_reads(
     for i in 0..set.items().len() {
         let item = ItemId(i as u32);
         if is_dated(set.items(), item) {
-            add_reads_of(&mut into, part, rows, entries, item)?;
+            add_each(&mut into, rows, |row| age_read(part, entries, item, row))?;
         }
     }
     Ok(into)
@@ -419,11 +377,7 @@ fn bound_mark(part: Part, responses: &[Tick], row: &JobRow) -> Option<Bound>
         return None;
     }
     let tick = row.release.checked_add(responses[at])?;
-    if has_instant(part, tick) {
-        Some(Bound { job: row.job, tick })
-    } else {
-        None
-    }
+    has_instant(part, tick).then_some(Bound { job: row.job, tick })
 }
 
 /// Of each job the instant at which it has ended at the latest, if that is in the part, by the responses of the transactions, in
@@ -436,9 +390,8 @@ pub fn bound_marks(
 ) -> Result<Vec<Bound>, OutOfMemory>
     ensures { IfOk result (λ v. v.items ≡ bounds_of part responses.now rows.now) }
 {
-    let mut into = Vec::new(alloc);
-    for row in rows {
-        add(&mut into, bound_mark(part, responses, row))?;
-    }
-    Ok(into)
+    let bounds = rows
+        .iter()
+        .filter_map(|row| bound_mark(part, responses, row));
+    Ok(bounds.collect(alloc)?)
 }

@@ -1,14 +1,13 @@
 //! The marks of each kind, in the order of the entries or of the rows.
-ghost use Rattle.std.specs.Prelude.{◌≡◌, ◌++◌, ◌-◌, [], ◌∷◌, OnOk, IfOk};
+ghost use Rattle.std.specs.Prelude.{◌≡◌, ◌++◌, ◌-◌, [], ◌∷◌, OnOk, IfOk, Option as Maybe};
+ghost use Rattle.std.specs.Fn.{FnReturnsAt};
 ghost use Rattle.std.specs.List.{filter_map};
 ghost use Rattle.std.specs.Option.{option_to_list};
-ghost use Rattle.schedule_marks.specs.Marks.{pending_in, step_in, refusal_in, release_in, deadline_in, end_in, wait_in, locks_along as locks_from, present, ceiling_at, ceilings_from};
+ghost use Rattle.schedule_marks.specs.Marks.{locks_along as locks_from, present, ceiling_at, ceilings_from};
 ghost use Rattle.schedule_marks.specs.Seen.{seen_in};
 
-use crate::held::{ceiling_in_tick, lock_of, present_row, seen_step, wait_of};
-use crate::mark::{
-    Mark, deadline_mark, end_mark, pending_mark, refusal_mark, release_mark, step_mark,
-};
+use crate::held::{ceiling_in_tick, lock_of, present_row, seen_step};
+use crate::mark::Mark;
 use crate::part::{Part, Window};
 use job_rows::JobRow;
 use rt_base::{OutOfMemory, Tick};
@@ -26,6 +25,21 @@ pub(crate) fn add<T: Copy>(into: &mut Vec<T>, one: Option<T>) -> Result<(), OutO
     Ok(())
 }
 
+/// Adds what a function finds in each.
+pub(crate) fn add_each<T, U: Copy, F: Fn(&T) -> Option<U>>(
+    into: &mut Vec<U>,
+    list: &[T],
+    find: F,
+) -> Result<(), OutOfMemory>
+    requires { F.IsAlwaysCallable find }
+    ensures { OnOk result ((found : T → Maybe U) → ((one : T) (what : Maybe U) → FnReturnsAt F.Fn find one what → what ≡ found one) → into.new.items ≡ into.old.items ++ filter_map found list.now) }
+{
+    for one in list {
+        add(into, find(one))?;
+    }
+    Ok(())
+}
+
 /// The rows of the jobs that were pending in the part or at one of its ends.
 pub(crate) fn present_rows(
     alloc: Global,
@@ -34,24 +48,8 @@ pub(crate) fn present_rows(
 ) -> Result<Vec<JobRow>, OutOfMemory>
     ensures { IfOk result (λ v. v.items ≡ present window.part window.stop rows.now) }
 {
-    let mut into = Vec::new(alloc);
-    for row in rows {
-        add(&mut into, present_row(window, row))?;
-    }
-    Ok(into)
-}
-
-pub(crate) fn add_pending(
-    into: &mut Vec<Mark>,
-    window: Window,
-    rows: &[JobRow],
-) -> Result<(), OutOfMemory>
-    ensures { OnOk result (into.new.items ≡ into.old.items ++ filter_map (pending_in window.part window.stop) rows.now) }
-{
-    for row in rows {
-        add(into, pending_mark(window, row))?;
-    }
-    Ok(())
+    let present = rows.iter().filter_map(|row| present_row(window, row));
+    Ok(present.collect(alloc)?)
 }
 
 // The steps of the jobs that end after the part begins: no other entry shows a lock in it.
@@ -63,11 +61,10 @@ fn seen_steps(
 ) -> Result<Vec<Entry>, OutOfMemory>
     ensures { IfOk result (λ v. v.items ≡ filter_map (seen_in window.part window.stop rows.now) entries.now) }
 {
-    let mut into = Vec::new(alloc);
-    for entry in entries {
-        add(&mut into, seen_step(window, rows, entry))?;
-    }
-    Ok(into)
+    let seen = entries
+        .iter()
+        .filter_map(|entry| seen_step(window, rows, entry));
+    Ok(seen.collect(alloc)?)
 }
 
 // The locks that entries take, one after another.
@@ -123,82 +120,6 @@ pub(crate) fn add_ceilings(
 {
     for tick in part.from..part.to {
         add_ceiling(into, locks, tick)?;
-    }
-    Ok(())
-}
-
-pub(crate) fn add_waits(
-    into: &mut Vec<Mark>,
-    window: Window,
-    rows: &[JobRow],
-    entries: &[Entry],
-) -> Result<(), OutOfMemory>
-    ensures { OnOk result (into.new.items ≡ into.old.items ++ filter_map (wait_in window.part window.stop rows.now) entries.now) }
-{
-    for entry in entries {
-        add(into, wait_of(window, rows, entry))?;
-    }
-    Ok(())
-}
-
-pub(crate) fn add_steps(
-    into: &mut Vec<Mark>,
-    part: Part,
-    entries: &[Entry],
-) -> Result<(), OutOfMemory>
-    ensures { OnOk result (into.new.items ≡ into.old.items ++ filter_map (step_in part) entries.now) }
-{
-    for entry in entries {
-        add(into, step_mark(part, entry))?;
-    }
-    Ok(())
-}
-
-pub(crate) fn add_refusals(
-    into: &mut Vec<Mark>,
-    part: Part,
-    entries: &[Entry],
-) -> Result<(), OutOfMemory>
-    ensures { OnOk result (into.new.items ≡ into.old.items ++ filter_map (refusal_in part) entries.now) }
-{
-    for entry in entries {
-        add(into, refusal_mark(part, entry))?;
-    }
-    Ok(())
-}
-
-pub(crate) fn add_releases(
-    into: &mut Vec<Mark>,
-    part: Part,
-    rows: &[JobRow],
-) -> Result<(), OutOfMemory>
-    ensures { OnOk result (into.new.items ≡ into.old.items ++ filter_map (release_in part) rows.now) }
-{
-    for row in rows {
-        add(into, release_mark(part, row))?;
-    }
-    Ok(())
-}
-
-pub(crate) fn add_deadlines(
-    into: &mut Vec<Mark>,
-    set: &CompiledSet,
-    part: Part,
-    rows: &[JobRow],
-) -> Result<(), OutOfMemory>
-    ensures { OnOk result (into.new.items ≡ into.old.items ++ filter_map (deadline_in set.now part) rows.now) }
-{
-    for row in rows {
-        add(into, deadline_mark(set, part, row))?;
-    }
-    Ok(())
-}
-
-pub(crate) fn add_ends(into: &mut Vec<Mark>, part: Part, rows: &[JobRow]) -> Result<(), OutOfMemory>
-    ensures { OnOk result (into.new.items ≡ into.old.items ++ filter_map (end_in part) rows.now) }
-{
-    for row in rows {
-        add(into, end_mark(part, row))?;
     }
     Ok(())
 }

@@ -1,12 +1,12 @@
 //! Marks, and the mark of an entry or of a job's row.
 ghost use Rattle.std.specs.Prelude.{◌≡◌};
-ghost use Rattle.txn_set.specs.Set.{txn_of};
 ghost use Rattle.schedule_marks.specs.Marks.{pending_in, step_in, refusal_in, release_in, deadline_in, end_in};
 
 use crate::held::until;
 use crate::part::{Part, Window, has_instant, has_tick, meets};
+use crate::place::deadline;
 use job_rows::JobRow;
-use rt_base::{End, ItemId, JobId, Op, Prio, Tick, TxId};
+use rt_base::{End, ItemId, JobId, Op, Prio, Tick};
 use step_journal::Entry;
 use txn_set::CompiledSet;
 
@@ -77,15 +77,11 @@ pub(crate) fn pending_mark(window: Window, row: &JobRow) -> Option<Mark>
     ensures { result ≡ pending_in window.part window.stop row.now }
 {
     let to = until(window.stop, row);
-    if meets(window.part, row.release, to) {
-        Some(Mark::Pending {
-            job: row.job,
-            from: row.release,
-            to,
-        })
-    } else {
-        None
-    }
+    meets(window.part, row.release, to).then_some(Mark::Pending {
+        job: row.job,
+        from: row.release,
+        to,
+    })
 }
 
 pub(crate) fn step_mark(part: Part, entry: &Entry) -> Option<Mark>
@@ -93,15 +89,9 @@ pub(crate) fn step_mark(part: Part, entry: &Entry) -> Option<Mark>
 {
     match *entry {
         Entry::Step { job, op, tick, .. } => {
-            if has_tick(part, tick) {
-                Some(Mark::Step { job, op, tick })
-            } else {
-                None
-            }
+            has_tick(part, tick).then_some(Mark::Step { job, op, tick })
         }
-        Entry::Planned { .. } => None,
-        Entry::Blocked { .. } => None,
-        Entry::Idle { .. } => None,
+        _ => None,
     }
 }
 
@@ -115,72 +105,34 @@ pub(crate) fn refusal_mark(part: Part, entry: &Entry) -> Option<Mark>
             by,
             tick,
             ..
-        } => {
-            if has_tick(part, tick) {
-                Some(Mark::Refusal { job, op, by, tick })
-            } else {
-                None
-            }
-        }
-        Entry::Planned { .. } => None,
-        Entry::Step { .. } => None,
-        Entry::Idle { .. } => None,
+        } => { has_tick(part, tick).then_some(Mark::Refusal { job, op, by, tick }) }
+        _ => None,
     }
 }
 
 pub(crate) fn release_mark(part: Part, row: &JobRow) -> Option<Mark>
     ensures { result ≡ release_in part row.now }
 {
-    if has_instant(part, row.release) {
-        Some(Mark::Release {
-            job: row.job,
-            tick: row.release,
-        })
-    } else {
-        None
-    }
-}
-
-fn deadline(set: &CompiledSet, tx: TxId) -> Tick
-    ensures { result ≡ (txn_of set.now tx.0).deadline }
-{
-    let txns = set.txns();
-    let at = tx.0 as usize;
-    if at < txns.len() {
-        txns[at].deadline
-    } else {
-        0
-    }
+    has_instant(part, row.release).then_some(Mark::Release {
+        job: row.job,
+        tick: row.release,
+    })
 }
 
 pub(crate) fn deadline_mark(set: &CompiledSet, part: Part, row: &JobRow) -> Option<Mark>
     ensures { result ≡ deadline_in set.now part row.now }
 {
-    let Some(tick) = row.release.checked_add(deadline(set, row.job.tx)) else {
-        return None;
-    };
-    if has_instant(part, tick) {
-        Some(Mark::Deadline { job: row.job, tick })
-    } else {
-        None
-    }
+    let tick = row.release.checked_add(deadline(set, row.job.tx))?;
+    has_instant(part, tick).then_some(Mark::Deadline { job: row.job, tick })
 }
 
 pub(crate) fn end_mark(part: Part, row: &JobRow) -> Option<Mark>
     ensures { result ≡ end_in part row.now }
 {
-    match row.end {
-        Some((end, tick)) => {
-            if has_instant(part, tick) {
-                Some(Mark::Ended {
-                    job: row.job,
-                    end,
-                    tick,
-                })
-            } else {
-                None
-            }
-        }
-        None => None,
-    }
+    let (end, tick) = row.end?;
+    has_instant(part, tick).then_some(Mark::Ended {
+        job: row.job,
+        end,
+        tick,
+    })
 }

@@ -178,9 +178,7 @@ fn height_above(prio: Prio, txn: &TxnDecl) -> u64
 pub fn priority(set: &CompiledSet, tx: TxId) -> Prio
     ensures { result ≡ (txn_of set.now tx.0).prio }
 {
-    let txns = set.txns();
-    let at = tx.0 as usize;
-    if at < txns.len() { txns[at].prio } else { 0 }
+    set.txns().get(tx.0 as usize).map_or(0, |txn| txn.prio)
 }
 
 /// The line of the ceiling that a transaction's priority is.
@@ -224,10 +222,7 @@ fn place(items: &[ItemId], item: u32) -> usize
     ensures value { result ≡ place_of items.now item }
     ensures most { result ≤ length items.now }
 {
-    match find(items, item) {
-        Some(at) => at,
-        None => items.len(),
-    }
+    find(items, item).unwrap_or(items.len())
 }
 
 // The place of a lock among the declared reads and writes.
@@ -264,11 +259,9 @@ pub fn lock_y(set: &CompiledSet, tx: TxId, item: ItemId, is_write: bool) -> u64
 pub fn name(names: &[Name], at: u32) -> &[u8]
     ensures { result.now ≡ name_at names.now at }
 {
-    let at = at as usize;
-    if at < names.len() {
-        names[at].as_slice()
-    } else {
-        b"".as_slice()
+    match names.get(at as usize) {
+        Some(name) => name.as_slice(),
+        None => b"",
     }
 }
 
@@ -276,13 +269,7 @@ pub fn name(names: &[Name], at: u32) -> &[u8]
 pub fn deadline(set: &CompiledSet, tx: TxId) -> Tick
     ensures { result ≡ (txn_of set.now tx.0).deadline }
 {
-    let txns = set.txns();
-    let at = tx.0 as usize;
-    if at < txns.len() {
-        txns[at].deadline
-    } else {
-        0
-    }
+    set.txns().get(tx.0 as usize).map_or(0, |txn| txn.deadline)
 }
 
 /// How many lanes of a row have a name of their own.
@@ -304,12 +291,7 @@ pub fn is_read(txn: &TxnDecl, lane: u64) -> bool
 fn item_at(items: &[ItemId], at: u64) -> ItemId
     ensures { result ≡ slice_index_or items.now at first_item }
 {
-    let at = at as usize;
-    if at < items.len() {
-        items[at]
-    } else {
-        ItemId(0)
-    }
+    items.get(at as usize).copied().unwrap_or(ItemId(0))
 }
 
 /// The item of a lane.

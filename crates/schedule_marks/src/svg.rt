@@ -27,6 +27,7 @@ pub fn add(into: &mut Vec<u8>, bytes: &[u8]) -> Result<(), OutOfMemory>
 }
 
 /// Adds bytes and a number.
+#[tactic(auto, unfolding(crate::specs::Svg::counted))]
 pub fn add_number(into: &mut Vec<u8>, bytes: &[u8], n: u64) -> Result<(), OutOfMemory>
     ensures { OnOk result (into.new.items ≡ into.old.items ++ counted bytes.now n) }
 {
@@ -112,6 +113,7 @@ pub fn add_words(
 }
 
 /// A word, if there is one.
+#[tactic(auto, unfolding(crate::specs::Svg::some_word))]
 pub fn add_word(
     into: &mut Vec<u8>,
     class: &[u8],
@@ -121,9 +123,10 @@ pub fn add_word(
 ) -> Result<(), OutOfMemory>
     ensures { OnOk result (into.new.items ≡ into.old.items ++ some_word class.now x y word.now) }
 {
-    match word {
-        [] => Ok(()),
-        [_, ..] => add_words(into, class, x, y, word, b""),
+    if word.is_empty() {
+        Ok(())
+    } else {
+        add_words(into, class, x, y, word, b"")
     }
 }
 
@@ -142,6 +145,7 @@ pub fn add_count(
 }
 
 /// Two words in a row, if they have room.
+#[tactic(auto, unfolding(crate::specs::Svg::fitting))]
 pub fn add_fitting(
     into: &mut Vec<u8>,
     class: &[u8],

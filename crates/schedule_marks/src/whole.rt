@@ -2,11 +2,11 @@
 ghost use Rattle.std.specs.Prelude.{◌≡◌, ◌++◌, IfOk, OnOk};
 ghost use Rattle.schedule_marks.specs.Marks.{instant_to, last_instant as last_instant_of, spans_with, instants_of, marks_of, marks_to};
 
-use crate::lists::{
-    add_ceilings, add_deadlines, add_ends, add_pending, add_refusals, add_releases, add_steps,
-    add_waits, locks, present_rows,
+use crate::held::wait_of;
+use crate::lists::{add_ceilings, add_each, locks, present_rows};
+use crate::mark::{
+    Mark, deadline_mark, end_mark, pending_mark, refusal_mark, release_mark, step_mark,
 };
-use crate::mark::Mark;
 use crate::part::{Part, Window};
 use job_rows::JobRow;
 use rt_base::{OutOfMemory, Tick};
@@ -18,10 +18,9 @@ fn instant(to: Tick, entry: &Entry) -> Tick
     ensures { result ≡ instant_to to entry.now }
 {
     match *entry {
-        Entry::Planned { .. } => 0,
         Entry::Step { tick, .. } => { if tick < to { tick + 1 } else { to } }
-        Entry::Blocked { .. } => 0,
         Entry::Idle { to: tick, .. } => tick.min(to),
+        _ => 0,
     }
 }
 
@@ -47,10 +46,11 @@ fn add_spans(
 ) -> Result<(), OutOfMemory>
     ensures { OnOk result (into.new.items ≡ into.old.items ++ spans_with window.part window.stop rows.now present.now locks.now entries.now) }
 {
-    add_pending(into, window, rows)?;
+    add_each(into, rows, |row| pending_mark(window, row))?;
     into.extend_from_slice(locks)?;
     add_ceilings(into, window.part, locks)?;
-    add_waits(into, window, present, entries)
+    add_each(into, entries, |entry| wait_of(window, present, entry))?;
+    Ok(())
 }
 
 // What happens at an instant or in a tick: the steps, the refusals, the releases, the deadlines and the ends.
@@ -63,11 +63,12 @@ fn add_instants(
 ) -> Result<(), OutOfMemory>
     ensures { OnOk result (into.new.items ≡ into.old.items ++ instants_of set.now part rows.now entries.now) }
 {
-    add_steps(into, part, entries)?;
-    add_refusals(into, part, entries)?;
-    add_releases(into, part, rows)?;
-    add_deadlines(into, set, part, rows)?;
-    add_ends(into, part, rows)
+    add_each(into, entries, |entry| step_mark(part, entry))?;
+    add_each(into, entries, |entry| refusal_mark(part, entry))?;
+    add_each(into, rows, |row| release_mark(part, row))?;
+    add_each(into, rows, |row| deadline_mark(set, part, row))?;
+    add_each(into, rows, |row| end_mark(part, row))?;
+    Ok(())
 }
 
 fn marks_until(

@@ -7,7 +7,6 @@ use crate::house::House;
 use board::{Board, IdleReply, StepReply};
 use rt_base::{ItemId, Op, Tick, TxId, Value};
 use shared_plant::{Plant, Seat, Tried};
-use std::alloc::Global;
 use std::fmt::Debug;
 use std::sync::Wait;
 use step_journal::Entry;
@@ -23,8 +22,8 @@ pub fn is_planned<B: Board>(plant: &Plant<B>, seat: &mut Seat<B>, tx: TxId, tick
     }
 }
 
-// The stored value and stamp of the first item.
-fn peeked<B: Board>(plant: &Plant<B>, seat: &mut Seat<B>) -> Option<(Value, Tick)>
+/// The stored value and stamp of the first item; None where the turn was taken.
+pub fn peeked<B: Board>(plant: &Plant<B>, seat: &mut Seat<B>) -> Option<(Value, Tick)>
     requires { IsOf plant.now seat.old × (0 < length plant.now.set.items) }
     ensures { (seat.new.plant ≡ seat.old.plant) × (seat.new.tx ≡ seat.old.tx) }
 {
@@ -101,51 +100,48 @@ pub enum Ask {
     Front,
 }
 
-fn text<T: Debug>(alloc: Global, told: &T) -> Option<String> {
-    format!(in alloc; "{told:?}").ok()
+// Writes what was told.
+fn tell<T: Debug>(said: &mut String, told: &T) -> Option<()> {
+    write!(said, "{told:?}").ok()
 }
 
-fn grant_text(alloc: Global, granted: bool) -> Option<String> {
-    format!(in alloc; "granted {granted}").ok()
-}
-
-// What is told at a seat. None where it is none of a transaction that steps.
-fn told<R: Wait, B: Board>(
+// Writes what is told at a seat. None where it is none of a transaction that steps.
+fn ask_at<R: Wait, B: Board>(
     rt: &R,
-    alloc: Global,
     plant: &Plant<B>,
     seat: &mut Seat<B>,
     ask: Ask,
-) -> Option<String>
+    said: &mut String,
+) -> Option<()>
     requires { IsOf plant.now seat.old × (2 < length plant.now.set.txns) × (0 < length plant.now.set.items) }
     ensures { (seat.new.plant ≡ seat.old.plant) × (seat.new.tx ≡ seat.old.tx) }
 {
     match ask {
         Ask::Plan(tx, tick) => {
             let granted = tx.0 < 3 && is_planned(plant, seat, tx, tick);
-            grant_text(alloc, granted)
+            write!(said, "granted {granted}").ok()
         }
-        Ask::Peek => text(alloc, &peeked(plant, seat)),
-        Ask::Front => text(alloc, &seat.front()),
+        Ask::Peek => tell(said, &peeked(plant, seat)),
+        Ask::Front => tell(said, &seat.front()),
         Ask::Step(serial, op) => match seat.tx() {
-            Some(_) => text(alloc, &replied(plant, seat, serial, op)),
+            Some(_) => tell(said, &replied(plant, seat, serial, op)),
             None => None,
         },
         Ask::Wait(serial, op) => match seat.tx() {
-            Some(_) => text(alloc, &waited(rt, plant, seat, serial, op)),
+            Some(_) => tell(said, &waited(rt, plant, seat, serial, op)),
             None => None,
         },
     }
 }
 
 impl<B: Board> House<B> {
-    /// What is told at the seat of this name.
-    pub fn ask<R: Wait>(&mut self, rt: &R, alloc: Global, seat: &str, ask: Ask) -> Option<String> {
+    /// Writes what is told at the seat of this name.
+    pub fn ask<R: Wait>(&mut self, rt: &R, seat: &str, ask: Ask, said: &mut String) -> Option<()> {
         match seat {
-            "operator" => told(rt, alloc, &self.plant, &mut self.operator, ask),
-            "sample" => told(rt, alloc, &self.plant, &mut self.sample, ask),
-            "control" => told(rt, alloc, &self.plant, &mut self.control, ask),
-            "logger" => told(rt, alloc, &self.plant, &mut self.logger, ask),
+            "operator" => ask_at(rt, &self.plant, &mut self.operator, ask, said),
+            "sample" => ask_at(rt, &self.plant, &mut self.sample, ask, said),
+            "control" => ask_at(rt, &self.plant, &mut self.control, ask, said),
+            "logger" => ask_at(rt, &self.plant, &mut self.logger, ask, said),
             _ => None,
         }
     }

@@ -3,50 +3,37 @@ ghost use Rattle.std.specs.Prelude.{◌≤◌, length, IfSome};
 
 use crate::told::plain_core;
 use board::Board;
-use rt_base::{End, JobId, TxId};
+use rt_base::{JobId, TxId};
 use std::alloc::Global;
 use step_journal::Entry;
 use test_sets::{call_of, make};
 use txn_set::CompiledSet;
 
-/// How many jobs of a transaction were planned, and how many ended in each way. A job that ends late at a step of another
-/// has no entry of its own, so those that are late are all that ended and have no other end.
-#[derive(Clone, Copy, Debug)]
+// The ways in which a job ends, in the order in which they are told, the last one at a step of another job too.
+const WAYS: [&str; 6] = ["committed", "overrun", "quit", "stale", "apart", "late"];
+
+/// How many jobs of a transaction were planned, and how many ended in each way.
+#[derive(Clone, Copy)]
 pub struct Ends {
-    pub planned: usize,
-    pub committed: usize,
-    pub overrun: usize,
-    pub quit: usize,
-    pub stale: usize,
-    pub apart: usize,
-    pub late: usize,
+    planned: usize,
+    counts: [usize; 6],
 }
 
 impl Ends {
-    fn none() -> Ends {
-        Ends {
-            planned: 0,
-            committed: 0,
-            overrun: 0,
-            quit: 0,
-            stale: 0,
-            apart: 0,
-            late: 0,
+    // Notes an end whose name, as a value is written, begins a text.
+    fn note(&mut self, text: &str) {
+        for place in 0..WAYS.len() {
+            let way = WAYS[place];
+            if let Some(name) = text.get(..way.len())
+                && name.eq_ignore_ascii_case(way)
+            {
+                self.counts[place] = self.counts[place].saturating_add(1);
+            }
         }
     }
 
-    fn note(&mut self, end: End) {
-        match end {
-            End::Committed => self.committed = self.committed.saturating_add(1),
-            End::Overrun => self.overrun = self.overrun.saturating_add(1),
-            End::Quit => self.quit = self.quit.saturating_add(1),
-            End::Stale { .. } => self.stale = self.stale.saturating_add(1),
-            End::Apart { .. } => self.apart = self.apart.saturating_add(1),
-            End::Late => (),
-        }
-    }
-
-    fn note_entry(&mut self, entry: Entry, of: TxId) {
+    // Notes an entry; the text is a place for what is written of its end.
+    fn note_entry(&mut self, entry: Entry, of: TxId, text: &mut String) -> Option<()> {
         match entry {
             Entry::Planned { tx, .. } if tx == of => {
                 self.planned = self.planned.saturating_add(1);
@@ -55,16 +42,32 @@ impl Ends {
                 job,
                 over: Some(end),
                 ..
-            } if job.tx == of => self.note(end),
+            } if job.tx == of => {
+                text.clear();
+                write!(text, "{end:?}").ok()?;
+                self.note(text.as_str());
+            }
             _ => (),
         }
+        Some(())
     }
 
-    // How many ended in time.
-    fn in_time(&self) -> usize {
-        let closed = self.committed.saturating_add(self.quit);
-        let stale = self.stale.saturating_add(self.apart);
-        closed.saturating_add(self.overrun).saturating_add(stale)
+    // A job that ends late at a step of another has no entry of its own, so those that are late are all that ended and have no
+    // other end.
+    fn note_late(&mut self, ended: usize) {
+        let [committed, overrun, quit, stale, apart, _] = self.counts;
+        let closed = committed.saturating_add(overrun).saturating_add(quit);
+        let others = closed.saturating_add(stale).saturating_add(apart);
+        self.counts[5] = ended.saturating_sub(others);
+    }
+
+    /// Writes how many there were of each.
+    pub fn write(&self, said: &mut String) -> Option<()> {
+        write!(said, "Ends {{ planned: {}", self.planned).ok()?;
+        for place in 0..WAYS.len() {
+            write!(said, ", {}: {}", WAYS[place], self.counts[place]).ok()?;
+        }
+        said.push_str(" }").ok()
     }
 }
 
@@ -83,14 +86,25 @@ fn ended(alloc: Global, set: &CompiledSet, history: &[Entry], tx: TxId) -> Optio
     ended
 }
 
+// The same by the entries alone.
+fn told_ends(history: &[Entry], tx: TxId, text: &mut String) -> Option<Ends> {
+    let mut ends = Ends {
+        planned: 0,
+        counts: [0; 6],
+    };
+    for entry in history {
+        ends.note_entry(*entry, tx, text)?;
+    }
+    Some(ends)
+}
+
 /// How the jobs of a transaction ended in a history of this set.
 pub fn ends_of(alloc: Global, set: &CompiledSet, history: &[Entry], tx: TxId) -> Option<Ends> {
-    let mut ends = Ends::none();
-    for entry in history {
-        ends.note_entry(*entry, tx);
-    }
-    let ended = ended(alloc, set, history, tx)? as usize;
-    ends.late = ended.saturating_sub(ends.in_time());
+    let mut text = String::new(alloc);
+    let told = told_ends(history, tx, &mut text);
+    drop(text);
+    let mut ends = told?;
+    ends.note_late(ended(alloc, set, history, tx)? as usize);
     Some(ends)
 }
 

@@ -50,8 +50,8 @@ pub struct House<B: Board> {
     ghost sizes: { (2 < length plant.set.txns) × (0 < length plant.set.items) },
 }
 
-// The history of a new board.
-struct NoEntry;
+/// The history of a new board.
+pub struct NoEntry;
 
 impl Past<Entry> for NoEntry {
     ghost past = { [] };

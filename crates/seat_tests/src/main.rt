@@ -1,10 +1,11 @@
 //! Drives plants over the core of an admitted set as standard input says, and prints what was told: at all four seats by one
-//! thread, to two threads that plan, to a thread for each seat, also where the callers are hostile, and by runs of workers.
-//! Empty lines and lines that begin with `#` are passed over.
+//! thread, to two threads that plan, to a thread for each seat, also where the callers are hostile, and by runs of workers. A line
+//! `growths` makes each call that takes memory on a scenario. Empty lines and lines that begin with `#` are passed over.
 #![tactic(auto)]
 
 mod calls;
 mod ends;
+mod growths;
 mod held;
 mod hostile;
 mod house;
@@ -17,6 +18,7 @@ use admitted_core::AdmittedCore;
 use board::Board;
 use calls::Ask;
 use ends::{ends_of, waits};
+use growths::try_growths;
 use held::told_while_held;
 use hostile::{Hostile, take_hostile_turns};
 use house::{House, Opens, closed, new_house};
@@ -28,10 +30,9 @@ use std::sync::Wait;
 use std::thread::Threads;
 use step_journal::Entry;
 use test_sets::{Told, declared, entry_of};
-use told::{has_told, history_of, is_legal};
-use turns::{Turned, take_turns};
+use told::{has_told, is_legal};
+use turns::{Kept, Turned, take_turns};
 use txn_set::CompiledSet;
-use txn_threads::RunStop;
 use workers::{case_of, counts, ran};
 
 // The set, the plant of the last line that made one, the entries that were drained of it, and those of the last run.
@@ -44,15 +45,15 @@ struct Scene<B: Board> {
     entries: Vec<Entry>,
 }
 
-// A line of a declaration; the mode line is the last of them.
-fn declare<B: Board>(alloc: Global, scene: &mut Scene<B>, line: &str) -> Option<String> {
+// Takes a line of a declaration; the mode line is the last of them.
+fn declare<B: Board>(alloc: Global, scene: &mut Scene<B>, line: &str) -> Option<()> {
     scene.head.push_str(line).ok()?;
     scene.head.push_str("\n").ok()?;
     if line.starts_with("mode") {
         let told = declared(alloc, scene.head.as_str())?;
         drop(scene.told.replace(told));
     }
-    Some(String::new(alloc))
+    Some(())
 }
 
 // What is asked at a seat by an entry's line, by `peek` or by `front`; `wait` and a line tries a step until it is answered.
@@ -73,125 +74,117 @@ fn ask_of(told: &Told, words: &str) -> Option<Ask> {
     }
 }
 
-fn asked<R: Wait, B: Board>(
+// Writes what is told at a seat.
+fn ask_at<R: Wait, B: Board>(
     rt: &R,
-    alloc: Global,
     scene: &mut Scene<B>,
     seat: &str,
     words: &str,
-) -> Option<String> {
-    let ask = match &scene.told {
-        Some(told) => ask_of(told, words)?,
-        None => return None,
-    };
-    scene.house.as_mut()?.ask(rt, alloc, seat, ask)
+    said: &mut String,
+) -> Option<()> {
+    let ask = ask_of(scene.told.as_ref()?, words)?;
+    scene.house.as_mut()?.ask(rt, seat, ask, said)
 }
 
-// Drains so many entries at most, behind those that were drained before.
-fn drain<B: Board>(alloc: Global, scene: &mut Scene<B>, most: &str) -> Option<String> {
+// Drains so many entries at most, behind those that were drained before, and writes all of them.
+fn drain<B: Board>(scene: &mut Scene<B>, most: &str, said: &mut String) -> Option<()> {
     let most = most.parse::<usize>().ok()?;
     let count = scene.house.as_mut()?.drain(most, &mut scene.drained);
-    let drained = scene.drained.as_slice();
-    format!(in alloc; "{count:?} {drained:?}").ok()
+    write!(said, "{count:?} {:?}", scene.drained.as_slice()).ok()
 }
 
-fn close<B: Board + Drop>(alloc: Global, scene: &mut Scene<B>) -> Option<String> {
+// Closes the plant, and writes what is answered and left.
+fn close<B: Board + Drop>(alloc: Global, scene: &mut Scene<B>, said: &mut String) -> Option<()> {
     let (have, need, board) = closed(alloc, scene.house.take()?)?;
     let (first, left) = (board.first(), board.entries().len());
     drop(board);
-    format!(in alloc;
+    write!(
+        said,
         "{have} seats where {need} are needed; then {first} entries gone, {left} left"
-    ).ok()
+    )
+    .ok()
 }
 
 // Whether in the history stands once what each seat was told that it had appended, and nothing else but the seven plans.
-fn told_once(alloc: Global, history: &[Entry], kept: &[Vec<Entry>; 3]) -> Option<[bool; 4]> {
-    let [sampled, controlled, logged] = kept;
-    let sample = has_told(alloc, history, 0, sampled.as_slice())?;
-    let control = has_told(alloc, history, 1, controlled.as_slice())?;
-    let logger = has_told(alloc, history, 2, logged.as_slice())?;
+fn told_once(alloc: Global, history: &[Entry], kept: &Kept) -> Option<[bool; 4]> {
+    let (sampled, controlled) = (kept.sample.as_slice(), kept.control.as_slice());
+    let logged = kept.logger.as_slice();
+    let sample = has_told(alloc, history, 0, sampled)?;
+    let control = has_told(alloc, history, 1, controlled)?;
+    let logger = has_told(alloc, history, 2, logged)?;
     let calls = sampled.len().saturating_add(controlled.len());
     let all = calls.saturating_add(logged.len()).saturating_add(7) == history.len();
     Some([sample, control, logger, all])
 }
 
-// Whether a history is legal, and whether it has what each seat was told.
-fn judged(
-    alloc: Global,
-    set: &CompiledSet,
-    history: Option<Vec<Entry>>,
-    kept: &[Vec<Entry>; 3],
-) -> Option<(bool, [bool; 4])> {
-    let history = history?;
-    let legal = is_legal(alloc, set, history.as_slice())?;
-    let once = told_once(alloc, history.as_slice(), kept)?;
-    Some((legal, once))
-}
-
 // How many jobs of each transaction committed, as each seat was told.
-fn committed(kept: &[Vec<Entry>; 3]) -> [usize; 3] {
-    let [sampled, controlled, logged] = kept;
-    let (samples, _) = counts(sampled.as_slice(), 0, End::Committed);
-    let (controls, _) = counts(controlled.as_slice(), 1, End::Committed);
-    let (logs, _) = counts(logged.as_slice(), 2, End::Committed);
+fn committed(kept: &Kept) -> [usize; 3] {
+    let (samples, _) = counts(kept.sample.as_slice(), 0, End::Committed);
+    let (controls, _) = counts(kept.control.as_slice(), 1, End::Committed);
+    let (logs, _) = counts(kept.logger.as_slice(), 2, End::Committed);
     [samples, controls, logs]
 }
 
-// Whether what was drained and what was kept is one legal history, whatever the schedule was, and how many jobs committed.
-fn told_each<B: Board + Drop>(
+// Writes whether a history that was drained whole is legal and has what each seat was told, and how many jobs committed.
+fn judge(
+    alloc: Global,
+    set: &CompiledSet,
+    history: &[Entry],
+    kept: &Kept,
+    all_drained: bool,
+    said: &mut String,
+) -> Option<()> {
+    let legal = is_legal(alloc, set, history)?;
+    let once = told_once(alloc, history, kept)?;
+    let committed = committed(kept);
+    write!(
+        said,
+        "drained {all_drained}, legal {legal}, told once {once:?}, committed {committed:?}"
+    )
+    .ok()
+}
+
+// Writes whether what was drained and what was kept is one legal history, whatever the schedule was.
+fn judge_turns<B: Board + Drop>(
     alloc: Global,
     set: &CompiledSet,
     turned: Turned<B>,
-) -> Option<String> {
+    said: &mut String,
+) -> Option<()> {
     let Turned {
-        drained,
+        mut drained,
         kept,
         board,
     } = turned;
     let all_drained = board.first() == drained.len() as u64;
-    let history = history_of(drained, &board);
+    let whole = drained.extend_from_slice(board.entries());
     drop(board);
-    let judged = judged(alloc, set, history, &kept);
-    let committed = committed(&kept);
+    let judged = judge(alloc, set, drained.as_slice(), &kept, all_drained, said);
     drop(kept);
-    let (legal, once) = judged?;
-    format!(in alloc;
-        "drained {all_drained}, legal {legal}, told once {once:?}, committed {committed:?}"
-    ).ok()
+    drop(drained);
+    whole.ok().and(judged)
 }
 
-// What a run of workers on a new plant answers, and the entries that its out took.
-fn run_of<R: Threads + Wait + Sync, B: Opens + Send + Drop>(
-    rt: &R,
-    alloc: Global,
-    set: &CompiledSet,
-    words: &str,
-) -> Option<(Result<(), RunStop>, Vec<Entry>)> {
-    let (number, rest) = words.split_once(' ')?;
-    let (most, name) = rest.split_once(' ')?;
-    let number = number.parse::<u32>().ok()?;
-    let most = most.parse::<usize>().ok()?;
-    let house = new_house::<B>(alloc, set)?;
-    let Ok(case) = case_of(alloc, name, most) else {
-        drop(house);
-        return None;
-    };
-    ran(rt, alloc, house, number, case).ok()
-}
-
-// A run of so many workers with an out that takes so many entries.
+// A run of workers on a new plant, whose answer is written; the entries that its out took are kept.
 fn run<R: Threads + Wait + Sync, B: Opens + Send + Drop>(
     rt: &R,
     alloc: Global,
     scene: &mut Scene<B>,
     words: &str,
-) -> Option<String> {
-    let Some(told) = &scene.told else {
+    said: &mut String,
+) -> Option<()> {
+    let (number, rest) = words.split_once(' ')?;
+    let (most, name) = rest.split_once(' ')?;
+    let number = number.parse::<u32>().ok()?;
+    let most = most.parse::<usize>().ok()?;
+    let case = case_of(alloc, name, most).ok()?;
+    let Some(house) = new_house::<B>(alloc, &scene.told.as_ref()?.set) else {
+        drop(case);
         return None;
     };
-    let (answer, entries) = run_of::<R, B>(rt, alloc, &told.set, words)?;
+    let (answer, entries) = ran(rt, alloc, house, number, case).ok()?;
     scene.entries = entries;
-    format!(in alloc; "{answer:?}").ok()
+    write!(said, "{answer:?}").ok()
 }
 
 // A run of hostile callers on a new plant.
@@ -199,132 +192,119 @@ fn run_hostile<R: Threads + Wait + Sync, B: Opens + Send + Drop>(
     rt: &R,
     alloc: Global,
     scene: &mut Scene<B>,
-) -> Option<String> {
-    let Some(told) = &scene.told else {
-        return None;
-    };
+    said: &mut String,
+) -> Option<()> {
+    let set = &scene.told.as_ref()?.set;
     let Hostile {
         history,
         refused,
         all_drained,
-    } = take_hostile_turns(rt, alloc, new_house::<B>(alloc, &told.set)?)?;
-    let legal = is_legal(alloc, &told.set, history.as_slice())?;
+    } = take_hostile_turns(rt, alloc, new_house::<B>(alloc, set)?)?;
+    let legal = is_legal(alloc, set, history.as_slice());
     scene.entries = history;
-    format!(in alloc; "drained {all_drained}, legal {legal}, refused for good {refused:?}").ok()
+    let legal = legal?;
+    write!(
+        said,
+        "drained {all_drained}, legal {legal}, refused for good {refused:?}"
+    )
+    .ok()
 }
 
-// What two threads are told of which one tries while the other has the turn.
-fn held_text<R: Threads, B: Opens + Send + Drop>(
-    rt: &R,
+// Writes how the jobs of a transaction ended in the last run.
+fn write_ends<B: Board>(
     alloc: Global,
     scene: &Scene<B>,
-) -> Option<String> {
-    let Some(told) = &scene.told else {
-        return None;
-    };
-    let said = told_while_held::<R, B>(rt, alloc, &told.set)?;
-    format!(in alloc; "{said:?}").ok()
-}
-
-// How the jobs of a transaction ended in the last run.
-fn ends_text<B: Board>(alloc: Global, scene: &Scene<B>, tx: &str) -> Option<String> {
-    let Some(told) = &scene.told else {
-        return None;
-    };
+    tx: &str,
+    said: &mut String,
+) -> Option<()> {
     let tx = TxId(tx.parse::<u32>().ok()?);
-    let ends = ends_of(alloc, &told.set, scene.entries.as_slice(), tx)?;
-    format!(in alloc; "{ends:?}").ok()
+    let set = &scene.told.as_ref()?.set;
+    ends_of(alloc, set, scene.entries.as_slice(), tx)?.write(said)
 }
 
-// What the entries of the last run are: how many, the one at a place, what became of a transaction's jobs, or how many
+// Writes what the entries of the last run are: how many, the one at a place, what became of a transaction's jobs, or how many
 // refused locks were granted in the end.
-fn seen(alloc: Global, entries: &[Entry], word: &str, rest: &str) -> Option<String> {
+fn write_seen(entries: &[Entry], word: &str, rest: &str, said: &mut String) -> Option<()> {
     match word {
         "locks" => {
             let (refused, granted) = waits(entries);
-            format!(in alloc; "{granted} of {refused} granted after the holder's end").ok()
+            write!(
+                said,
+                "{granted} of {refused} granted after the holder's end"
+            )
+            .ok()
         }
-        "count" => {
-            let count = entries.len();
-            format!(in alloc; "{count}").ok()
-        }
+        "count" => write!(said, "{}", entries.len()).ok(),
         "entry" => {
             let entry = entries.get(rest.parse::<usize>().ok()?);
-            format!(in alloc; "{entry:?}").ok()
+            write!(said, "{entry:?}").ok()
         }
-        "committed" => jobs(alloc, entries, rest, End::Committed),
-        "quit" => jobs(alloc, entries, rest, End::Quit),
+        "committed" => write_jobs(entries, rest, End::Committed, said),
+        "quit" => write_jobs(entries, rest, End::Quit, said),
         _ => None,
     }
 }
 
-fn jobs(alloc: Global, entries: &[Entry], tx: &str, end: End) -> Option<String> {
+fn write_jobs(entries: &[Entry], tx: &str, end: End, said: &mut String) -> Option<()> {
     let (ends, plans) = counts(entries, tx.parse::<u32>().ok()?, end);
-    format!(in alloc; "{ends} of {plans}").ok()
+    write!(said, "{ends} of {plans}").ok()
 }
 
-// A new plant, and what becomes of it.
-fn with_house<R: Threads + Wait + Sync, B: Opens + Send + Drop>(
+// Lets two threads plan on a new plant, or each seat take its turns on a thread of its own, and writes what they were told.
+fn with_threads<R: Threads + Wait + Sync, B: Opens + Send + Drop>(
     rt: &R,
     alloc: Global,
-    scene: &mut Scene<B>,
+    told: &Told,
     word: &str,
-) -> Option<String> {
-    let Some(told) = &scene.told else {
-        return None;
-    };
-    let house = new_house::<B>(alloc, &told.set)?;
+    said: &mut String,
+) -> Option<()> {
     match word {
         "pair" => {
-            let said = planned_by_two(rt, alloc, house)?;
-            format!(in alloc; "{said:?}").ok()
+            let answers = planned_by_two(rt, alloc, new_house::<B>(alloc, &told.set)?)?;
+            write!(said, "{answers:?}").ok()
         }
-        "turns" => told_each(alloc, &told.set, take_turns(rt, alloc, house)?),
+        "turns" => {
+            let turned = take_turns(rt, alloc, new_house::<B>(alloc, &told.set)?)?;
+            judge_turns(alloc, &told.set, turned, said)
+        }
         _ => {
-            scene.drained = Vec::with_capacity(alloc, 16).ok()?;
-            scene.house = Some(house);
-            Some(String::new(alloc))
+            let answers = told_while_held::<R, B>(rt, alloc, &told.set)?;
+            write!(said, "{answers:?}").ok()
         }
     }
 }
 
-// Does what a line says of a run, or tells of the last one.
-fn follow_run<R: Threads + Wait + Sync, B: Opens + Send + Drop>(
-    rt: &R,
-    alloc: Global,
-    scene: &mut Scene<B>,
-    word: &str,
-    rest: &str,
-) -> Option<String> {
-    match word {
-        "held" => held_text(rt, alloc, scene),
-        "run" => run(rt, alloc, scene, rest),
-        "hostile" => run_hostile(rt, alloc, scene),
-        "ends" => ends_text(alloc, scene, rest),
-        _ => seen(alloc, scene.entries.as_slice(), word, rest),
-    }
+// Makes a new plant.
+fn open<B: Opens + Drop>(alloc: Global, scene: &mut Scene<B>) -> Option<()> {
+    let house = new_house::<B>(alloc, &scene.told.as_ref()?.set)?;
+    drop(scene.house.replace(house));
+    scene.drained = Vec::with_capacity(alloc, 16).ok()?;
+    Some(())
 }
 
-// Does what a line says. Some tells what is to be printed, if anything.
+// Does what a line says, and writes what was told, if anything.
 fn follow<R: Threads + Wait + Sync, B: Opens + Send + Drop>(
     rt: &R,
     alloc: Global,
     scene: &mut Scene<B>,
     line: &str,
-) -> Option<String> {
+    said: &mut String,
+) -> Option<()> {
     let (word, rest) = line.split_once(' ').unwrap_or((line, ""));
     match word {
         "rtdb" | "item" | "txn" | "mode" => declare(alloc, scene, line),
-        "plant" | "pair" | "turns" => with_house(rt, alloc, scene, word),
-        "drain" => drain(alloc, scene, rest),
-        "close" => close(alloc, scene),
-        "operator" | "sample" | "control" | "logger" => asked(rt, alloc, scene, word, rest),
-        _ => follow_run(rt, alloc, scene, word, rest),
+        "plant" => open(alloc, scene),
+        "drain" => drain(scene, rest, said),
+        "close" => close(alloc, scene, said),
+        "operator" | "sample" | "control" | "logger" => ask_at(rt, scene, word, rest, said),
+        "pair" | "turns" | "held" => {
+            with_threads::<R, B>(rt, alloc, scene.told.as_ref()?, word, said)
+        }
+        "run" => run(rt, alloc, scene, rest, said),
+        "hostile" => run_hostile(rt, alloc, scene, said),
+        "ends" => write_ends(alloc, scene, rest, said),
+        _ => write_seen(scene.entries.as_slice(), word, rest, said),
     }
-}
-
-fn say<R: Print>(rt: &R, line: &str, said: &str) -> io::Result<()> {
-    println!(rt; "{line}: {said}")
 }
 
 // Does what a line says, unless it is empty or a remark, and prints it with what was told, if anything.
@@ -333,14 +313,23 @@ fn play_line<R: Threads + Wait + Sync + Print, B: Opens + Send + Drop>(
     alloc: Global,
     scene: &mut Scene<B>,
     line: &str,
+    said: &mut String,
 ) -> io::Result<()> {
     if line.is_empty() || line.starts_with('#') {
         return Ok(());
     }
-    match follow(rt, alloc, scene, line) {
-        Some(said) if said.is_empty() => Ok(()),
-        Some(said) => say(rt, line, said.as_str()),
-        None => say(rt, line, "not read"),
+    if let Some(text) = line.strip_prefix("growths ") {
+        return try_growths(rt, alloc, text.as_bytes());
+    }
+    said.clear();
+    let followed = follow(rt, alloc, scene, line, said);
+    let said = said.as_str();
+    if followed.is_none() {
+        println!(rt; "{line}: not read")
+    } else if said.is_empty() {
+        Ok(())
+    } else {
+        println!(rt; "{line}: {said}")
     }
 }
 
@@ -349,9 +338,10 @@ fn play_lines<R: Threads + Wait + Sync + Print, B: Opens + Send + Drop>(
     alloc: Global,
     scene: &mut Scene<B>,
     input: &str,
+    said: &mut String,
 ) -> io::Result<()> {
     for line in input.lines() {
-        play_line(rt, alloc, scene, line)?;
+        play_line(rt, alloc, scene, line, said)?;
     }
     Ok(())
 }
@@ -362,6 +352,7 @@ fn play<R: Threads + Wait + Sync + Print, B: Opens + Send + Drop>(
     alloc: Global,
     input: &str,
 ) -> io::Result<()> {
+    let mut said = String::new(alloc);
     let mut scene: Scene<B> = Scene {
         head: String::new(alloc),
         told: None,
@@ -369,13 +360,18 @@ fn play<R: Threads + Wait + Sync + Print, B: Opens + Send + Drop>(
         drained: Vec::new(alloc),
         entries: Vec::new(alloc),
     };
-    let played = play_lines(rt, alloc, &mut scene, input);
+    let played = play_lines(rt, alloc, &mut scene, input, &mut said);
     drop(scene);
+    drop(said);
     played
 }
 
 fn main(rt: HostRuntime) -> io::Result<()> {
     let alloc = rt.alloc();
-    let input = io::read_to_string(alloc, rt.reader())?;
-    play::<HostRuntime, AdmittedCore>(&rt, alloc, input.as_str())
+    let Ok(input) = io::read_to_string(alloc, rt.reader()) else {
+        return println!(rt; "program: refused");
+    };
+    let played = play::<HostRuntime, AdmittedCore>(&rt, alloc, input.as_str());
+    drop(input);
+    played
 }

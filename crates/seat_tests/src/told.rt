@@ -42,13 +42,6 @@ fn times(all: &[Entry], entry: Entry) -> usize {
     all.iter().filter(|other| untimed(**other) == entry).count()
 }
 
-/// What was drained, and then what the board keeps.
-pub fn history_of<B: Board>(mut drained: Vec<Entry>, board: &B) -> Option<Vec<Entry>> {
-    let kept = board.entries();
-    drained.extend_from_slice(kept).ok()?;
-    Some(drained)
-}
-
 /// A plain core of the set, with an empty history.
 pub fn plain_core(alloc: Global, set: &CompiledSet) -> Option<PlainCore> {
     let Ok(set) = set.copy(alloc) else {

@@ -222,11 +222,19 @@ fn new_caller<B: Board>(alloc: Global, seat: Seat<B>) -> Option<Caller<B>>
     }
 }
 
-/// What was drained and what the three callers kept, and the board that was left.
+/// What the three callers kept.
+#[derive(Drop)]
+pub struct Kept {
+    pub sample: Vec<Entry>,
+    pub control: Vec<Entry>,
+    pub logger: Vec<Entry>,
+}
+
+/// What was drained, what the callers kept, and the board that was left.
 #[derive(Drop)]
 pub struct Turned<B> {
     pub drained: Vec<Entry>,
-    pub kept: [Vec<Entry>; 3],
+    pub kept: Kept,
     pub board: B,
 }
 
@@ -271,7 +279,11 @@ pub fn take_turns<R: Threads + Sync, B: Board + Send + Drop>(
     let (_, _, board) = closed(alloc, house)?;
     Some(Turned {
         drained: o.kept,
-        kept: [s.kept, c.kept, l.kept],
+        kept: Kept {
+            sample: s.kept,
+            control: c.kept,
+            logger: l.kept,
+        },
         board,
     })
 }

@@ -11,7 +11,7 @@ use Rattle.rt_base.specs.declared.operation.Outcome.TheVariants.{Computed}
 use Rattle.rt_base.specs.declared.operation.End.{End}
 use Rattle.txn_set.specs.Set.{Set, IsCompiled}
 use Rattle.step_journal.specs.declared.entry.Entry.{Entry}
-use Rattle.step_journal.specs.declared.entry.Entry.TheVariants.{Planned, Step, Blocked, Idle}
+use Rattle.step_journal.specs.declared.entry.Entry.TheVariants.{Step, Blocked}
 use Rattle.step_journal.specs.State.{State, Row, same_job}
 use Rattle.step_journal.specs.LockRule.{Above}
 use Rattle.step_journal.specs.Running.{running, of_job}
@@ -109,29 +109,17 @@ answer_entry set room first kept story job op r is fits e a =
 -- a job that is told an outcome was answered Done, and one that is told nothing Blocked
 
 pub told_done : (r : StepReply) (outcome : Outcome) → Some outcome ≡ told_by r → (over : Option End) × (r ≡ reply.Done outcome over)
-told_done (reply.NoJob ended last) outcome h = absurd cc
-told_done (reply.NotYet running) outcome h = absurd cc
-told_done (reply.Undeclared item) outcome h = absurd cc
-told_done (reply.TooEarly left) outcome h = absurd cc
-told_done (reply.Unwritten item) outcome h = absurd cc
-told_done (reply.Full room) outcome h = absurd cc
-told_done (reply.Blocked by ceiling) outcome h = absurd cc
 told_done (reply.Done said over) outcome h = (over, cc)
+told_done other outcome h = absurd cc
 
 pub told_blocked : (now : ℕ) (job : JobId) (op : Op) (r : StepReply) (entry : Entry) → step_entry now job op r ≡ Some entry → told_by r ≡ None
     → (by : JobId) × (ceiling : ℕ) × (r ≡ reply.Blocked by ceiling)
-told_blocked now job op (reply.NoJob ended last) entry h none = absurd cc
-told_blocked now job op (reply.NotYet running) entry h none = absurd cc
-told_blocked now job op (reply.Undeclared item) entry h none = absurd cc
-told_blocked now job op (reply.TooEarly left) entry h none = absurd cc
-told_blocked now job op (reply.Unwritten item) entry h none = absurd cc
-told_blocked now job op (reply.Full room) entry h none = absurd cc
 told_blocked now job op (reply.Blocked by ceiling) entry h none = (by, ceiling, refl)
-told_blocked now job op (reply.Done said over) entry h none = absurd cc
+told_blocked now job op other entry h none = absurd cc
 
 -- the body after it began
 
-pub follows_new : (stands stands' : ℕ → List Outcome → Type 0) (set : Set) (story : List Entry) (job : JobId)
+follows_new : (stands stands' : ℕ → List Outcome → Type 0) (set : Set) (story : List Entry) (job : JobId)
     (serial : ℕ) → IsCompiled set → IsLegal set story → running_of set story ≡ Some job
     → IsFollowing stands set story job.tx.0 serial
     → (serial ≡ job.serial → stands job.serial (outcomes_of story job) → stands' job.serial (outcomes_of story job))
@@ -155,7 +143,7 @@ follows_new stands stands' set story job serial ok legal run f kept begun =
 other_false : (a b : JobId) → (a ≡ b → ⊥) → same_job a b ≡ false
 other_false a b h = false_from_ne_true _ (λ t. h (same_job_is a b t))
 
-pub outcomes_same : (story : List Entry) (e : Entry) (job : JobId) → outcome_in job e ≡ None
+outcomes_same : (story : List Entry) (e : Entry) (job : JobId) → outcome_in job e ≡ None
     → outcomes_of (story ++ e ∷ []) job ≡ outcomes_of story job
 outcomes_same story e job h = outcomes_more_in story e job None h ∙ append-nil (outcomes_of story job)
 
@@ -172,9 +160,7 @@ step_other job j op outcome over tick ne = ap (λ (b : Bool). cond {A = Option O
 pub asked_other : (e : Entry) (job j : JobId) (op : Op) → event_of e ≡ ask job op → (job ≡ j → ⊥)
     → outcome_in j e ≡ None
 asked_other (Step by op' outcome over tick) job j op h ne = step_other by j op' outcome over tick (λ same. let is : by ≡ job = cc in ne (sym is ∙ same))
-asked_other (Planned tx tick) job j op h ne = refl
-asked_other (Blocked by op' on ceiling tick) job j op h ne = refl
-asked_other (Idle from to) job j op h ne = refl
+asked_other other job j op h ne = refl
 
 reached_next : (set : Set) (story : List Entry) (e : Entry) (tx serial : ℕ) → IsCompiled set → IsLegal set story
     → IsLegalEntry set (state_of set story) e
@@ -182,7 +168,7 @@ reached_next : (set : Set) (story : List Entry) (e : Entry) (tx serial : ℕ) �
 reached_next set story e tx serial ok legal is r = subst (λ (s : State). IsReached s tx serial) (sym (state_next set story e)) (behind_after set story e tx serial ok legal is r)
 
 -- a body that was told what the new entry tells follows on
-pub follows_on : (stands stands' : ℕ → List Outcome → Type 0) (set : Set) (story : List Entry) (e : Entry)
+follows_on : (stands stands' : ℕ → List Outcome → Type 0) (set : Set) (story : List Entry) (e : Entry)
     (tx serial : ℕ) → IsCompiled set → IsLegal set story → IsLegalEntry set (state_of set story) e
     → IsFollowing stands set story tx serial → ((k : ℕ) → serial < k → outcome_in (job_of tx k) e ≡ None)
     → stands' serial (outcomes_of (story ++ e ∷ []) (job_of tx serial))
@@ -196,7 +182,7 @@ follows_on stands stands' set story e tx serial ok legal is f none told = record
 serial_apart : (job : JobId) (k : ℕ) → job.serial < k → job ≡ job_of job.tx.0 k → ⊥
 serial_apart job k lt e = let s : job.serial ≡ k = ap (λ (j : JobId). j.serial) e in omega arith
 
-pub follows_done : (stands stands' : ℕ → List Outcome → Type 0) (set : Set) (story : List Entry) (job : JobId) (op : Op)
+follows_done : (stands stands' : ℕ → List Outcome → Type 0) (set : Set) (story : List Entry) (job : JobId) (op : Op)
     (outcome : Outcome) (over : Option End) (tick : ℕ) → IsCompiled set → IsLegal set story
     → IsLegalEntry set (state_of set story) (Step job op outcome over tick)
     → IsFollowing stands set story job.tx.0 job.serial
@@ -215,158 +201,99 @@ pub follows_same : (stands : ℕ → List Outcome → Type 0) (set : Set) (story
 follows_same stands set story e tx serial ok legal is none f =
     follows_on stands stands set story e tx serial ok legal is f (λ k lt. none k) (subst (stands serial) (sym (outcomes_same story e (job_of tx serial) (none serial))) f.told)
 
--- what is known of the answer to the body's operation
-pub record Turn (set : Set) (story : List Entry) (job : JobId) (op : Op) (r : StepReply) : Type 0 where
-  pub entry : Entry
-  pub event : event_of entry ≡ ask job op
-  pub legal : IsLegalEntry set (state_of set story) entry
-  pub is : step_entry (now_of set story) job op r ≡ Some entry
+some_entry : (x y : Entry) → Some x ≡ Some y → x ≡ y
+some_entry x y e = cc
 
-pub turn_of : (set : Set) (room first : ℕ) (kept story : List Entry) (job : JobId) (op : Op) (gives : Body)
-    (r : StepReply) → IsStory set room first kept story → running_of set story ≡ Some job → MayAsk set story gives
-    → op ≡ gives job.serial (outcomes_of story job) → length kept < room
-    → r ≡ step_answer set story (length kept) room job op → Turn set story job op r
-turn_of set room first kept story job op gives r is run may same fits e =
-    let w = running_row set story job run in
-    let a = asked_entry set story job op run (λ row runs.
-    let one : Some row ≡ Some w.row = sym runs ∙ w.runs in
-    let j : row.job ≡ job = some_job row w.row one ∙ w.is in
-    ap (may_ask set row) (same ∙ ap (λ (k : JobId). gives k.serial (outcomes_of story k)) (sym j)) ∙ may row runs) in
-    record { entry = a.entry; event = a.event; legal = asked_legal set (state_of set story) job op a; is = answer_entry set room first kept story job op r is fits e a } where
-      some_job : (x y : Row) → Some x ≡ Some y → x.job ≡ y.job
-      some_job x y e = let same : x ≡ y = cc in ap (λ (q : Row). q.job) same
+pub job_of_same : (x y : Row) → Some x ≡ Some y → x.job ≡ y.job
+job_of_same x y e = let same : x ≡ y = cc in ap (λ (q : Row). q.job) same
 
-pub done_is : (set : Set) (story : List Entry) (job : JobId) (op : Op) (r : StepReply) (outcome : Outcome)
-    (over : Option End) → (t : Turn set story job op r) → r ≡ reply.Done outcome over
-    → t.entry ≡ Step job op outcome over (now_of set story)
-done_is set story job op r outcome over t e =
-    let a : Some (Step job op outcome over (now_of set story)) ≡ Some t.entry = ap (step_entry (now_of set story) job op) (sym e) ∙ t.is in
-    some_entry _ _ (sym a) where
-      some_entry : (x y : Entry) → Some x ≡ Some y → x ≡ y
-      some_entry x y e = cc
-
-pub blocked_is : (set : Set) (story : List Entry) (job : JobId) (op : Op) (r : StepReply) (by : JobId) (ceiling : ℕ)
-    → (t : Turn set story job op r) → r ≡ reply.Blocked by ceiling
-    → t.entry ≡ Blocked job op by ceiling (now_of set story)
-blocked_is set story job op r by ceiling t e =
-    let a : Some (Blocked job op by ceiling (now_of set story)) ≡ Some t.entry = ap (step_entry (now_of set story) job op) (sym e) ∙ t.is in
-    some_entry _ _ (sym a) where
-      some_entry : (x y : Entry) → Some x ≡ Some y → x ≡ y
-      some_entry x y e = cc
-
-pub turn_done_follows : (stands stands' : ℕ → List Outcome → Type 0) (set : Set) (story after : List Entry)
-    (job : JobId) (op : Op) (r : StepReply) (outcome : Outcome) (over : Option End) → IsCompiled set → IsLegal set story
-    → (t : Turn set story job op r) → r ≡ reply.Done outcome over → after ≡ story ++ t.entry ∷ []
-    → IsFollowing stands set story job.tx.0 job.serial
-    → ((os : List Outcome) → stands job.serial os → stands' job.serial (os ++ outcome ∷ []))
-    → IsFollowing stands' set after job.tx.0 job.serial
-turn_done_follows stands stands' set story after job op r outcome over ok legal t e more f told =
-    let is = done_is set story job op r outcome over t e in
-    let l : IsLegalEntry set (state_of set story) (Step job op outcome over (now_of set story)) = subst (IsLegalEntry set (state_of set story)) is t.legal in
-    subst (λ (h : List Entry). IsFollowing stands' set h job.tx.0 job.serial) (sym (more ∙ ap (λ (x : Entry). story ++ x ∷ []) is))
-    (follows_done stands stands' set story job op outcome over (now_of set story) ok legal l f told)
-
-pub turn_blocked_follows : (stands : ℕ → List Outcome → Type 0) (set : Set) (story after : List Entry) (job : JobId)
-    (op : Op) (r : StepReply) (by : JobId) (ceiling : ℕ) → IsCompiled set → IsLegal set story
-    → (t : Turn set story job op r) → r ≡ reply.Blocked by ceiling → after ≡ story ++ t.entry ∷ []
-    → IsFollowing stands set story job.tx.0 job.serial → IsFollowing stands set after job.tx.0 job.serial
-turn_blocked_follows stands set story after job op r by ceiling ok legal t e more f =
-    let is = blocked_is set story job op r by ceiling t e in
-    let l : IsLegalEntry set (state_of set story) (Blocked job op by ceiling (now_of set story)) = subst (IsLegalEntry set (state_of set story)) is t.legal in
-    subst (λ (h : List Entry). IsFollowing stands set h job.tx.0 job.serial) (sym (more ∙ ap (λ (x : Entry). story ++ x ∷ []) is))
-    (follows_same stands set story (Blocked job op by ceiling (now_of set story)) job.tx.0 job.serial ok legal l (λ k. refl) f)
-
--- all that is known after the board's answer, before the body is told
-pub record After (stands : ℕ → List Outcome → Type 0) (gives : Body) (set : Set) (story : List Entry) (job : JobId) (op : Op) (r : StepReply) : Type 0 where
+-- a body that has begun the running job, and gives the operation that the job may ask for
+pub record Given (stands : ℕ → List Outcome → Type 0) (gives : Body) (set : Set) (story : List Entry) (job : JobId) (op : Op) : Type 0 where
   pub compiled : IsCompiled set
   pub legal : IsLegal set story
+  pub running : running_of set story ≡ Some job
+  pub may : MayAsk set story gives
   pub follows : IsFollowing stands set story job.tx.0 job.serial
-  pub turn : Turn set story job op r
-  pub asked : event_of turn.entry ≡ ask job (gives job.serial (outcomes_of story job))
+  pub is : op ≡ gives job.serial (outcomes_of story job)
 
--- the body gives what it is asked for, and the job may ask for it
-pub op_given : (board : List Entry → Type 0) (stands stands' : ℕ → List Outcome → Type 0) (gives gives' : Body)
-    (set : Set) (room first : ℕ) (kept story : List Entry) (job : JobId) (op : Op) (serial : ℕ)
-    → CanAsk board stands gives set job serial story → IsStory set room first kept story
-    → (serial ≡ job.serial → stands job.serial (outcomes_of story job) → stands' job.serial (outcomes_of story job))
-    → (serial ≢ job.serial → stands' job.serial [])
-    → gives' ≡ gives → ((k : ℕ) (os : List Outcome) → stands' k os → op ≡ gives' k os)
-    → op ≡ gives job.serial (outcomes_of story job)
-op_given board stands stands' gives gives' set room first kept story job op serial can is kept_told begun same next =
-    let f = follows_new stands stands' set story job serial is.compiled is.legal can.running can.follows kept_told begun in
-    next job.serial (outcomes_of story job) f.told ∙ ap (λ (h : Body). h job.serial (outcomes_of story job)) same
-
-pub asking_now : (set : Set) (story : List Entry) (job : JobId) (op : Op) (gives : Body) → running_of set story ≡ Some job → MayAsk set story gives
-    → op ≡ gives job.serial (outcomes_of story job) → IsAsking set (state_of set story) job op
-asking_now set story job op gives run may same =
-    let w = running_row set story job run in
+pub given_op : {Y : Type 0} {board : List Entry → Type 0} (stands : Y → ℕ → List Outcome → Type 0) {body body' : Y} {gives gives' : Body}
+    {set : Set} {room first : ℕ} {kept story : List Entry} {job : JobId} {op : Op} {serial : ℕ}
+    → CanAsk board (stands body) gives set job serial story → IsStory set room first kept story
+    → (serial ≡ job.serial → body' ≡ body) → (serial ≢ job.serial → stands body' job.serial [])
+    → gives' ≡ gives → ((k : ℕ) (os : List Outcome) → stands body' k os → op ≡ gives' k os)
+    → Given (stands body') gives set story job op
+given_op {Y} stands {body = body} {body' = body'} {set = set} {story = story} {job = job} {serial = serial} can is kept begun same next =
+    let f = follows_new (stands body) (stands body') set story job serial is.compiled is.legal can.running can.follows
+    (λ e h. subst (λ (y : Y). stands y job.serial (outcomes_of story job)) (sym (kept e)) h) begun in
     record {
-      row = w.row;
-      runs = w.runs;
-      is = w.is;
-      may = ap (may_ask set w.row) (same ∙ ap (λ (k : JobId). gives k.serial (outcomes_of story k)) (sym w.is)) ∙ may w.row w.runs;
+      compiled = is.compiled;
+      legal = is.legal;
+      running = can.running;
+      may = can.may;
+      follows = f;
+      is = next job.serial (outcomes_of story job) f.told ∙ ap (λ (h : Body). h job.serial (outcomes_of story job)) same;
     }
 
-pub after_answer : (board : List Entry → Type 0) (stands stands' : ℕ → List Outcome → Type 0) (gives gives' : Body)
-    (set : Set) (room first : ℕ) (kept story : List Entry) (job : JobId) (op : Op) (r : StepReply) (serial : ℕ)
-    → CanAsk board stands gives set job serial story → IsStory set room first kept story → length kept < room
-    → (serial ≡ job.serial → stands job.serial (outcomes_of story job) → stands' job.serial (outcomes_of story job))
-    → (serial ≢ job.serial → stands' job.serial [])
-    → gives' ≡ gives → ((k : ℕ) (os : List Outcome) → stands' k os → op ≡ gives' k os)
-    → r ≡ step_answer set story (length kept) room job op
-    → After stands' gives set story job op r
-after_answer board stands stands' gives gives' set room first kept story job op r serial can is fits kept_told begun same next e =
-    let f' = follows_new stands stands' set story job serial is.compiled is.legal can.running can.follows kept_told begun in
-    let op_is = op_given board stands stands' gives gives' set room first kept story job op serial can is kept_told begun same next in
-    let t = turn_of set room first kept story job op gives r is can.running can.may op_is fits e in
-    record { compiled = is.compiled; legal = is.legal; follows = f'; turn = t; asked = t.event ∙ ap (ask job) op_is }
+module _ {stands : ℕ → List Outcome → Type 0} {gives : Body} {set : Set} {story : List Entry} {job : JobId} {op : Op} (k : Given stands gives set story job op) where
+  may_by : (row : Row) → row.job ≡ job → running set (state_of set story).rows ≡ Some row → may_ask set row op ≡ true
+  may_by row j runs = ap (may_ask set row) (k.is ∙ ap (λ (i : JobId). gives i.serial (outcomes_of story i)) (sym j)) ∙ k.may row runs
 
--- what the asked operation leaves
+  pub asking_now : IsAsking set (state_of set story) job op
+  asking_now = let w = running_row set story job k.running in record { row = w.row; runs = w.runs; is = w.is; may = may_by w.row w.is w.runs }
 
-pub entry_noted : (set : Set) (story : List Entry) (job : JobId) (op : Op) (r : StepReply) (t : Turn set story job op r)
-    → noted story (step_entry (now_of set story) job op r) ≡ story ++ t.entry ∷ []
-entry_noted set story job op r t = ap (noted story) t.is
+  -- the entry of the answer to that operation
+  pub entry_given_by : {room first : ℕ} {kept : List Entry} (r : StepReply) → IsStory set room first kept story → length kept < room
+      → r ≡ step_answer set story (length kept) room job op
+      → (a : Asked set (state_of set story) job op) × (step_entry (now_of set story) job op r ≡ Some a.entry)
+  entry_given_by {room} {first} {kept} r is fits e =
+      let w = running_row set story job k.running in
+      let a = asked_entry set story job op k.running (λ row runs. may_by row (job_of_same row w.row (sym runs ∙ w.runs) ∙ w.is) runs) in
+      (a, answer_entry set room first kept story job op r is fits e a)
 
-pub has_done : (board : List Entry → Type 0) (stands stands' : ℕ → List Outcome → Type 0) (gives : Body) (set : Set)
-    (story : List Entry) (job : JobId) (op : Op) (r : StepReply) (outcome : Outcome) (over : Option End) (serial : ℕ)
-    → (a : After stands gives set story job op r) → r ≡ reply.Done outcome over → serial ≡ job.serial
-    → board (noted story (step_entry (now_of set story) job op r))
-    → ((os : List Outcome) → stands job.serial os → stands' job.serial (os ++ outcome ∷ []))
-    → HasAsked board stands' set (ask job (gives job.serial (outcomes_of story job))) job.tx.0 serial story
-has_done board stands stands' gives set story job op r outcome over serial a e same new told = record {
-  after = story ++ a.turn.entry ∷ [];
-  noted = (a.turn.entry, a.asked, refl);
-  stands = subst board (entry_noted set story job op r a.turn) new;
-  follows = subst (IsFollowing stands' set (story ++ a.turn.entry ∷ []) job.tx.0) (sym same)
-      (turn_done_follows stands stands' set story (story ++ a.turn.entry ∷ []) job op r outcome over a.compiled a.legal a.turn e refl a.follows told);
-}
+  -- what the asked operation leaves, of which this is the entry
+  has_noted : {board : List Entry → Type 0} {stands' : ℕ → List Outcome → Type 0} {serial : ℕ} (o : Option Entry) (a : Asked set (state_of set story) job op) (e : Entry)
+      → o ≡ Some a.entry → o ≡ Some e → serial ≡ job.serial → board (noted story o)
+      → (IsLegalEntry set (state_of set story) e → IsFollowing stands' set (story ++ e ∷ []) job.tx.0 job.serial)
+      → HasAsked board stands' set (ask job (gives job.serial (outcomes_of story job))) job.tx.0 serial story
+  has_noted {board} {stands'} o a e is here same new follow =
+      let entry : a.entry ≡ e = some_entry a.entry e (sym is ∙ here) in
+      record {
+        after = story ++ e ∷ [];
+        noted = (e, ap event_of (sym entry) ∙ (a.event ∙ ap (ask job) k.is), refl);
+        stands = subst board (ap (noted story) here) new;
+        follows = subst (IsFollowing stands' set (story ++ e ∷ []) job.tx.0) (sym same) (follow (subst (IsLegalEntry set (state_of set story)) entry (asked_legal set (state_of set story) job op a)));
+      }
 
-pub has_blocked : (board : List Entry → Type 0) (stands : ℕ → List Outcome → Type 0) (gives : Body) (set : Set)
-    (story : List Entry) (job : JobId) (op : Op) (r : StepReply) (by : JobId) (ceiling : ℕ) (serial : ℕ)
-    → (a : After stands gives set story job op r) → r ≡ reply.Blocked by ceiling → serial ≡ job.serial
-    → board (noted story (step_entry (now_of set story) job op r))
-    → HasAsked board stands set (ask job (gives job.serial (outcomes_of story job))) job.tx.0 serial story
-has_blocked board stands gives set story job op r by ceiling serial a e same new = record {
-  after = story ++ a.turn.entry ∷ [];
-  noted = (a.turn.entry, a.asked, refl);
-  stands = subst board (entry_noted set story job op r a.turn) new;
-  follows = subst (IsFollowing stands set (story ++ a.turn.entry ∷ []) job.tx.0) (sym same)
-      (turn_blocked_follows stands set story (story ++ a.turn.entry ∷ []) job op r by ceiling a.compiled a.legal a.turn e refl a.follows);
-}
+  pub has_done : {board : List Entry → Type 0} {stands' : ℕ → List Outcome → Type 0} {room first : ℕ} {kept : List Entry} {serial : ℕ} (r : StepReply) (outcome : Outcome)
+      → IsStory set room first kept story → length kept < room → r ≡ step_answer set story (length kept) room job op → Some outcome ≡ told_by r → serial ≡ job.serial
+      → board (noted story (step_entry (now_of set story) job op r)) → ((os : List Outcome) → stands job.serial os → stands' job.serial (os ++ outcome ∷ []))
+      → HasAsked board stands' set (ask job (gives job.serial (outcomes_of story job))) job.tx.0 serial story
+  has_done {stands' = stands'} r outcome is fits e said same new told =
+      let a = entry_given_by r is fits e in let d = told_done r outcome said in
+      has_noted (step_entry (now_of set story) job op r) a.0 (Step job op outcome d.0 (now_of set story)) a.1 (ap (step_entry (now_of set story) job op) d.1) same new
+      (λ l. follows_done stands stands' set story job op outcome d.0 (now_of set story) k.compiled k.legal l k.follows told)
 
--- what a Compute leaves by which nothing else happens
-pub has_computed : (board : List Entry → Type 0) (stands stands' : ℕ → List Outcome → Type 0) (gives : Body) (set : Set)
-    (story : List Entry) (job : JobId) (op : Op) (tick serial : ℕ) → IsCompiled set → IsLegal set story
-    → IsFollowing stands set story job.tx.0 job.serial → op ≡ gives job.serial (outcomes_of story job) → op ≡ Compute → serial ≡ job.serial
-    → IsLegal set (story ++ Step job Compute Computed None tick ∷ []) → board (story ++ Step job Compute Computed None tick ∷ [])
-    → ((os : List Outcome) → stands job.serial os → stands' job.serial (os ++ Computed ∷ []))
-    → HasAsked board stands' set (ask job (gives job.serial (outcomes_of story job))) job.tx.0 serial story
-has_computed board stands stands' gives set story job op tick serial ok legal f given is same legal' new told =
-    let e : Entry = Step job Compute Computed None tick in
-    record {
-      after = story ++ e ∷ [];
-      noted = (e, ap (ask job) (sym is ∙ given), refl);
-      stands = new;
-      follows = subst (IsFollowing stands' set (story ++ e ∷ []) job.tx.0) (sym same)
-          (follows_done stands stands' set story job Compute Computed None tick ok legal (legal_parts set story e [] legal').1 f told);
-    }
+  pub has_blocked : {board : List Entry → Type 0} {room first : ℕ} {kept : List Entry} {serial : ℕ} (r : StepReply)
+      → IsStory set room first kept story → length kept < room → r ≡ step_answer set story (length kept) room job op → told_by r ≡ None → serial ≡ job.serial
+      → board (noted story (step_entry (now_of set story) job op r))
+      → HasAsked board stands set (ask job (gives job.serial (outcomes_of story job))) job.tx.0 serial story
+  has_blocked r is fits e none same new =
+      let a = entry_given_by r is fits e in let d = told_blocked (now_of set story) job op r a.0.entry a.1 none in
+      let entry : Entry = Blocked job op d.0 d.1 (now_of set story) in
+      has_noted (step_entry (now_of set story) job op r) a.0 entry a.1 (ap (step_entry (now_of set story) job op) d.2) same new
+      (λ l. follows_same stands set story entry job.tx.0 job.serial k.compiled k.legal l (λ n. refl) k.follows)
+
+  -- what a Compute leaves by which nothing else happens
+  pub has_computed : {board : List Entry → Type 0} {stands' : ℕ → List Outcome → Type 0} {serial : ℕ} (tick : ℕ) → op ≡ Compute → serial ≡ job.serial
+      → IsLegal set (story ++ Step job Compute Computed None tick ∷ []) → board (story ++ Step job Compute Computed None tick ∷ [])
+      → ((os : List Outcome) → stands job.serial os → stands' job.serial (os ++ Computed ∷ []))
+      → HasAsked board stands' set (ask job (gives job.serial (outcomes_of story job))) job.tx.0 serial story
+  has_computed {stands' = stands'} tick is same legal new told =
+      let e : Entry = Step job Compute Computed None tick in
+      record {
+        after = story ++ e ∷ [];
+        noted = (e, ap (ask job) (sym is ∙ k.is), refl);
+        stands = new;
+        follows = subst (IsFollowing stands' set (story ++ e ∷ []) job.tx.0) (sym same)
+            (follows_done stands stands' set story job Compute Computed None tick k.compiled k.legal (legal_parts set story e [] legal).1 k.follows told);
+      }

@@ -1,7 +1,7 @@
 -- How entries go on from the board to an out, and what the out can take after them.
 use Rattle.std.proofs.Common.{◌≡◌, ℕ, zero, suc, ◌+◌, ◌≤◌, List, [], ◌∷◌, ◌++◌, length, take, drop, Result, Ok, Err, OnErr, refl, ap, sym, ◌∙◌, subst, arith, append_assoc}
 use Rattle.std.proofs.lemmas.List.{append-nil, drop-append-le}
-use Rattle.std.proofs.Math.Seq.{take-append_seam, take-append-add, take-length}
+use Rattle.std.proofs.Math.Seq.{take-append_seam, drop-append_seam, take-append-add, take-length}
 use Rattle.io_edge.specs.Causes.{Rose}
 use Rattle.txn_set.specs.Set.{Set}
 use Rattle.step_journal.specs.declared.entry.Entry.{Entry}
@@ -95,6 +95,25 @@ cut_more got got' lost' entries rest whole is k = record {
   grown = k.grown;
   is_lost = k.is_lost;
 }
+
+-- of these entries the out got the first ones, so many, and lost the next ones, so many
+pub record CutAt (got got' lost' : List Entry → Type 0) (history : List Entry) : Type 0 where
+  pub passed : ℕ
+  pub missed : ℕ
+  pub grown : (story : List Entry) → got story → got' (story ++ take passed history)
+  pub is_lost : lost' (take missed (drop passed history))
+
+pub cut_at : {got got' lost' : List Entry → Type 0} (history : List Entry) → IsCut got got' lost' history → CutAt got got' lost' history
+cut_at {got' = got'} {lost' = lost'} history k =
+    let parts : history ≡ k.passed ++ (k.piece ++ k.left) = k.parts ∙ append_assoc k.passed k.piece k.left in
+    let first = ap (take (length k.passed)) parts ∙ take-append_seam k.passed (k.piece ++ k.left) in
+    let next = ap (drop (length k.passed)) parts ∙ drop-append_seam k.passed (k.piece ++ k.left) in
+    record {
+      passed = length k.passed;
+      missed = length k.piece;
+      grown = λ story g. subst (λ (l : List Entry). got' (story ++ l)) (sym first) (k.grown story g);
+      is_lost = subst lost' (sym (ap (take (length k.piece)) next ∙ take-append_seam k.piece k.left)) k.is_lost;
+    }
 
 -- what an out can take
 

@@ -15,11 +15,13 @@ use Rattle.step_journal.specs.declared.entry.Entry.TheVariants.{Planned}
 use Rattle.step_journal.specs.State.{State, opening}
 use Rattle.step_journal.specs.Step.{plan, given, plans_of, earliest, may_plan, next_job, with_plan, step}
 use Rattle.step_journal.specs.History.{state_given, entry_given, state_after, states_after, IsLegalFrom, IsLegal, state_of}
-use Rattle.board.specs.Stories.{noted, plan_entry, plan_answer}
+use Rattle.board.specs.Stories.{IsStory, noted, plan_entry, plan_answer}
 use Rattle.board.proofs.Plans.{plans_are_steps}
 use Rattle.law_histories.specs.Sim.{plans_from}
 use Rattle.sim_run.specs.Workloads.{AreSpaced, AreAccepted}
+use Rattle.sim_run.specs.Handed.{IsHanded}
 use Rattle.sim_run.proofs.Histories.{legal_parts, legal_split, legal_join}
+use Rattle.sim_run.proofs.Handing.{left_as, kept_after}
 
 -- what the board answers to a legal plan
 
@@ -80,6 +82,15 @@ pub plan_noted : (story : List Entry) (tx : TxId) (tick : ℕ) (r : Result JobId
     → noted story (plan_entry tx tick r) ≡ story ++ Planned tx tick ∷ []
 plan_noted story tx tick r job e = ap (λ (q : Result JobId PlanRefused). noted story (plan_entry tx tick q)) e
 
+-- what the out got of them, after one more plan
+pub each_handed : {got got' : List Entry → Type 0} {entries : List Entry} {set set' : Set} {room room' first first' : ℕ} {kept kept' story story' : List Entry} {r : Result JobId PlanRefused} {job : JobId}
+    (tx : TxId) (ticks : List ℕ) (n : ℕ) → n < length ticks → IsStory set room first kept story → IsStory set' room' first' kept' story' → first' ≡ first
+    → r ≡ Ok job → story' ≡ noted story (plan_entry tx (get_or ticks n 0) r)
+    → IsHanded got got' entries (kept ++ map (Planned tx) (drop n ticks)) → IsHanded got got' entries (kept' ++ map (Planned tx) (drop (n + 1) ticks))
+each_handed {got} {got'} {entries} {kept = kept} {kept' = kept'} {story = story} {r = r} tx ticks n lt is is' same granted more h =
+    left_as got got' entries _ _ (each_left tx ticks n 0 (n + 1) kept kept' lt (omega arith)
+    (kept_after _ _ _ _ _ _ _ _ story _ (Planned tx (get_or ticks n 0)) is is' same (more ∙ plan_noted story tx (get_or ticks n 0) r _ granted))) h
+
 -- the rest of all plans
 pub plans_rest : (releases : List (List ℕ)) (n : ℕ) (d : List ℕ) (story whole : List Entry) → n < length releases
     → story ++ plans_from n (drop n releases) ≡ whole
@@ -124,6 +135,11 @@ all_left releases n next d ticks kept lt one is =
     ∙ (ap (λ (ts : List ℕ). (kept ++ map (Planned (record { 0 = n })) ts) ++ plans_from (n + 1) (drop (suc n) releases)) (sym is)
     ∙ (ap (λ (m : ℕ). (kept ++ map (Planned (record { 0 = n })) ticks) ++ plans_from m (drop (suc n) releases)) (omega (arith, one))
     ∙ ap (λ (m : ℕ). (kept ++ map (Planned (record { 0 = n })) ticks) ++ plans_from next (drop m releases)) (sym one)))
+
+-- what the out got of them, before those of one more transaction
+pub next_handed : {got got' : List Entry → Type 0} {entries : List Entry} (releases : List (List ℕ)) (n : ℕ) (d ticks : List ℕ) (kept : List Entry) → n < length releases → ticks ≡ get_or releases n d
+    → IsHanded got got' entries (kept ++ plans_from n (drop n releases)) → IsHanded got got' entries ((kept ++ map (Planned (record { 0 = n })) ticks) ++ plans_from (n + 1) (drop (n + 1) releases))
+next_handed {got} {got'} {entries} releases n d ticks kept lt is h = left_as got got' entries _ _ (all_left releases n (n + 1) d ticks kept lt (omega arith) is) h
 
 -- Every plan is legal: at tick 0 with a tick that is late enough, and with few planned.
 

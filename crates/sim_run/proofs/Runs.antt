@@ -24,16 +24,14 @@ use Rattle.law_histories.proofs.Never.{never_stuck}
 use Rattle.law_histories.specs.Sim.{Body, Workload, IsAsked, IsScriptRun, IsFixed, IsSim, plans, plans_from, next_event, event_for, event_in, op_asked}
 use Rattle.sim_run.specs.Workloads.{ticks_of, workload, ObeysAt}
 use Rattle.sim_run.specs.Turns.{IsFollowing, IsUnderWay, IsTurned, job_of}
-use Rattle.sim_run.proofs.Asks.{asked_entry, asked_legal}
+use Rattle.sim_run.proofs.Asks.{job_of_same, asked_entry, asked_legal}
 use Rattle.sim_run.proofs.Behind.{behind_zero}
 
 -- plans alone
 
 abbrev IsPlan : Entry → Type 0
 IsPlan (Planned tx tick) = Unit {0}
-IsPlan (Step job op outcome over tick) = ⊥
-IsPlan (Blocked job op by ceiling tick) = ⊥
-IsPlan (Idle from to) = ⊥
+IsPlan other = ⊥
 
 abbrev ArePlans : List Entry → Type 0
 ArePlans [] = Unit {0}
@@ -49,15 +47,16 @@ all_plans tx (ticks ∷ rest) = plans_append (record { 0 = tx }) ticks (plans_fr
 
 plan_asked : (w : Workload) (before : List Entry) (e : Entry) → IsPlan e → IsAsked w before e
 plan_asked w before (Planned tx tick) h = tt
-plan_asked w before (Step job op outcome over tick) h = absurd h
-plan_asked w before (Blocked job op by ceiling tick) h = absurd h
-plan_asked w before (Idle from to) h = absurd h
+plan_asked w before other h = absurd h
+
+no_split : (before : List Entry) (e : Entry) (after : List Entry) → [] ≡ before ++ e ∷ after → ⊥
+no_split [] e after h = cc
+no_split before e after h = cc
 
 plan_at : (es before : List Entry) (e : Entry) (after : List Entry) → es ≡ before ++ e ∷ after → ArePlans es → IsPlan e
-plan_at [] [] e after h all = absurd cc
-plan_at [] (b ∷ bs) e after h all = absurd cc
 plan_at (x ∷ xs) [] e after h all = let same : x ≡ e = cc in subst IsPlan same all.0
 plan_at (x ∷ xs) (b ∷ bs) e after h all = let rest : xs ≡ bs ++ e ∷ after = cc in plan_at xs bs e after rest all.1
+plan_at [] before e after h all = absurd (no_split before e after h)
 
 plans_run : (w : Workload) → IsScriptRun w (plans w)
 plans_run w = λ before after e h. plan_asked w before e (plan_at (plans w) before e after h (all_plans 0 w.releases))
@@ -65,9 +64,7 @@ plans_run w = λ before after e h. plan_asked w before e (plan_at (plans w) befo
 no_outcomes : (es : List Entry) (job : JobId) → ArePlans es → outcomes_of es job ≡ []
 no_outcomes [] job h = refl
 no_outcomes (Planned tx tick ∷ es) job h = no_outcomes es job h.1
-no_outcomes (Step by op outcome over tick ∷ es) job h = absurd h.0
-no_outcomes (Blocked by op on ceiling tick ∷ es) job h = absurd h.0
-no_outcomes (Idle from to ∷ es) job h = absurd h.0
+no_outcomes (other ∷ es) job h = absurd h.0
 
 -- how a run begins
 
@@ -128,10 +125,9 @@ asked_at w story s None job op h = none_asked s.planned h where
 
 entry_asked : (w : Workload) (story : List Entry) (e : Entry) → next_event w story ≡ Some (event_of e)
     → IsAsked w story e
-entry_asked w story (Planned tx tick) h = tt
 entry_asked w story (Step job op outcome over tick) h = asked_at w story (state_of w.set story) (running w.set (state_of w.set story).rows) job op h
 entry_asked w story (Blocked job op by ceiling tick) h = asked_at w story (state_of w.set story) (running w.set (state_of w.set story).rows) job op h
-entry_asked w story (Idle from to) h = tt
+entry_asked w story other h = tt
 
 pub goes_on : (w : Workload) (story after : List Entry) (e : Entry) → IsUnderWay w story
     → next_event w story ≡ Some (event_of e) → after ≡ story ++ e ∷ [] → IsUnderWay w after
@@ -155,7 +151,7 @@ goes_by w set bodies bodies' releases story after result is same went set' sets 
 
 -- the room
 
-count_append : (xs ys : List Entry) (n : ℕ) → plan_count (xs ++ ys) n ≡ plan_count xs n + plan_count ys n
+pub count_append : (xs ys : List Entry) (n : ℕ) → plan_count (xs ++ ys) n ≡ plan_count xs n + plan_count ys n
 count_append [] ys n = omega arith
 count_append (x ∷ xs) ys n = omega (arith, count_append xs ys n)
 
@@ -172,15 +168,18 @@ count_before tx n [] lt = refl
 count_before tx n (ticks ∷ rest) lt =
     omega (arith, count_append (map (Planned (record { 0 = tx })) ticks) (plans_from (tx + 1) rest) n, count_there tx n ticks (λ e. omega (arith, e, lt)), count_before (tx + 1) n rest (omega (arith, lt)))
 
-count_plans : (tx n k : ℕ) (releases : List (List ℕ)) → n ≡ tx + k
+count_from : (tx n k : ℕ) (releases : List (List ℕ)) → n ≡ tx + k
     → plan_count (plans_from tx releases) n ≡ length (get_or releases k [])
-count_plans tx n k [] e = refl
-count_plans tx n zero (ticks ∷ rest) e =
+count_from tx n k [] e = refl
+count_from tx n zero (ticks ∷ rest) e =
     let same : n ≡ tx = omega (arith, e) in
     let here : plan_count (map (Planned (record { 0 = tx })) ticks) n ≡ length ticks = ap (plan_count (map (Planned (record { 0 = tx })) ticks)) same ∙ count_here tx ticks in
     omega (arith, count_append (map (Planned (record { 0 = tx })) ticks) (plans_from (tx + 1) rest) n, here, count_before (tx + 1) n rest (omega (arith, same)))
-count_plans tx n (suc k) (ticks ∷ rest) e =
-    omega (arith, count_append (map (Planned (record { 0 = tx })) ticks) (plans_from (tx + 1) rest) n, count_there tx n ticks (λ same. omega (arith, e, same)), count_plans (tx + 1) n k rest (omega (arith, e)))
+count_from tx n (suc k) (ticks ∷ rest) e =
+    omega (arith, count_append (map (Planned (record { 0 = tx })) ticks) (plans_from (tx + 1) rest) n, count_there tx n ticks (λ same. omega (arith, e, same)), count_from (tx + 1) n k rest (omega (arith, e)))
+
+pub count_plans : (w : Workload) (n : ℕ) → plan_count (plans w) n ≡ length (ticks_of w.releases n)
+count_plans w n = count_from 0 n n w.releases (omega arith)
 
 -- an entry of a fixed event is no plan
 no_plan_at : (w : Workload) (story : List Entry) (s : State) (o : Option Row) (tx tick : ℕ)
@@ -194,9 +193,7 @@ no_plan_at w story s None tx tick h = none_planned s.planned h where
 no_plan : (w : Workload) (story : List Entry) (e : Entry) (n : ℕ) → next_event w story ≡ Some (event_of e)
     → plans_in n e ≡ 0
 no_plan w story (Planned tx tick) n h = absurd (no_plan_at w story (state_of w.set story) (running w.set (state_of w.set story).rows) tx.0 tick h)
-no_plan w story (Step job op outcome over tick) n h = refl
-no_plan w story (Blocked job op by ceiling tick) n h = refl
-no_plan w story (Idle from to) n h = refl
+no_plan w story other n h = refl
 
 count_fixed : (w : Workload) (before rest : List Entry) (n : ℕ) → IsFixed w before rest → plan_count rest n ≡ 0
 count_fixed w before [] n h = refl
@@ -206,7 +203,7 @@ way_count : (w : Workload) (story : List Entry) (n : ℕ) → IsUnderWay w story
     → plan_count story n ≡ length (ticks_of w.releases n)
 way_count w story n u =
     ap (λ (l : List Entry). plan_count l n) u.begins
-    ∙ omega (arith, count_append (plans w) u.rest n, count_fixed w (plans w) u.rest n u.fixed, count_plans 0 n n w.releases (omega arith))
+    ∙ omega (arith, count_append (plans w) u.rest n, count_fixed w (plans w) u.rest n u.fixed, count_plans w n)
 
 pub way_fits : (w : Workload) (story : List Entry) → IsCompiled w.set → IsLegal w.set story → IsUnderWay w story
     → length story ≤ room_of_jobs w.set.txns (λ n. length (ticks_of w.releases n))
@@ -240,16 +237,13 @@ idle_entry_for : (set : Set) (story : List Entry) (planned : List Release) (even
 idle_entry_for set story [] event none is h = absurd cc
 idle_entry_for set story (r ∷ rs) event none is h = subst (HasEntry set story) (some_event idle event h) (idle_some set story (r ∷ rs) (next_tick (r ∷ rs)) none is refl (λ e. cc))
 
-job_same : (x y : Row) → Some x ≡ Some y → x.job ≡ y.job
-job_same x y e = let same : x ≡ y = cc in ap (λ (q : Row). q.job) same
-
 pub entry_for : (w : Workload) (story : List Entry) (o : Option Row) (event : Event) → IsCompiled w.set
     → IsLegal w.set story → ObeysAt w story → running w.set (state_of w.set story).rows ≡ o
     → event_for w story (state_of w.set story) o ≡ Some event → HasEntry w.set story event
 entry_for w story (Some row) event ok legal obeys runs h =
     let op : Op = op_asked w story row.job in
     let a = asked_entry w.set story row.job op (ap (option_map (λ (r : Row). r.job)) runs) (λ x is.
-    ap (λ (j : JobId). may_ask w.set x (op_asked w story j)) (job_same row x (sym runs ∙ is)) ∙ obeys x is) in
+    ap (λ (j : JobId). may_ask w.set x (op_asked w story j)) (job_of_same row x (sym runs ∙ is)) ∙ obeys x is) in
     subst (HasEntry w.set story) (some_event (ask row.job op) event h) (record { entry = a.entry; is = a.event; legal = asked_legal w.set (state_of w.set story) row.job op a })
 entry_for w story None event ok legal obeys runs h = idle_entry_for w.set story (state_of w.set story).planned event ((never_stuck w.set story ok legal).runs runs) refl h
 

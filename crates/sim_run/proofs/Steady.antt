@@ -23,29 +23,23 @@ use Rattle.sim_run.proofs.Runs.{way_fits}
 -- the set
 
 times : (k : ℕ) (d : TxnDecl) → k < 2 → HasGoodTimes (get_or steady_txns k d)
-times zero d lt = record { prio = (omega arith, omega arith); steps = (omega arith, omega arith); period = (omega arith, omega arith); deadline = (omega arith, omega arith); offset = omega arith; quiet = omega arith }
-times (suc zero) d lt = record { prio = (omega arith, omega arith); steps = (omega arith, omega arith); period = (omega arith, omega arith); deadline = (omega arith, omega arith); offset = omega arith; quiet = omega arith }
 times (suc (suc k)) d lt = absurd (omega arith)
+times other d lt = record { prio = (omega arith, omega arith); steps = (omega arith, omega arith); period = (omega arith, omega arith); deadline = (omega arith, omega arith); offset = omega arith; quiet = omega arith }
 
 prios : (i j : ℕ) (d : TxnDecl) → i < j → j < 2 → (get_or steady_txns i d).prio ≢ (get_or steady_txns j d).prio
-prios zero zero d lt top e = absurd (omega arith)
 prios zero (suc zero) d lt top e = absurd (omega arith)
-prios (suc i) zero d lt top e = absurd (omega arith)
-prios (suc i) (suc zero) d lt top e = absurd (omega arith)
-prios i (suc (suc j)) d lt top e = absurd (omega arith)
+prios i j d lt top e = absurd (omega arith)
 
 no_items : AreItemsOf steady_set []
 no_items = record { rising = λ i j d lt top. absurd (omega arith); in_range = λ k d lt. absurd (omega arith) }
 
 reads : (k : ℕ) (d : TxnDecl) → k < 2 → AreItemsOf steady_set (get_or steady_txns k d).reads
-reads zero d lt = no_items
-reads (suc zero) d lt = no_items
 reads (suc (suc k)) d lt = absurd (omega arith)
+reads other d lt = no_items
 
 writes : (k : ℕ) (d : TxnDecl) → k < 2 → AreItemsOf steady_set (get_or steady_txns k d).writes
-writes zero d lt = no_items
-writes (suc zero) d lt = no_items
 writes (suc (suc k)) d lt = absurd (omega arith)
+writes other d lt = no_items
 
 undated : (item : ℕ) → IsTrue (is_dated steady_set.items item) → ⊥
 undated zero h = cc

@@ -23,9 +23,9 @@ use Rattle.board.proofs.Asks.{idles_are_steps}
 use Rattle.law_histories.proofs.Never.{never_stuck}
 use Rattle.law_histories.specs.Sim.{Body, Workload, next_event, event_for, event_in, op_asked}
 use Rattle.sim_run.specs.Workloads.{workload, body_of, ObeysAt}
-use Rattle.sim_run.specs.Turns.{IsFollowing, AreFollowing, MayAsk, IsNoted, HasAsked, HasTurned, job_of}
+use Rattle.sim_run.specs.Turns.{IsFollowing, AreFollowing, MayAsk, IsNoted, CanAsk, HasAsked, CanTurn, HasTurned, job_of}
 use Rattle.sim_run.proofs.Histories.{legal_parts}
-use Rattle.sim_run.proofs.Asks.{running_row, asked_other, follows_same}
+use Rattle.sim_run.proofs.Asks.{running_row, job_of_same, job_in_set, asked_other, follows_same}
 
 -- lists
 
@@ -41,7 +41,7 @@ map_set_same f [] n d a h = refl
 map_set_same {B = B} f (x ∷ xs) zero d a h = ap (λ (y : B). y ∷ map f xs) h
 map_set_same {B = B} f (x ∷ xs) (suc n) d a h = ap (λ (ys : List B). f x ∷ ys) (map_set_same f xs n d a h)
 
-pub here_at : {A : Type 0} (xs : List A) (n : ℕ) (d : A) → n < length xs → slice_get xs n ≡ Some (get_or xs n d)
+here_at : {A : Type 0} (xs : List A) (n : ℕ) (d : A) → n < length xs → slice_get xs n ≡ Some (get_or xs n d)
 here_at [] n d lt = absurd (omega arith)
 here_at (x ∷ xs) zero d lt = refl
 here_at (x ∷ xs) (suc n) d lt = here_at xs n d (omega arith)
@@ -62,11 +62,9 @@ set_other (x ∷ xs) (suc n) (suc m) a b ne h = set_other xs n m a b (λ e. ne (
 -- the running job's step
 
 job_by : (x y : Row) (job : JobId) (o : Option Row) → o ≡ Some x → o ≡ Some y → y.job ≡ job → x.job ≡ job
-job_by x y job o a b j = let e : Some x ≡ Some y = sym a ∙ b in some_job x y e ∙ j where
-  some_job : (x y : Row) → Some x ≡ Some y → x.job ≡ y.job
-  some_job x y e = let same : x ≡ y = cc in ap (λ (q : Row). q.job) same
+job_by x y job o a b j = job_of_same x y (sym a ∙ b) ∙ j
 
-pub may_one : {Y : Type 0} (gives : Y → Body) (set : Set) (story : List Entry) (bodies : List Y) (job : JobId) (d : Y)
+may_one : {Y : Type 0} (gives : Y → Body) (set : Set) (story : List Entry) (bodies : List Y) (job : JobId) (d : Y)
     → running_of set story ≡ Some job → job.tx.0 < length bodies
     → ObeysAt (workload set (map gives bodies) []) story → MayAsk set story (gives (get_or bodies job.tx.0 d))
 may_one gives set story bodies job d run lt obeys = λ row runs.
@@ -75,11 +73,25 @@ may_one gives set story bodies job d run lt obeys = λ row runs.
     let body : body_of (map gives bodies) row.job.tx.0 ≡ gives (get_or bodies job.tx.0 d) = ap (λ (k : JobId). body_of (map gives bodies) k.tx.0) j ∙ mapped_at gives bodies job.tx.0 d (body_of [] 0) lt in
     ap (λ (f : Body). may_ask set row (f row.job.serial (outcomes_of story row.job))) (sym body) ∙ obeys row runs
 
-pub next_some : (w : Workload) (story : List Entry) (job : JobId) → running_of w.set story ≡ Some job
+next_some : (w : Workload) (story : List Entry) (job : JobId) → running_of w.set story ≡ Some job
     → next_event w story ≡ Some (ask job (op_asked w story job))
 next_some w story job run =
     let r = running_row w.set story job run in
     ap (event_for w story (state_of w.set story)) r.runs ∙ ap (λ (j : JobId). Some (ask j (op_asked w story j))) r.is
+
+-- the running job may ask, at its body's place
+pub can_ask : {Y : Type 0} {board : List Entry → Type 0} {stands : Y → ℕ → List Outcome → Type 0} (gives : Y → Body) {set : Set} {room first : ℕ} {kept story : List Entry} {bodies : List Y} {serials : List ℕ} {job : JobId} (d : Y)
+    → CanTurn board stands (workload set (map gives bodies) []) bodies serials story → IsStory set room first kept story → running_of set story ≡ Some job
+    → length bodies ≡ length set.txns → length serials ≡ length set.txns
+    → CanAsk board (stands (get_or bodies job.tx.0 d)) (gives (get_or bodies job.tx.0 d)) set job (get_or serials job.tx.0 0) story
+can_ask gives {set} {story = story} {bodies = bodies} {serials = serials} {job = job} d can is run a b =
+    let lt : job.tx.0 < length set.txns = job_in_set set story job is.compiled is.legal run in let within : job.tx.0 < length bodies = omega (arith, lt, a) in
+    record {
+      stands = can.stands;
+      running = run;
+      may = may_one gives set story bodies job d run within can.may;
+      follows = can.follows job.tx.0 (get_or bodies job.tx.0 d) (get_or serials job.tx.0 0) (here_at bodies job.tx.0 d within) (here_at serials job.tx.0 0 (omega (arith, lt, b)));
+    }
 
 -- the event is that of the body at the job's place
 pub next_body : {Y : Type 0} (gives : Y → Body) (set : Set) (story : List Entry) (bodies : List Y) (job : JobId) (d : Y)

@@ -1,7 +1,6 @@
 -- A run that is handed on: how it goes on, stops, and ends.
-use Rattle.std.proofs.Common.{◌≡◌, ℕ, ◌+◌, ◌-◌, ◌<◌, Bool, true, false, List, [], ◌∷◌, ◌++◌, length, take, drop, refl, ap, sym, ◌∙◌, subst, arith, append_assoc, length-append}
+use Rattle.std.proofs.Common.{◌≡◌, ℕ, ◌+◌, ◌-◌, ◌<◌, Bool, true, false, List, [], ◌∷◌, ◌++◌, length, refl, ap, sym, ◌∙◌, subst, arith, length-append}
 use Rattle.std.proofs.lemmas.List.{append-nil}
-use Rattle.std.proofs.Math.Seq.{take-append_seam, drop-append_seam}
 use Rattle.rt_base.specs.declared.operation.Outcome.{Outcome}
 use Rattle.txn_set.specs.Set.{Set, IsCompiled}
 use Rattle.step_journal.specs.declared.entry.Entry.{Entry}
@@ -14,7 +13,7 @@ use Rattle.sim_run.specs.Turns.{AreFollowing, IsUnderWay, IsTurned, CanTurn, Has
 use Rattle.sim_run.specs.Handed.{CanTake, IsHanded, IsCut}
 use Rattle.sim_run.specs.Runs.{IsWhole, IsStopped}
 use Rattle.sim_run.proofs.Runs.{goes_by, way_fits, ended}
-use Rattle.sim_run.proofs.Handing.{handed_more, handed_then, cut_more, take_less, take_rest, kept_after, kept_same}
+use Rattle.sim_run.proofs.Handing.{handed_more, handed_then, cut_more, cut_at, take_less, take_rest, kept_after, kept_same}
 use Rattle.sim_run.proofs.Exist.{stories_go_on}
 
 -- a run under way, of which the board keeps the last entries and the out got the others
@@ -45,27 +44,6 @@ can_turn set set' now then releases stands body got got' bodies serials kept es 
   follows = subst (λ (q : Set). AreFollowing body q a.story bodies serials) (sym es) a.follows;
 }
 
--- after a turn
-pub way_on : {Y : Type 0} (set set' set'' : Set) (now then : List Body) (releases : List (List ℕ))
-    (stands stands' : List Entry → Type 0) (body : Y → ℕ → List Outcome → Type 0) (got got' : List Entry → Type 0)
-    (bodies bodies' : List Y) (serials serials' : List ℕ) (room first room' first' : ℕ) (kept kept' : List Entry)
-    (result : Bool) → set' ≡ set → now ≡ then → result ≡ true → first' ≡ first
-    → (a : OnWay (workload set then releases) stands body got got' bodies serials kept)
-    → IsStory set' room first kept a.story
-    → (t : HasTurned stands' body (workload set' now []) bodies' serials' a.story result)
-    → IsStory set'' room' first' kept' t.after
-    → OnWay (workload set then releases) stands' body got got' bodies' serials' kept'
-way_on set set' set'' now then releases stands stands' body got got' bodies bodies' serials serials' room first room' first' kept kept' result es eb went same a is t is' =
-    let turned : IsTurned (workload set' now []) a.story true t.after = subst (λ (b : Bool). IsTurned (workload set' now []) a.story b t.after) went t.turned in
-    record {
-      story = t.after;
-      stood = t.stands;
-      under_way = goes_by (workload set then releases) set then now releases a.story t.after result refl eb went set' es t.turned a.under_way;
-      follows = subst (λ (q : Set). AreFollowing body q t.after bodies' serials') es t.follows;
-      handed = handed_more got got' a.story t.after kept kept' turned.2.0 turned.2.2
-          (kept_after set' set'' room room' first first' kept kept' a.story t.after turned.2.0 is is' same turned.2.2) a.handed;
-    }
-
 -- after entries were handed on
 pub way_handed : {Y : Type 0} (w : Workload) (stands stands' : List Entry → Type 0)
     (body : Y → ℕ → List Outcome → Type 0) (got got' got'' : List Entry → Type 0) (bodies : List Y) (serials : List ℕ)
@@ -79,12 +57,6 @@ way_handed w stands stands' body got got' got'' bodies serials kept kept' same a
   follows = a.follows;
   handed = handed_then got got' got'' a.story kept kept' a.handed h;
 }
-
-pub turn_long : (w : Workload) (story after : List Entry) (result : Bool) → result ≡ true → IsTurned w story result after
-    → length after ≡ length story + 1
-turn_long w story after result went turned =
-    let t : IsTurned w story true after = subst (λ (b : Bool). IsTurned w story b after) went turned in
-    ap (λ (l : List Entry). length l) t.2.2 ∙ length-append story (t.2.0 ∷ [])
 
 -- the room that a run may have is left
 pub nearer : (w : Workload) (set' : Set) (room first kept kept' first' : ℕ) (story after : List Entry)
@@ -105,26 +77,13 @@ way_good w set' got good got' good' story kept es ok legal obeys u can same h =
     take_rest got good got' good' story kept same h (take_less got good story r.rest r.history r.begins (can r.history r.sim))
 
 -- where the out stopped amid a run
-cut_history : (w : Workload) (got got' lost' : List Entry → Type 0) (history : List Entry) → IsSim w history
-    → IsCut got got' lost' history → IsStopped w got got' lost'
-cut_history w got got' lost' history sim k =
-    let first : take (length k.passed) history ≡ k.passed = ap (take (length k.passed)) (k.parts ∙ append_assoc k.passed k.piece k.left) ∙ take-append_seam k.passed (k.piece ++ k.left) in
-    let next : drop (length k.passed) history ≡ k.piece ++ k.left = ap (drop (length k.passed)) (k.parts ∙ append_assoc k.passed k.piece k.left) ∙ drop-append_seam k.passed (k.piece ++ k.left) in
-    record {
-      history = history;
-      sim = sim;
-      passed = length k.passed;
-      missed = length k.piece;
-      grown = λ story g. subst (λ (l : List Entry). got' (story ++ l)) (sym first) (k.grown story g);
-      is_lost = subst lost' (sym (ap (take (length k.piece)) next ∙ take-append_seam k.piece k.left)) k.is_lost;
-    }
-
 pub way_stopped : (w : Workload) (set' : Set) (got got' lost' : List Entry → Type 0) (story : List Entry)
     → set' ≡ w.set → IsCompiled set' → IsLegal set' story → IsObedient w → IsUnderWay w story
     → IsCut got got' lost' story → IsStopped w got got' lost'
 way_stopped w set' got got' lost' story es ok legal obeys u k =
     let r = stories_go_on w story (subst IsCompiled es ok) obeys (subst (λ (q : Set). IsLegal q story) es legal) u in
-    cut_history w got got' lost' r.history r.sim (cut_more got got' lost' story r.rest r.history r.begins k)
+    let c = cut_at r.history (cut_more got got' lost' story r.rest r.history r.begins k) in
+    record { history = r.history; sim = r.sim; passed = c.passed; missed = c.missed; grown = c.grown; is_lost = c.is_lost }
 
 -- a run of which all was handed on
 pub way_whole : (w : Workload) (stands got got' : List Entry → Type 0) (story : List Entry) → IsSim w story
@@ -145,22 +104,43 @@ pub record Ended (w : Workload) (stands got got' : List Entry → Type 0) (kept 
   pub stood : stands story
   pub handed : IsHanded got got' story kept
 
-pub way_ended : {Y : Type 0} (set set' set'' : Set) (now then : List Body) (releases : List (List ℕ))
-    (stands stands' : List Entry → Type 0) (body : Y → ℕ → List Outcome → Type 0) (got got' : List Entry → Type 0)
-    (bodies bodies' : List Y) (serials serials' : List ℕ) (room first room' first' : ℕ) (kept kept' : List Entry)
-    (result : Bool) → set' ≡ set → now ≡ then → result ≡ false → first' ≡ first
-    → (a : OnWay (workload set then releases) stands body got got' bodies serials kept)
-    → IsStory set' room first kept a.story
-    → (t : HasTurned stands' body (workload set' now []) bodies' serials' a.story result)
-    → IsStory set'' room' first' kept' t.after
-    → Ended (workload set then releases) stands' got got' kept'
-way_ended set set' set'' now then releases stands stands' body got got' bodies bodies' serials serials' room first room' first' kept kept' result es eb went same a is t is' =
-    let turned : IsTurned (workload set' now []) a.story false t.after = subst (λ (b : Bool). IsTurned (workload set' now []) a.story b t.after) went t.turned in
-    record {
-      story = t.after;
-      sim = ended set set' then now releases a.story t.after result es went is.legal t.turned a.under_way;
-      under_way = subst (IsUnderWay (workload set then releases)) (sym turned.0) a.under_way;
-      stood = t.stands;
-      handed = subst (λ (l : List Entry). IsHanded got got' l kept') (sym turned.0)
-          (subst (IsHanded got got' a.story) (sym (kept_same set' set'' room room' first first' kept kept' a.story is (subst (IsStory set'' room' first' kept') turned.0 is') same)) a.handed);
-    }
+-- after a turn
+module _ {Y : Type 0} {set set' set'' : Set} {now then : List Body} {releases : List (List ℕ)} {stands stands' : List Entry → Type 0}
+    {body : Y → ℕ → List Outcome → Type 0} {got got' : List Entry → Type 0} {bodies bodies' : List Y} {serials serials' : List ℕ}
+    {room first room' first' : ℕ} {kept kept' : List Entry} {result : Bool} (es : set' ≡ set) (eb : now ≡ then) (same : first' ≡ first)
+    (obeys : IsObedient (workload set then releases)) (a : OnWay (workload set then releases) stands body got got' bodies serials kept)
+    (stories : (story : List Entry) → stands story → IsStory set' room first kept story)
+    (stories' : (story : List Entry) → stands' story → IsStory set'' room' first' kept' story)
+    (turns : (story : List Entry) → CanTurn stands body (workload set' now []) bodies serials story
+    → HasTurned stands' body (workload set' now []) bodies' serials' story result) where
+  here : IsStory set' room first kept a.story
+  here = stories a.story a.stood
+
+  gone : HasTurned stands' body (workload set' now []) bodies' serials' a.story result
+  gone = turns a.story (can_turn set set' now then releases stands body got got' bodies serials kept es eb obeys a here.legal)
+
+  pub way_on : result ≡ true → (next : OnWay (workload set then releases) stands' body got got' bodies' serials' kept') × (length next.story ≡ length a.story + 1)
+  way_on went =
+      let turned : IsTurned (workload set' now []) a.story true gone.after = subst (λ (b : Bool). IsTurned (workload set' now []) a.story b gone.after) went gone.turned in (
+        record {
+          story = gone.after;
+          stood = gone.stands;
+          under_way = goes_by (workload set then releases) set then now releases a.story gone.after result refl eb went set' es gone.turned a.under_way;
+          follows = subst (λ (q : Set). AreFollowing body q gone.after bodies' serials') es gone.follows;
+          handed = handed_more got got' a.story gone.after kept kept' turned.2.0 turned.2.2
+              (kept_after set' set'' room room' first first' kept kept' a.story gone.after turned.2.0 here (stories' gone.after gone.stands) same turned.2.2) a.handed;
+        },
+        ap (λ (l : List Entry). length l) turned.2.2 ∙ length-append a.story (turned.2.0 ∷ []),
+      )
+
+  pub way_ended : result ≡ false → Ended (workload set then releases) stands' got got' kept'
+  way_ended went =
+      let turned : IsTurned (workload set' now []) a.story false gone.after = subst (λ (b : Bool). IsTurned (workload set' now []) a.story b gone.after) went gone.turned in
+      record {
+        story = gone.after;
+        sim = ended set set' then now releases a.story gone.after result es went here.legal gone.turned a.under_way;
+        under_way = subst (IsUnderWay (workload set then releases)) (sym turned.0) a.under_way;
+        stood = gone.stands;
+        handed = subst (λ (l : List Entry). IsHanded got got' l kept') (sym turned.0)
+            (subst (IsHanded got got' a.story) (sym (kept_same set' set'' room room' first first' kept kept' a.story here (subst (IsStory set'' room' first' kept') turned.0 (stories' gone.after gone.stands)) same)) a.handed);
+      }

@@ -8,22 +8,18 @@ use Rattle.item_model.specs.declared.stored.Stored.{Stored}
 use Rattle.txn_set.specs.declared.decl.TxnDecl.{TxnDecl}
 use Rattle.txn_set.specs.declared.decl.Ceilings.{Ceilings}
 use Rattle.txn_set.specs.Set.{Set}
+use Rattle.test_sets.specs.Plain.{plain_txn}
 use Rattle.step_journal.specs.State.{Row, new_row}
 use Rattle.step_journal.specs.Instant.{with_row}
 
 abbrev pub x : ItemId
 x = record { 0 = 0 }
 
--- a transaction with its deadline at its period, no offset and no quiet step
-abbrev pub plain_txn : (prio period : ℕ) → List ItemId → List ItemId → TxnDecl
-plain_txn prio period reads writes =
-    record { prio = prio; period = period; offset = 0; deadline = period; steps = 4; quiet = 0; reads = reads; writes = writes }
-
 abbrev pub trio_items : List ItemDecl
 trio_items = record { kind = State; initial = pos 7 } ∷ []
 
 abbrev pub trio_txns : List TxnDecl
-trio_txns = plain_txn 3 20 (x ∷ []) [] ∷ plain_txn 2 20 (x ∷ []) [] ∷ plain_txn 1 40 [] (x ∷ []) ∷ []
+trio_txns = plain_txn 3 20 4 (x ∷ []) [] ∷ plain_txn 2 20 4 (x ∷ []) [] ∷ plain_txn 1 40 4 [] (x ∷ []) ∷ []
 
 abbrev pub trio_ceilings : List Ceilings
 trio_ceilings = record { write = 1; absolute = 3 } ∷ []

@@ -1,56 +1,35 @@
 //! A sampler, a controller and a logger on an admitted core: whatever is planned, nobody is late; and what is read is young
-//! enough if the sampler is released exactly at its offset and each period after it.
+//! enough if the sampler is released exactly at tick 0 and each period after it.
 ghost use Rattle.std.specs.Prelude.{◌<◌};
 
 use admitted_core::AdmittedCore;
 use board::{Board, IdleReply, StepReply};
-use item_model::{ItemDecl, ItemKind};
-use rt_base::{End, ItemId, JobId, Op, Outcome, Prio, Tick, TxId};
+use rt_base::{End, ItemId, JobId, Op, Outcome, Tick, TxId};
 use set_admission::{AdmittedSet, admit};
 use std::alloc::Global;
 use std::test::Fail;
 use step_journal::Entry;
-use test_sets::{TxnRow, compiled};
+use test_sets::{Told, declared};
 
 const PERIODS: [Tick; 3] = [10, 20, 40];
 
-fn txn<'a>(
-    prio: Prio,
-    period: Tick,
-    steps: u64,
-    reads: &'a [u32],
-    writes: &'a [u32],
-) -> TxnRow<'a> {
-    TxnRow {
-        prio,
-        period,
-        steps,
-        quiet: 0,
-        reads,
-        writes,
-    }
-}
+const SET: &str = "rtdb report 1
+item temp sensor 20 0
+item valve state - 0
+txn sample 3 10 0 10 2 reads - writes temp
+txn control 2 20 0 20 4 reads temp writes valve
+txn logger 1 40 0 40 6 reads temp,valve writes -
+mode trial
+";
 
 fn base(alloc: Global) -> Result<AdmittedCore, Fail> {
-    let temp = ItemDecl {
-        kind: ItemKind::Sensor { validity: 20 },
-        initial: 0,
-    };
-    let valve = ItemDecl {
-        kind: ItemKind::State,
-        initial: 0,
-    };
-    let rows = [
-        txn(3, 10, 2, &[], &[0]),
-        txn(2, 20, 4, &[0], &[1]),
-        txn(1, 40, 6, &[0, 1], &[]),
-    ];
-    let Ok(Some(set)) = compiled(alloc, &[temp, valve], &rows, &[]) else {
+    let Some(told) = declared(alloc, SET) else {
         return Err("not compiled".into());
     };
-    let set = match admit(alloc, set) {
-        Ok(set) => set,
-        Err(_) => return Err("not admitted".into()),
+    let Told { names, set } = told;
+    drop(names);
+    let Ok(set) = admit(alloc, set) else {
+        return Err("not admitted".into());
     };
     match AdmittedCore::new(alloc, set, 4096) {
         Ok(core) => Ok(core),

@@ -1,42 +1,13 @@
 //! Two readers and a writer of one state item.
 ghost use Rattle.std.specs.Prelude.{◌≡◌, ◌++◌, [], ◌∷◌, IfOk};
-ghost use Rattle.table_tests.specs.Trio.{trio as trio_of, trio_items, trio_txns, trio_ceilings, plain_txn};
+ghost use Rattle.table_tests.specs.Trio.{trio as trio_of, trio_items, trio_txns, trio_ceilings};
+ghost use Rattle.test_sets.specs.Plain.{plain_txn as plain_of};
 
 use item_model::{ItemDecl, ItemKind};
-use rt_base::{ItemId, List, OutOfMemory, Prio, Tick};
+use rt_base::{ItemId, OutOfMemory, Prio, Tick};
 use std::alloc::Global;
+use test_sets::{list, plain_txn};
 use txn_set::{Ceilings, CompiledSet, TxnDecl};
-
-fn ids(alloc: Global, items: &[ItemId]) -> Result<List<ItemId>, OutOfMemory>
-    ensures { IfOk result (λ l. l ≡ items.now) }
-{
-    let mut list = Vec::new(alloc);
-    list.extend_from_slice(items)?;
-    Ok(List::of(list))
-}
-
-fn txn(
-    alloc: Global,
-    prio: Prio,
-    period: Tick,
-    reads: &[ItemId],
-    writes: &[ItemId],
-) -> Result<TxnDecl, OutOfMemory>
-    ensures { IfOk result (λ t. t ≡ plain_txn prio period reads.now writes.now) }
-{
-    let reads = ids(alloc, reads)?;
-    let writes = ids(alloc, writes)?;
-    Ok(TxnDecl {
-        prio,
-        period,
-        offset: 0,
-        deadline: period,
-        steps: 4,
-        quiet: 0,
-        reads,
-        writes,
-    })
-}
 
 fn items(alloc: Global) -> Result<Vec<ItemDecl>, OutOfMemory>
     ensures { IfOk result (λ v. v.items ≡ trio_items) }
@@ -58,10 +29,12 @@ fn with_txn(
     reads: &[ItemId],
     writes: &[ItemId],
 ) -> Result<Vec<TxnDecl>, OutOfMemory>
-    ensures { IfOk result (λ v. v.items ≡ txns.items ++ plain_txn prio period reads.now writes.now ∷ []) }
+    ensures { IfOk result (λ v. v.items ≡ txns.items ++ plain_of prio period 4 reads.now writes.now ∷ []) }
 {
+    let reads = list(alloc, reads)?;
+    let writes = list(alloc, writes)?;
     let mut txns = txns;
-    txns.push(txn(alloc, prio, period, reads, writes)?)?;
+    txns.push(plain_txn(prio, period, 4, reads, writes))?;
     Ok(txns)
 }
 

@@ -1,16 +1,19 @@
-//! What tests have in common: sets of rows, of the head of a report, and generated ones; and calls of a board as values.
+//! What tests have in common: sets of the head of a report, and generated ones; transactions of a few numbers; calls of a board as
+//! values; and an out that stops.
 #![tactic(auto)]
 
 mod calls;
+mod few;
 mod generating;
 mod looks;
+mod plain;
 mod range;
-mod rows;
 mod told;
 
 pub use calls::{Call, Said, call_of, make};
+pub use few::FewEntries;
 pub use generating::generated;
-pub use looks::look;
+pub use looks::write_look;
+pub use plain::{from_tick, list, plain_txn};
 pub use range::{are_in_range, compile_in_range};
-pub use rows::{STATE, TogetherRow, TxnRow, compiled, item, judged, sensor, txn, txns_of};
 pub use told::{Told, declared, entry_of};

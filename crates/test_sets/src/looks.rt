@@ -1,51 +1,44 @@
 //! What a board tells, as text.
 use board::Board;
 use rt_base::{ItemId, TxId};
-use std::alloc::Global;
+use std::alloc::AllocError;
 
-// The pending job of a transaction, and how many of its jobs ended.
-fn job<B: Board>(alloc: Global, board: &B, tx: u32) -> Option<String> {
+// Writes the pending job of a transaction, and how many of its jobs ended.
+fn write_job<B: Board>(text: &mut String, board: &B, tx: u32) -> Result<(), AllocError> {
     if (tx as usize) >= board.set().txns().len() {
-        return None;
+        return Ok(());
     }
     let (pending, ended) = (board.pending(TxId(tx)), board.ended(TxId(tx)));
-    format!(in alloc; ", {tx} has {pending:?} after {ended}").ok()
+    write!(text, ", {tx} has {pending:?} after {ended}")
 }
 
-// The value and the stamp of an item.
-fn item<B: Board>(alloc: Global, board: &B, item: u32) -> Option<String> {
+// Writes the value and the stamp of an item.
+fn write_item<B: Board>(text: &mut String, board: &B, item: u32) -> Result<(), AllocError> {
     if (item as usize) >= board.set().items().len() {
-        return None;
+        return Ok(());
     }
     let (value, stamp) = board.peek(ItemId(item));
-    format!(in alloc; ", {item} is {value} of {stamp}").ok()
+    write!(text, ", {item} is {value} of {stamp}")
 }
 
-// Where a board is, and what it keeps.
-fn place<B: Board>(alloc: Global, board: &B) -> Option<String> {
+// Writes where a board is, and what it keeps.
+fn write_place<B: Board>(text: &mut String, board: &B) -> Result<(), AllocError> {
     let (now, running, planned) = (board.now(), board.running(), board.planned());
-    let mut text = format!(in alloc; "at {now} runs {running:?}, {planned} planned").ok()?;
+    write!(text, "at {now} runs {running:?}, {planned} planned")?;
     let (first, count) = (board.first(), board.count());
-    let more = format!(in alloc; ", entries {first} to {count}").ok()?;
-    text.push_str(more.as_str()).ok()?;
+    write!(text, ", entries {first} to {count}")?;
     let (room, entries) = (board.room(), board.entries().len());
-    let more = format!(in alloc; ", {entries} in {room}").ok()?;
-    text.push_str(more.as_str()).ok()?;
-    Some(text)
+    write!(text, ", {entries} in {room}")
 }
 
-/// What the accessors of a board answer. None where memory ran out.
-pub fn look<B: Board>(alloc: Global, board: &B) -> Option<String> {
-    let mut text = place(alloc, board)?;
+/// Writes what the accessors of a board answer. Err where memory ran out.
+pub fn write_look<B: Board>(text: &mut String, board: &B) -> Result<(), AllocError> {
+    write_place(text, board)?;
     for tx in 0..64 {
-        if let Some(more) = job(alloc, board, tx) {
-            text.push_str(more.as_str()).ok()?;
-        }
+        write_job(text, board, tx)?;
     }
-    for i in 0..256 {
-        if let Some(more) = item(alloc, board, i) {
-            text.push_str(more.as_str()).ok()?;
-        }
+    for item in 0..256 {
+        write_item(text, board, item)?;
     }
-    Some(text)
+    Ok(())
 }

@@ -29,38 +29,79 @@ fn numbered(alloc: Global, word: &str, place: usize) -> Option<Name> {
     Name::new(name.as_bytes())
 }
 
-// The names with further ones, up to so many: the word and the place of each.
-fn padded(alloc: Global, names: &[Name], word: &str, count: usize) -> Option<NameTable> {
-    let mut all = NameTable::new(alloc);
+// Puts these names into a table, and further ones up to so many: the word and the place of each.
+fn add_all(
+    alloc: Global,
+    all: &mut NameTable,
+    names: &[Name],
+    word: &str,
+    count: usize,
+) -> Option<()> {
     for name in names {
-        add(alloc, &mut all, name)?;
+        add(alloc, all, name)?;
     }
     for place in names.len()..count {
-        add(alloc, &mut all, &numbered(alloc, word, place)?)?;
+        add(alloc, all, &numbered(alloc, word, place)?)?;
     }
-    Some(all)
+    Some(())
+}
+
+// A table of these names and of further ones.
+fn padded(alloc: Global, names: &[Name], word: &str, count: usize) -> Option<NameTable> {
+    let mut all = NameTable::new(alloc);
+    match add_all(alloc, &mut all, names, word, count) {
+        Some(()) => Some(all),
+        None => {
+            drop(all);
+            None
+        }
+    }
 }
 
 // The names that are declared, and further ones.
 fn all_names(alloc: Global, declared: &NameTables) -> Option<NameTables> {
     let names = declared.names();
     let items = padded(alloc, names.items.as_slice(), "item", 901)?;
-    let txns = padded(alloc, names.txns.as_slice(), "txn", 10)?;
-    Some(NameTables::of(items, txns))
+    match padded(alloc, names.txns.as_slice(), "txn", 10) {
+        Some(txns) => Some(NameTables::of(items, txns)),
+        None => {
+            drop(items);
+            None
+        }
+    }
 }
 
 // The set that declarations are. None where it is refused.
 fn compiled(alloc: Global, head: Head) -> Option<CompiledSet> {
-    let (items, txns) = (head.items.into_vec(), head.txns.into_vec());
-    compile_in_range(alloc, items, txns, head.together.into_vec())?.ok()
+    let Head {
+        names,
+        items,
+        txns,
+        together,
+        admitted: _,
+        lines: _,
+    } = head;
+    drop(names);
+    let (items, txns) = (items.into_vec(), txns.into_vec());
+    match compile_in_range(alloc, items, txns, together.into_vec()) {
+        Some(Ok(set)) => Some(set),
+        _ => None,
+    }
 }
 
 // The set and the names of a head.
 fn told_of(alloc: Global, head: Head) -> Option<Told> {
     let names = all_names(alloc, &head.names);
-    match (names, compiled(alloc, head)) {
-        (Some(names), Some(set)) => Some(Told { names, set }),
-        _ => None,
+    let Some(set) = compiled(alloc, head) else {
+        drop(names);
+        return None;
+    };
+    match names {
+        Some(names) => Some(Told { names, set }),
+        None => {
+            drop(set);
+            None
+        }
     }
 }
 

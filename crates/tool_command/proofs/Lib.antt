@@ -2,7 +2,6 @@ pub mod Lines
 pub mod Enters
 pub mod Words
 pub mod Texts
-pub mod Replying
 pub mod Assigning
 pub mod Due
 pub mod Statuses

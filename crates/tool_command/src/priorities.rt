@@ -7,12 +7,10 @@ ghost use Rattle.law_times.specs.Laws.{IsSolved, NoneKeeps};
 ghost use Rattle.txn_priorities.specs.Limits.{limit};
 ghost use Rattle.txn_priorities.specs.Answers.{IsRefusal};
 ghost use Rattle.report_text.specs.Texts.{NamesSet};
-ghost use Rattle.tool_command.specs.Priorities.{Admission, GivenReply, Sticks, PriorityReply};
+ghost use Rattle.tool_command.specs.Priorities.{Admission, Assigning, GivenReply, Sticks, PriorityReply};
 
 use crate::priority_lines::{level_cause, prio_text, put_unplaced};
-use command_replies::{
-    Reply, admitted, compiled, refused, refused_admission, refused_set, written,
-};
+use command_replies::{Reply, admitted, compiled_scenario, refused, refused_admission, written};
 use io_edge::Status;
 use rt_base::{Names, OutOfMemory, Prio, Steps};
 use run_report::admit_text;
@@ -91,28 +89,28 @@ fn stuck(
     Ok(reply)
 }
 
+// The priorities of a set that compiles, or the level at which none passes.
+fn answer(alloc: Global, names: &Names, set: &CompiledSet) -> Result<Reply, OutOfMemory>
+    requires { NamesSet names.now set.now }
+    ensures { IfOk result (λ r. Assigning names.now set.now r.status r.text.items) }
+{
+    match assigned::<Brand>(alloc, set, Blank::new(1))? {
+        Ok(prios) => given(alloc, names, set, &prios),
+        Err(refusal) => stuck(alloc, names, set, &refusal),
+    }
+}
+
 /// The reply of `priorities` to a scenario. Beside the pass it compiles twice and admits once.
 pub fn priorities(alloc: Global, scenario: Scenario) -> Result<Reply, OutOfMemory>
     requires { IsScenario (shown scenario) }
     ensures { IfOk result (λ r. PriorityReply (shown scenario) r.status r.text.items) }
 {
-    let Scenario {
-        names,
-        items,
-        txns,
-        together,
-        scripts,
-        releases,
-        room: _,
-    } = scenario;
-    drop(scripts);
-    drop(releases);
-    let set = match compiled(alloc, items, txns, together)? {
-        Ok(set) => set,
-        Err(error) => return refused_set(alloc, &names, error),
-    };
-    match assigned::<Brand>(alloc, &set, Blank::new(1))? {
-        Ok(prios) => given(alloc, &names, &set, &prios),
-        Err(refusal) => stuck(alloc, &names, &set, &refusal),
+    match compiled_scenario(alloc, scenario)? {
+        Ok(accepted) => {
+            let reply = answer(alloc, &accepted.names, &accepted.set);
+            drop(accepted);
+            reply
+        }
+        Err(reply) => Ok(reply),
     }
 }

@@ -2,7 +2,7 @@
 ghost use Rattle.std.specs.Prelude.{◌≡◌, ◌≤◌, ◌++◌, length, IfOk, OnOk};
 ghost use Rattle.tool_command.specs.Priorities.{prio_line, prio_lines, level_cause as cause_of, unplaced_line, unplaced_lines};
 
-use refusal_lines::{put_number, put_txn};
+use refusal_lines::{put_number, put_of_txn};
 use rt_base::{Names, OutOfMemory, Prio, TxId};
 use std::alloc::Global;
 use txn_priorities::Unplaced;
@@ -10,8 +10,7 @@ use txn_priorities::Unplaced;
 fn put_prio(out: &mut Vec<u8>, names: &Names, tx: TxId, prio: Prio) -> Result<(), OutOfMemory>
     ensures { OnOk result (out.new.items ≡ out.old.items ++ prio_line names.now tx.0 prio) }
 {
-    out.extend_from_slice(b"prio")?;
-    put_txn(out, names, tx)?;
+    put_of_txn(out, names, b"prio", tx)?;
     put_number(out, u64::from(prio))?;
     out.extend_from_slice(b"\n")?;
     Ok(())
@@ -32,8 +31,7 @@ pub fn prio_text(alloc: Global, names: &Names, prios: &[Prio]) -> Result<Vec<u8>
 fn put_unplaced_row(out: &mut Vec<u8>, names: &Names, row: Unplaced) -> Result<(), OutOfMemory>
     ensures { OnOk result (out.new.items ≡ out.old.items ++ unplaced_line names.now row) }
 {
-    out.extend_from_slice(b"unplaced")?;
-    put_txn(out, names, row.tx)?;
+    put_of_txn(out, names, b"unplaced", row.tx)?;
     put_number(out, row.limit)?;
     put_number(out, row.demand)?;
     out.extend_from_slice(b"\n")?;

@@ -1,27 +1,14 @@
 //! The lines of slacks and spares.
 ghost use Rattle.std.specs.Prelude.{◌≡◌, ◌<◌, ◌++◌, length, IfOk, OnOk};
-ghost use Rattle.refusal_lines.specs.Causes.{item as item_word};
 ghost use Rattle.scale_margin.specs.Spares.{spare_of};
 ghost use Rattle.tool_command.specs.Slacks.{barrier_line, barrier_text, slack_at, slack_line, slack_lines as lines_of_slack, slack_text as text_of, slacks_of, spare_line, spares_of};
 
-use refusal_lines::{put_admit_cause, put_number, put_txn};
+use refusal_lines::{put_admit_cause, put_number, put_of_item, put_of_txn};
 use rt_base::{ItemId, Names, OutOfMemory, Steps, TxId};
 use scale_margin::{Slack, Spare, slack, spare};
 use set_admission::{AdmitError, AdmittedSet};
 use std::alloc::Global;
 use std::sync::ledger::Ledger;
-
-fn put_item(out: &mut Vec<u8>, names: &Names, item: ItemId) -> Result<(), OutOfMemory>
-    ensures { OnOk result (out.new.items ≡ out.old.items ++ item_word names.now item) }
-{
-    out.extend_from_slice(b" ")?;
-    let names = names.items.as_slice();
-    let at = item.0 as usize;
-    if at < names.len() {
-        out.extend_from_slice(names[at].as_slice())?;
-    }
-    Ok(())
-}
 
 fn put_barrier(
     out: &mut Vec<u8>,
@@ -47,8 +34,7 @@ fn put_slack_line(
 ) -> Result<(), OutOfMemory>
     ensures { OnOk result (out.new.items ≡ out.old.items ++ slack_line names.now tx.0 slack) }
 {
-    out.extend_from_slice(b"slack")?;
-    put_txn(out, names, tx)?;
+    put_of_txn(out, names, b"slack", tx)?;
     put_number(out, slack.steps)?;
     put_number(out, slack.most)?;
     out.extend_from_slice(b"\n")?;
@@ -63,8 +49,7 @@ fn put_barrier_line(
 ) -> Result<(), OutOfMemory>
     ensures { OnOk result (out.new.items ≡ out.old.items ++ barrier_line names.now tx.0 slack) }
 {
-    out.extend_from_slice(b"barrier")?;
-    put_txn(out, names, tx)?;
+    put_of_txn(out, names, b"barrier", tx)?;
     out.extend_from_slice(b" ")?;
     put_barrier(out, names, slack.barrier)?;
     out.extend_from_slice(b"\n")?;
@@ -80,8 +65,7 @@ fn put_spare(
     ensures { OnOk result (out.new.items ≡ out.old.items ++ spare_line names.now item.0 spare) }
 {
     if let Some(spare) = spare {
-        out.extend_from_slice(b"spare")?;
-        put_item(out, names, item)?;
+        put_of_item(out, names, b"spare", item)?;
         put_number(out, spare.validity)?;
         put_number(out, spare.age)?;
         out.extend_from_slice(b"\n")?;

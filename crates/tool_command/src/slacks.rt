@@ -5,7 +5,7 @@ ghost use Rattle.step_script.specs.Scenarios.{IsScenario};
 ghost use Rattle.tool_command.specs.Slacks.{slack_text as text_of, SlackReply};
 
 use crate::slack_lines::slack_text;
-use command_replies::{Reply, admitted, compiled, refused_admission, refused_set, written};
+use command_replies::{Reply, admitted_scenario, written};
 use rt_base::{Names, OutOfMemory, Steps};
 use set_admission::AdmittedSet;
 use std::alloc::Global;
@@ -34,27 +34,12 @@ pub fn slacks(alloc: Global, scenario: Scenario) -> Result<Reply, OutOfMemory>
     requires { IsScenario (shown scenario) }
     ensures { IfOk result (λ r. SlackReply (shown scenario) r.status r.text.items) }
 {
-    let Scenario {
-        names,
-        items,
-        txns,
-        together,
-        scripts,
-        releases,
-        room: _,
-    } = scenario;
-    drop(scripts);
-    drop(releases);
-    let set = match compiled(alloc, items, txns, together)? {
-        Ok(set) => set,
-        Err(error) => return refused_set(alloc, &names, error),
-    };
-    match admitted(alloc, set)? {
-        Ok(set) => {
-            let text = text::<Brand>(alloc, &names, &set, Blank::new(1));
-            drop(set);
+    match admitted_scenario(alloc, scenario)? {
+        Ok(accepted) => {
+            let text = text::<Brand>(alloc, &accepted.names, &accepted.set, Blank::new(1));
+            drop(accepted);
             Ok(written(text?))
         }
-        Err(error) => refused_admission(alloc, &names, error),
+        Err(reply) => Ok(reply),
     }
 }

@@ -3,7 +3,7 @@ use Rattle.std.proofs.Common.{◌≡◌, ℕ, ◌+◌, ◌≤◌, Bool, List, []
 use Rattle.rt_base.specs.declared.ids.TxId.{TxId}
 use Rattle.txn_set.specs.Set.{Set}
 use Rattle.step_journal.specs.declared.entry.Entry.{Entry}
-use Rattle.step_journal.specs.declared.entry.Entry.TheVariants.{Planned, Step, Blocked, Idle}
+use Rattle.step_journal.specs.declared.entry.Entry.TheVariants.{Planned}
 use Rattle.turn_cell.specs.Turn.{Begins}
 use Rattle.turn_cell.proofs.Lists.{chained}
 use Rattle.txn_threads.specs.Plans.{plan_number, plans_in, IsPlanned, ArePlanned}
@@ -23,9 +23,7 @@ planned_later set seen more tx eager jobs n place (Planned by tick) b p = record
   tick_is = p.tick_is;
   ended = p.ended;
 }
-planned_later set seen more tx eager jobs n place (Step job op outcome over tick) b p = tt
-planned_later set seen more tx eager jobs n place (Blocked job op by ceiling tick) b p = tt
-planned_later set seen more tx eager jobs n place (Idle from to) b p = tt
+planned_later set seen more tx eager jobs n place other b p = tt
 
 -- plans of a history are plans of a longer one
 pub are_planned_later : (set : Set) (seen more : List Entry) (tx : TxId) (eager : Bool) (jobs n : ℕ) (xs : List (ℕ × Entry)) → Begins seen more → ArePlanned set seen tx eager jobs n xs → ArePlanned set more tx eager jobs n xs
@@ -40,9 +38,7 @@ are_planned_append set seen tx eager jobs n (x ∷ xs) ys a b =
 
 one_few : (set : Set) (seen : List Entry) (tx : TxId) (eager : Bool) (jobs n place : ℕ) (e : Entry) → n ≤ jobs → IsPlanned set seen tx eager jobs n place e → n + plan_number e ≤ jobs
 one_few set seen tx eager jobs n place (Planned by tick) le p = let l = p.left in omega arith
-one_few set seen tx eager jobs n place (Step job op outcome over tick) le p = omega arith
-one_few set seen tx eager jobs n place (Blocked job op by ceiling tick) le p = omega arith
-one_few set seen tx eager jobs n place (Idle from to) le p = omega arith
+one_few set seen tx eager jobs n place other le p = omega arith
 
 -- they are at most as many as the member is to have
 pub few_plans : (set : Set) (seen : List Entry) (tx : TxId) (eager : Bool) (jobs n : ℕ) (xs : List (ℕ × Entry)) → n ≤ jobs → ArePlanned set seen tx eager jobs n xs → n + plans_in xs ≤ jobs

@@ -1,7 +1,8 @@
 -- Tries of members, and rounds.
-use Rattle.std.proofs.Common.{◌≡◌, ℕ, ◌+◌, ◌-◌, ◌<◌, ◌≤◌, le_refl, length-append, List, [], ◌∷◌, ◌++◌, Option, Some, None, length, All, Bool, slice_index_or, slice_set, refl, sym, ap, subst, ◌∙◌, arith, append_assoc, append-nil}
+use Rattle.std.proofs.Common.{◌≡◌, ℕ, ◌+◌, ◌-◌, ◌<◌, ◌≤◌, le_refl, length-append, List, [], ◌∷◌, ◌++◌, Option, Some, None, Result, Ok, Err, IsErr, IsErrAnd, Vec, Global, vec_len, length, All, Bool, slice_index_or, slice_set, refl, sym, ap, subst, ◌∙◌, arith, rules, append_assoc, append-nil}
 use Rattle.std.proofs.lemmas.List.{length-set, get_or-set_same, get_or-set_other, get_or_default}
 use Rattle.std.proofs.lemmas.Option.{slice_get-get_or}
+use Rattle.std.proofs.lemmas.Result.{IfErr-weaker, err_from_is_err_and}
 use mathlib.Core.Logic.{dite}
 use native.Mathlib.Decide.{ℕ_discrete}
 use Rattle.rt_base.specs.declared.ids.TxId.{TxId}
@@ -18,13 +19,14 @@ use Rattle.shared_plant.specs.Seats.{PlantFacts, SeatFacts, IsOf}
 use Rattle.shared_plant.specs.Answers.{missed_once, with_own, turned, Answered}
 use Rattle.txn_threads.specs.declared.member.Halt.{Halt}
 use Rattle.txn_threads.specs.declared.member.Member.{Member}
-use Rattle.txn_threads.specs.declared.round.Came.{Came}
-use Rattle.txn_threads.specs.declared.round.Came.TheVariants as came
+use Rattle.txn_threads.specs.declared.member.Worker.{Worker}
+use Rattle.txn_threads.specs.declared.tries.TryOutcome.{TryOutcome}
+use Rattle.txn_threads.specs.declared.tries.TryOutcome.TheVariants.{NoJob}
 use Rattle.txn_threads.specs.Scripts.{job_of, own_outcomes, AreAsked}
 use Rattle.txn_threads.specs.Plans.{plans_in, ArePlanned}
 use Rattle.txn_threads.specs.Rising.{AreRising}
 use Rattle.txn_threads.specs.Tasks.{Tied}
-use Rattle.txn_threads.specs.Rounds.{Each, Sits, Ran, IsRefusal, IsRefused, Met, MetIn, IfStop}
+use Rattle.txn_threads.specs.Rounds.{Each, Sits, Ran, HasTried, MembersSit, HaveTried, WorkerRan, IsRefusal, IsRefused, Met, MetIn}
 use Rattle.txn_threads.proofs.Counting.{ended_grow}
 use Rattle.txn_threads.proofs.Scripting.{asked_append}
 use Rattle.txn_threads.proofs.Rises.{rising_append}
@@ -166,29 +168,8 @@ module _ {B Y : Type 0} (gives : Y → ℕ → List Outcome → Op) (stands : Y 
       → ((tx : TxId) → m.seat.tx ≡ Some tx → Tied gives stands tx m.seat.mine n.task)
       → Ran gives stands p m n
   ran_busy p m n sits after jobs eager same planned ended tied =
-      let plant : n.seat.plant ≡ m.seat.plant = ap (λ (s : SeatFacts). s.plant) after in
-      let tx_is : n.seat.tx ≡ m.seat.tx = ap (λ (s : SeatFacts). s.tx) after in
-      let seen : n.seat.seen ≡ m.seat.seen = ap (λ (s : SeatFacts). s.seen) after in
-      let mine : n.seat.mine ≡ m.seat.mine = ap (λ (s : SeatFacts). s.mine) after in record {
-        plant = plant;
-        tx = tx_is;
-        jobs = jobs;
-        eager = eager;
-        gives_is = same;
-        seen = subst (Begins m.seat.seen) (sym seen) (whole m.seat.seen);
-        added = [];
-        mine = mine ∙ sym (append-nil m.seat.mine);
-        rising = subst (λ (l : List Entry). length m.seat.seen ≤ length l) (sym seen) (le_refl (length m.seat.seen));
-        asked = λ tx is. tt;
-        plans = λ tx is. tt;
-        planned = omega (arith, planned);
-        sits = record {
-          of = of_same p m.seat n.seat plant tx_is sits.of;
-          has = (sits.has.0, tx_is ∙ sits.has.1);
-          tied = λ tx is. subst (λ (l : List (ℕ × Entry)). Tied gives stands tx l n.task) (sym mine) (tied tx (sym tx_is ∙ is));
-          knows = λ tx is. subst (λ (l : List Entry). n.ended ≤ ended_of p.set l tx.0) (sym seen) (subst (λ (k : ℕ). k ≤ ended_of p.set m.seat.seen tx.0) (sym ended) (sits.knows tx (sym tx_is ∙ is)));
-        };
-      }
+      ran_by p m n m.seat.seen None sits (ap (λ (s : SeatFacts). s.plant) after) (ap (λ (s : SeatFacts). s.tx) after) (ap (λ (s : SeatFacts). s.seen) after) (ap (λ (s : SeatFacts). s.mine) after) (whole m.seat.seen) jobs eager same
+      (λ tx e. tt) (λ tx e. tt) (omega (arith, planned)) tied (λ tx e. subst (λ (k : ℕ). k ≤ ended_of p.set m.seat.seen tx.0) (sym ended) (sits.knows tx e))
 
   -- what was known to have ended before a try
   pub knew : (p : PlantFacts) (m : Member B Y) (tx : TxId) (story : List Entry) (own : Option Entry) → Sits gives stands p m → m.seat.tx ≡ Some tx → Begins m.seat.seen story → m.ended ≤ ended_of p.set (noted story own) tx.0
@@ -211,14 +192,9 @@ module _ {B Y : Type 0} (gives : Y → ℕ → List Outcome → Op) (stands : Y 
   all_step p = each_step (Ran gives stands p) (ran_trans gives stands p)
 
 pub refusal_none : (r : StepReply) (now : ℕ) (job : JobId) (op : Op) → IsRefusal r → step_entry now job op r ≡ None
-refusal_none (reply.NoJob ended last) now job op h = refl
-refusal_none (reply.NotYet running) now job op h = refl
-refusal_none (reply.Undeclared item) now job op h = refl
-refusal_none (reply.TooEarly left) now job op h = refl
-refusal_none (reply.Unwritten item) now job op h = refl
-refusal_none (reply.Full room) now job op h = refl
 refusal_none (reply.Blocked by ceiling) now job op h = absurd h
 refusal_none (reply.Done outcome over) now job op h = absurd h
+refusal_none other now job op h = refl
 
 module _ {B Y : Type 0} (gives : Y → ℕ → List Outcome → Op) where
   -- the refusal of a step is the board's answer at all that the seat has then seen
@@ -242,42 +218,62 @@ module _ {B Y : Type 0} (gives : Y → ℕ → List Outcome → Op) where
 pub none_some_halt : (h : Halt) → None ≡ Some h → ⊥
 none_some_halt h e = cc
 
-abbrev the_halt : Halt → Option Halt → Halt
-the_halt other None = other
-the_halt other (Some h) = h
+-- tries of a member
 
--- the stop that is kept after a try
-pub stop_of_came : (c : Came) (kept : Option Halt) (P : Halt → Type 0) → IfStop c kept P → (h : Halt) → kept ≡ Some h → P h
-stop_of_came came.NoJob kept P s h is = absurd (none_some_halt h (sym s ∙ is))
-stop_of_came (came.NotYet tx) kept P s h is = absurd (none_some_halt h (sym s ∙ is))
-stop_of_came (came.Waits tx) kept P s h is = absurd (none_some_halt h (sym s ∙ is))
-stop_of_came came.Went kept P s h is = absurd (none_some_halt h (sym s ∙ is))
-stop_of_came came.Ended kept P s h is = absurd (none_some_halt h (sym s ∙ is))
-stop_of_came came.Idled kept P s h is = absurd (none_some_halt h (sym s ∙ is))
-stop_of_came came.Full kept P s h is = absurd (none_some_halt h (sym s ∙ is))
-stop_of_came came.Stop kept P s h is = subst P (ap (the_halt h) (sym s.1 ∙ is)) s.2
+module _ {B Y : Type 0} {gives : Y → ℕ → List Outcome → Op} {stands : Y → ℕ → List Outcome → Type 0} {p : PlantFacts} where
+  pub tried_ran : {m n : Member B Y} (o : TryOutcome) → Ran gives stands p m n → HasTried gives stands p m (Ok o) n
+  tried_ran o ran = record { ran = ran; met = tt }
 
-pub if_stop : (c : Came) (kept : Option Halt) (P Q : Halt → Type 0) → ((h : Halt) → P h → Q h) → IfStop c kept P → IfStop c kept Q
-if_stop came.NoJob kept P Q f s = s
-if_stop (came.NotYet tx) kept P Q f s = s
-if_stop (came.Waits tx) kept P Q f s = s
-if_stop came.Went kept P Q f s = s
-if_stop came.Ended kept P Q f s = s
-if_stop came.Idled kept P Q f s = s
-if_stop came.Full kept P Q f s = s
-if_stop came.Stop kept P Q f s = (s.0, s.1, f s.0 s.2)
+  -- where a `?` gives a stop on
+  pub tried_err : {m n : Member B Y} {r : Result TryOutcome Halt} {h : Halt} (s : Result TryOutcome Halt) → HasTried gives stands p m r n → r ≡ Err h → IsErr s × IsErrAnd s (λ x. x ≡ h) → HasTried gives stands p m s n
+  tried_err {m} {n} s k is e = let x = err_from_is_err_and s e.1 in subst (λ (r : Result TryOutcome Halt). HasTried gives stands p m r n) (is ∙ sym (x.1 ∙ ap Err x.2)) k
 
--- a try that meets no stop, where none is kept
-pub no_stop : (c : Came) (kept : Option Halt) (Q : Halt → Type 0) → kept ≡ None → IfStop c None (λ h. ⊥) → IfStop c kept Q
-no_stop c kept Q none s = subst (λ (k : Option Halt). IfStop c k Q) (sym none) (if_stop c None (λ h. ⊥) Q (λ h k. absurd k) s)
+  pub tried_on : {a b c : Member B Y} {r : Result TryOutcome Halt} → Ran gives stands p a b → HasTried gives stands p b r c → HasTried gives stands p a r c
+  tried_on {a} {b} {c} x y = record { ran = ran_trans gives stands p a b c x y.ran; met = y.met }
 
--- where it met no stop none is kept
-pub none_kept : (c : Came) (kept : Option Halt) (P : Halt → Type 0) → IfStop c kept P → (c ≡ came.Stop → ⊥) → kept ≡ None
-none_kept came.NoJob kept P s never = s
-none_kept (came.NotYet tx) kept P s never = s
-none_kept (came.Waits tx) kept P s never = s
-none_kept came.Went kept P s never = s
-none_kept came.Ended kept P s never = s
-none_kept came.Idled kept P s never = s
-none_kept came.Full kept P s never = s
-none_kept came.Stop kept P s never = absurd (never refl)
+  -- tries of a worker's members
+
+  pub sit_at : (ms : List (Member B Y)) {m : Member B Y} (i : ℕ) → All (Sits gives stands p) ms → i < length ms → m ≡ slice_index_or ms i m → Sits gives stands p m
+  sit_at ms {m} i all less is = at_place (Sits gives stands p) ms i m all less is
+
+  pub tries_err : {w u : Worker B Y} {r : Result TryOutcome Halt} {h : Halt} (s : Result TryOutcome Halt) → HaveTried gives stands p w r u → r ≡ Err h → IsErr s × IsErrAnd s (λ x. x ≡ h) → HaveTried gives stands p w s u
+  tries_err {w} {u} s k is e = let x = err_from_is_err_and s e.1 in subst (λ (r : Result TryOutcome Halt). HaveTried gives stands p w r u) (is ∙ sym (x.1 ∙ ap Err x.2)) k
+
+  pub tries_sit : {w u : Worker B Y} {r : Result TryOutcome Halt} → HaveTried gives stands p w r u → MembersSit gives stands p u
+  tries_sit {w} {u} h = all_sit gives stands p w.members.items u.members.items h.ran
+
+  pub tries_none : {w : Worker B Y} (o : TryOutcome) → MembersSit gives stands p w → HaveTried gives stands p w (Ok o) w
+  tries_none {w} o sit = record { ran = all_refl gives stands p w.members.items sit; halt = refl; met = tt }
+
+  pub tries_ok : {w u v : Worker B Y} {r : Result TryOutcome Halt} (o : TryOutcome) → HaveTried gives stands p w r u → v.members ≡ u.members → v.halt ≡ u.halt → HaveTried gives stands p w (Ok o) v
+  tries_ok {w} {u} {v} o h members halt = record { ran = subst (λ (l : Vec (Member B Y) Global). Each (Ran gives stands p) w.members.items l.items) (sym members) h.ran; halt = halt ∙ h.halt; met = tt }
+
+  pub tries_on : {w u v : Worker B Y} {r s : Result TryOutcome Halt} → HaveTried gives stands p w r u → HaveTried gives stands p u s v → HaveTried gives stands p w s v
+  tries_on {w} {u} {v} h k = record { ran = all_trans gives stands p w.members.items u.members.items v.members.items h.ran k.ran; halt = k.halt ∙ h.halt; met = k.met }
+
+  pub tries_less : {w u : Worker B Y} {r : Result TryOutcome Halt} {i n : ℕ} → HaveTried gives stands p w r u → n ≡ vec_len w.members → i < n → i < length u.members.items
+  tries_less {w} h is less = let all : vec_len w.members ≡ length w.members.items = search rules in let same = h.ran.0 in omega (arith, all, same, is, less)
+
+  -- those of the member at a place
+  pub tries_at : {w u v : Worker B Y} {m n : Member B Y} {r s : Result TryOutcome Halt} (i : ℕ) → HaveTried gives stands p w r u → i < length u.members.items → m ≡ slice_index_or u.members.items i m
+      → HasTried gives stands p m s n → v.members.items ≡ slice_set u.members.items i n → v.halt ≡ u.halt → HaveTried gives stands p w s v
+  tries_at {w} {u} {v} {m} {n} {s = s} i h less is k members halt = record {
+    ran = subst (λ (l : List (Member B Y)). Each (Ran gives stands p) w.members.items l) (sym members) (all_step gives stands p w.members.items u.members.items i m n h.ran less is k.ran);
+    halt = halt ∙ h.halt;
+    met = IfErr-weaker s _ _ (λ x met. subst (λ (l : List (Member B Y)). MetIn gives p l x) (sym members) (met_at gives p u.members.items i n x less met)) k.met;
+  }
+
+  pub tries_first : {w v : Worker B Y} {m n : Member B Y} {s : Result TryOutcome Halt} (i : ℕ) → MembersSit gives stands p w → i < length w.members.items → m ≡ slice_index_or w.members.items i m
+      → HasTried gives stands p m s n → v.members.items ≡ slice_set w.members.items i n → v.halt ≡ w.halt → HaveTried gives stands p w s v
+  tries_first i sit less is k members halt = tries_at i (tries_none NoJob sit) less is k members halt
+
+  -- a worker that keeps the stop that it met, if any
+  pub worker_went : {w u : Worker B Y} {r : Result TryOutcome Halt} → HaveTried gives stands p w r u → w.halt ≡ None → WorkerRan gives stands p w u
+  worker_went t none = (t.ran, λ h is. absurd (none_some_halt h (sym (t.halt ∙ none) ∙ is)))
+
+  pub worker_stopped : {w u : Worker B Y} {h : Halt} → HaveTried gives stands p w (Err h) u → WorkerRan gives stands p w (record u { halt = Some h })
+  worker_stopped {u = u} {h} t = (t.ran, λ k is. let same : h ≡ k = cc in subst (MetIn gives p u.members.items) same t.met)
+
+  -- the same of a try of the member at a place
+  pub ran_at : (ms : List (Member B Y)) {m n : Member B Y} (i : ℕ) → All (Sits gives stands p) ms → i < length ms → m ≡ slice_index_or ms i m → Ran gives stands p m n → Each (Ran gives stands p) ms (slice_set ms i n)
+  ran_at ms {m} {n} i sit less is ran = all_step gives stands p ms ms i m n (all_refl gives stands p ms sit) less is ran

@@ -187,14 +187,12 @@ none_done p us none i d less j c at tx is = absurd (let a = none i d less in ome
 -- stops of halts
 
 abbrev pub IsStopped : RunStop → Type 0
-IsStopped (Refused job reply) = ⊥
-IsStopped (NoPlan tx e) = ⊥
 IsStopped Stopped = Unit {0}
+IsStopped other = ⊥
 
 pub if_not_stopped : (s : RunStop) (P Q : Type 0) → (IsStopped s → ⊥) → Q → IfStopped (Err s) P Q
-if_not_stopped (Refused job reply) P Q n q = q
-if_not_stopped (NoPlan tx e) P Q n q = q
 if_not_stopped Stopped P Q n q = absurd (n tt)
+if_not_stopped other P Q n q = q
 
 pub run_stop_not : (h : Halt) → IsStopped (run_stop h) → ⊥
 run_stop_not (halt.Refused job reply) s = s

@@ -85,11 +85,6 @@ module _ {Y : Type 0} (gives : Y → ℕ → List Outcome → Op) (stands : Y �
 
   -- an answer of which the body is not told
   pub tied_default : (tx : TxId) (mine : List (ℕ × Entry)) (t : Task Y) (op : Op) (now : ℕ) (story : List Entry) (r : StepReply) → ((o : Outcome) (v : Option End) → r ≡ Done o v → ⊥) → Tied gives stands tx mine t → Tied gives stands tx (with_own mine story (step_entry now (job_of tx t.serial) op r)) t
-  tied_default tx mine t op now story (NoJob ended last) not_done k = k
-  tied_default tx mine t op now story (NotYet running) not_done k = k
-  tied_default tx mine t op now story (Undeclared item) not_done k = k
-  tied_default tx mine t op now story (TooEarly left) not_done k = k
-  tied_default tx mine t op now story (Unwritten item) not_done k = k
-  tied_default tx mine t op now story (Full room) not_done k = k
   tied_default tx mine t op now story (reply.Blocked by ceiling) not_done k = tied_other tx mine t _ k (λ s. refl)
   tied_default tx mine t op now story (Done o v) not_done k = absurd (not_done o v refl)
+  tied_default tx mine t op now story other not_done k = k

@@ -1,5 +1,6 @@
 -- What a turn of several steps does to a member.
-use Rattle.std.proofs.Common.{◌≡◌, ◌⊎◌, ℕ, zero, suc, ◌-◌, ◌≤◌, ◌<◌, List, Option, Some, None, length, refl, sym, ap, subst, ◌∙◌, arith, inl, inr, ⊎_elim}
+use Rattle.std.proofs.Common.{◌≡◌, ◌⊎◌, ℕ, zero, suc, ◌-◌, ◌≤◌, ◌<◌, List, Option, Some, None, Result, IfErr, length, refl, sym, ap, subst, ◌∙◌, arith, inl, inr, ⊎_elim}
+use Rattle.std.proofs.lemmas.Result.{IfErr-weaker}
 use Rattle.rt_base.specs.declared.ids.TxId.{TxId}
 use Rattle.rt_base.specs.declared.ids.JobId.{JobId}
 use Rattle.rt_base.specs.declared.operation.Op.{Op}
@@ -15,77 +16,51 @@ use Rattle.shared_plant.specs.Answers.{with_own, turned}
 use Rattle.shared_plant.specs.Steps.{stepped, IsOn, GoesOn, Asked, Through, Steps, Stepped}
 use Rattle.txn_threads.specs.declared.member.Halt.{Halt}
 use Rattle.txn_threads.specs.declared.member.Member.{Member}
-use Rattle.txn_threads.specs.declared.round.Came.{Came}
+use Rattle.txn_threads.specs.declared.tries.TryOutcome.{TryOutcome}
 use Rattle.txn_threads.specs.declared.task.Task.{Task}
 use Rattle.txn_threads.specs.declared.task.Heard.{Heard}
 use Rattle.txn_threads.specs.declared.task.Heard.TheVariants as hear
 use Rattle.txn_threads.specs.Scripts.{job_of, own_outcomes, AreAsked}
 use Rattle.txn_threads.specs.Tasks.{Tied, Asks, Hears, heard_of}
-use Rattle.txn_threads.specs.Rounds.{Sits, Ran, known_after, IsRefusal, IsRefused, IsHeardHalt, ended_by, IfStop, Met}
+use Rattle.txn_threads.specs.Rounds.{Sits, Ran, HasTried, known_after, IsRefusal, IsRefused, IsHeardHalt, ended_by, Met}
 use Rattle.txn_threads.proofs.Counting.{ended_grow, known_bound}
-use Rattle.txn_threads.proofs.Rounding.{own_pairs, noted_begins, ran_refl, ran_trans, ran_by, ran_one, knew, refusal_none, if_stop}
+use Rattle.txn_threads.proofs.Rounding.{own_pairs, noted_begins, ran_refl, ran_trans, ran_by, ran_one, knew, refusal_none}
 use Rattle.txn_threads.proofs.Trying.{same_tx, step_asked, step_plans}
 
 -- what a task keeps of an answer
 
 on_nothing : (r : StepReply) → IsOn r → heard_of r ≡ hear.Nothing
-on_nothing (reply.NoJob ended last) on = absurd on
 on_nothing (reply.NotYet running) on = refl
-on_nothing (reply.Undeclared item) on = absurd on
-on_nothing (reply.TooEarly left) on = absurd on
-on_nothing (reply.Unwritten item) on = absurd on
-on_nothing (reply.Full room) on = absurd on
 on_nothing (reply.Blocked by ceiling) on = refl
 on_nothing (reply.Done outcome over) on = refl
+on_nothing other on = absurd on
 
 abbrev refusal_in : Heard → Option StepReply
-refusal_in hear.Nothing = None
-refusal_in (hear.Over ended) = None
-refusal_in hear.Full = None
 refusal_in (hear.Undeclared item) = Some (reply.Undeclared item)
 refusal_in (hear.TooEarly left) = Some (reply.TooEarly left)
 refusal_in (hear.Unwritten item) = Some (reply.Unwritten item)
+refusal_in other = None
 
 refusal_heard : (r : StepReply) → IsRefusal r → refusal_in (heard_of r) ≡ Some r
-refusal_heard (reply.NoJob ended last) h = absurd h
-refusal_heard (reply.NotYet running) h = absurd h
 refusal_heard (reply.Undeclared item) h = refl
 refusal_heard (reply.TooEarly left) h = refl
 refusal_heard (reply.Unwritten item) h = refl
-refusal_heard (reply.Full room) h = absurd h
-refusal_heard (reply.Blocked by ceiling) h = absurd h
-refusal_heard (reply.Done outcome over) h = absurd h
+refusal_heard other h = absurd h
 
 is_that : (q r : StepReply) → refusal_in (heard_of q) ≡ Some r → r ≡ q
 is_that (reply.NoJob ended last) r e = cc
-is_that (reply.NotYet running) r e = cc
-is_that (reply.Undeclared item) r e = cc
-is_that (reply.TooEarly left) r e = cc
-is_that (reply.Unwritten item) r e = cc
-is_that (reply.Full room) r e = cc
-is_that (reply.Blocked by ceiling) r e = cc
-is_that (reply.Done outcome over) r e = cc
+is_that other r e = cc
 
 no_refusal : (r : StepReply) → IsRefusal r → heard_of r ≡ hear.Nothing → ⊥
 no_refusal r h e = let k : None ≡ Some r = sym (ap refusal_in e) ∙ refusal_heard r h in cc
 
 over_is : (r : StepReply) (n before : ℕ) → heard_of r ≡ hear.Over n → known_after before r ≡ n
 over_is (reply.NoJob ended last) n before e = cc
-over_is (reply.NotYet running) n before e = cc
-over_is (reply.Undeclared item) n before e = cc
-over_is (reply.TooEarly left) n before e = cc
-over_is (reply.Unwritten item) n before e = cc
-over_is (reply.Full room) n before e = cc
-over_is (reply.Blocked by ceiling) n before e = cc
-over_is (reply.Done outcome over) n before e = cc
+over_is other n before e = cc
 
 pub ended_by_is : (n : ℕ) (h : Heard) → (ended_by n h ≡ n) ⊎ (h ≡ hear.Over (ended_by n h))
-ended_by_is n hear.Nothing = inl refl
 ended_by_is n (hear.Over ended) = inr refl
-ended_by_is n hear.Full = inl refl
-ended_by_is n (hear.Undeclared item) = inl refl
-ended_by_is n (hear.TooEarly left) = inl refl
-ended_by_is n (hear.Unwritten item) = inl refl
+ended_by_is n other = inl refl
 
 not_over : (n : ℕ) → hear.Nothing ≡ hear.Over n → ⊥
 not_over n e = cc
@@ -98,7 +73,7 @@ module _ {Y : Type 0} (gives : Y → ℕ → List Outcome → Op) (stands : Y �
   abbrev Step : PlantFacts → JobId → StepReply → Task Y → Task Y → SeatFacts → SeatFacts → Type 0
   Step p = Asked (Asks gives stands) (Hears gives stands) p.set p.room
 
-  tied_quiet : (tx : TxId) (mine : List (ℕ × Entry)) (t : Task Y) (h : Heard) → Tied gives stands tx mine t → Tied gives stands tx mine (record t { heard = h })
+  pub tied_quiet : (tx : TxId) (mine : List (ℕ × Entry)) (t : Task Y) (h : Heard) → Tied gives stands tx mine t → Tied gives stands tx mine (record t { heard = h })
   tied_quiet tx mine t h k = record { standing = k.standing; op_is = k.op_is; later = k.later }
 
 module _ {B Y : Type 0} (gives : Y → ℕ → List Outcome → Op) (stands : Y → ℕ → List Outcome → Type 0) where
@@ -107,13 +82,13 @@ module _ {B Y : Type 0} (gives : Y → ℕ → List Outcome → Op) (stands : Y 
   at m s t = record m { seat = s; task = t }
 
   -- a task that is to keep nothing
-  abbrev pub quiet : Member B Y → Member B Y
+  abbrev quiet : Member B Y → Member B Y
   quiet m = record m { task = record m.task { heard = hear.Nothing } }
 
-  pub sits_quiet : (p : PlantFacts) (m : Member B Y) → Sits gives stands p m → Sits gives stands p (quiet m)
+  sits_quiet : (p : PlantFacts) (m : Member B Y) → Sits gives stands p m → Sits gives stands p (quiet m)
   sits_quiet p m k = record { of = k.of; has = k.has; tied = λ tx e. tied_quiet gives stands tx m.seat.mine m.task hear.Nothing (k.tied tx e); knows = k.knows }
 
-  pub ran_quiet : (p : PlantFacts) (m n : Member B Y) → Ran gives stands p (quiet m) n → Ran gives stands p m n
+  ran_quiet : (p : PlantFacts) (m n : Member B Y) → Ran gives stands p (quiet m) n → Ran gives stands p m n
   ran_quiet p m n r = record { plant = r.plant; tx = r.tx; jobs = r.jobs; eager = r.eager; gives_is = r.gives_is; seen = r.seen; added = r.added; mine = r.mine; rising = r.rising; asked = r.asked; plans = r.plans; planned = r.planned; sits = r.sits }
 
   -- a member whose body was asked
@@ -204,26 +179,20 @@ module _ {B Y : Type 0} (gives : Y → ℕ → List Outcome → Op) (stands : Y 
       k.last
 
   -- a turn of steps that was answered; what the member knows of ended jobs may be what its task heard
-  pub steps_member : (p : PlantFacts) (m : Member B Y) (tx : TxId) (running : Option JobId) (b : Task Y) (new : SeatFacts) (e : ℕ) → Sits gives stands p m → m.seat.tx ≡ Some tx → m.task.heard ≡ hear.Nothing
-      → Stepped (Asks gives stands) (Hears gives stands) p (job_of tx m.task.serial) 64 running m.task b m.seat new → (e ≡ m.ended) ⊎ (b.heard ≡ hear.Over e)
-      → Ran gives stands p m (record m { seat = new; task = b; ended = e })
-  steps_member p m tx running b new e sits is none k known =
+  pub steps_one : (p : PlantFacts) (m : Member B Y) (tx : TxId) (running : Option JobId) (b : Task Y) (new : SeatFacts) (e : ℕ) (o : Result TryOutcome Halt) → Sits gives stands p m → m.seat.tx ≡ Some tx
+      → Stepped (Asks gives stands) (Hears gives stands) p (job_of tx m.task.serial) 64 running (record m.task { heard = hear.Nothing }) b m.seat new → (e ≡ m.ended) ⊎ (b.heard ≡ hear.Over e)
+      → IfErr o (λ h. IsHeardHalt h (job_of tx m.task.serial) b.heard)
+      → HasTried gives stands p m o (record m { seat = new; task = b; ended = e })
+  steps_one p m tx running b new e o sits is k known stop =
+      let q = quiet m in let sitting = sits_quiet p m sits in
       let s = turned m.seat k.story k.base None in
-      let M = at m s m.task in
-      let first : Ran gives stands p m M = ran_one gives stands p m M k.story k.base None sits refl k.begins refl refl refl (λ x q. tt) (λ x q. tt) (omega arith) (λ x q. sits.tied x q) (λ x q. knew gives stands p m x k.story None sits q k.begins) in
-      let all = steps_ran p M tx b new first.sits is none k.steps in
-      let ran = ran_trans gives stands p m M (at M new b) first all.ran in
-      ran_known p m (at M new b) e ran
-      (λ x q. ⊎_elim (λ (same : e ≡ m.ended). subst (λ (n : ℕ). n ≤ ended_of p.set new.seen x.0) (sym same) (ran.sits.knows x q))
-      (λ (h : b.heard ≡ hear.Over e). subst (λ (y : TxId). e ≤ ended_of p.set new.seen y.0) (same_tx new.tx tx x (all.ran.tx ∙ is) q) (all.over e h)) known)
-
-  pub steps_stop : (p : PlantFacts) (m : Member B Y) (tx : TxId) (running : Option JobId) (b : Task Y) (new : SeatFacts) (e : ℕ) (came : Came) (kept : Option Halt) → Sits gives stands p m → m.seat.tx ≡ Some tx → m.task.heard ≡ hear.Nothing
-      → Stepped (Asks gives stands) (Hears gives stands) p (job_of tx m.task.serial) 64 running m.task b m.seat new
-      → IfStop came kept (λ h. IsHeardHalt h (job_of tx m.task.serial) b.heard) → IfStop came kept (λ h. Met gives p h (record m { seat = new; task = b; ended = e }))
-  steps_stop p m tx running b new e came kept sits is none k s =
-      let M = at m (turned m.seat k.story k.base None) m.task in
-      let first : Ran gives stands p m M = ran_one gives stands p m M k.story k.base None sits refl k.begins refl refl refl (λ x q. tt) (λ x q. tt) (omega arith) (λ x q. sits.tied x q) (λ x q. knew gives stands p m x k.story None sits q k.begins) in
-      let all = steps_ran p M tx b new first.sits is none k.steps in
-      let job : JobId = job_of tx m.task.serial in let n : Member B Y = record m { seat = new; task = b; ended = e } in
-      if_stop came kept (λ h. IsHeardHalt h job b.heard) (λ h. Met gives p h n)
-      (λ h w. subst (λ (x : Halt). Met gives p x n) (sym w.1) (let r = all.refused w.0 w.2 w.3 in record { own = r.own; refusal = r.refusal; answer = r.answer })) s
+      let M = at q s q.task in
+      let first : Ran gives stands p q M = ran_one gives stands p q M k.story k.base None sitting refl k.begins refl refl refl (λ x e. tt) (λ x e. tt) (omega arith) (λ x e. sitting.tied x e) (λ x e. knew gives stands p q x k.story None sitting e k.begins) in
+      let all = steps_ran p M tx b new first.sits is refl k.steps in
+      let ran = ran_trans gives stands p q M (at M new b) first all.ran in
+      record {
+        ran = ran_quiet p m _ (ran_known p q (at M new b) e ran
+            (λ x f. ⊎_elim (λ (same : e ≡ m.ended). subst (λ (n : ℕ). n ≤ ended_of p.set new.seen x.0) (sym same) (ran.sits.knows x f))
+            (λ (h : b.heard ≡ hear.Over e). subst (λ (y : TxId). e ≤ ended_of p.set new.seen y.0) (same_tx new.tx tx x (all.ran.tx ∙ is) f) (all.over e h)) known));
+        met = IfErr-weaker o _ _ (λ h w. subst (λ (x : Halt). Met gives p x (record m { seat = new; task = b; ended = e })) (sym w.1) (let r = all.refused w.0 w.2 w.3 in record { own = r.own; refusal = r.refusal; answer = r.answer })) stop;
+      }

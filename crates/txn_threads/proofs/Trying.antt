@@ -1,5 +1,6 @@
 -- What a try of each kind does to a member.
-use Rattle.std.proofs.Common.{◌≡◌, ℕ, ◌+◌, ◌-◌, ◌<◌, ◌≤◌, List, Option, Some, None, Result, Ok, Err, length, Bool, true, refl, sym, ap, subst, ◌∙◌, arith}
+use Rattle.std.proofs.Common.{◌≡◌, ℕ, ◌+◌, ◌-◌, ◌<◌, ◌≤◌, List, Option, Some, None, Result, Ok, Err, IfErr, length, Bool, true, refl, sym, ap, subst, ◌∙◌, arith}
+use Rattle.std.proofs.lemmas.Result.{IfErr-weaker}
 use Rattle.rt_base.specs.declared.ids.TxId.{TxId}
 use Rattle.rt_base.specs.declared.ids.JobId.{JobId}
 use Rattle.rt_base.specs.declared.operation.Op.{Op}
@@ -20,54 +21,38 @@ use Rattle.shared_plant.specs.Answers.{with_own, turned, Answered}
 use Rattle.shared_plant.proofs.Answering.{the_tx}
 use Rattle.txn_threads.specs.declared.member.Halt.{Halt}
 use Rattle.txn_threads.specs.declared.member.Member.{Member}
-use Rattle.txn_threads.specs.declared.round.Came.{Came}
+use Rattle.txn_threads.specs.declared.tries.TryOutcome.{TryOutcome}
 use Rattle.txn_threads.specs.declared.task.Task.{Task}
 use Rattle.txn_threads.specs.Scripts.{job_of, own_outcomes, AreAsked}
 use Rattle.txn_threads.specs.Plans.{plans_in, ArePlanned}
 use Rattle.txn_threads.specs.Tasks.{Tied}
-use Rattle.txn_threads.specs.Rounds.{Sits, Ran, known_after, planned_after, IsCause, IsUnplanned, IsHaltOf, IsPlanHalt, IfStop, Met}
+use Rattle.txn_threads.specs.Rounds.{Sits, Ran, HasTried, known_after, planned_after, IsCause, IsUnplanned, IsHaltOf, IsPlanHalt, Met}
 use Rattle.txn_threads.proofs.Counting.{ended_grow, known_bound, tick_of}
 use Rattle.txn_threads.proofs.Scripting.{tied_other}
-use Rattle.txn_threads.proofs.Rounding.{own_pairs, noted_begins, ran_one, knew, refused_at, if_stop}
+use Rattle.txn_threads.proofs.Rounding.{own_pairs, noted_begins, ran_one, knew, refused_at}
 
 pub same_tx : (s : Option TxId) (t tx : TxId) → s ≡ Some t → s ≡ Some tx → t ≡ tx
 same_tx s t tx p q = ap (the_tx tx) (sym p ∙ q)
 
--- the entry of a step
+-- the entry of a step, and that of idling
 
 pub step_asked : (gives : ℕ → List Outcome → Op) (tx : TxId) (mine : List (ℕ × Entry)) (story : List Entry) (now serial : ℕ) (op : Op) (r : StepReply) → op ≡ gives serial (own_outcomes mine (job_of tx serial)) → AreAsked gives tx mine (own_pairs story (step_entry now (job_of tx serial) op r))
-step_asked gives tx mine story now serial op (reply.NoJob ended last) own = tt
-step_asked gives tx mine story now serial op (reply.NotYet running) own = tt
-step_asked gives tx mine story now serial op (reply.Undeclared item) own = tt
-step_asked gives tx mine story now serial op (reply.TooEarly left) own = tt
-step_asked gives tx mine story now serial op (reply.Unwritten item) own = tt
-step_asked gives tx mine story now serial op (reply.Full room) own = tt
 step_asked gives tx mine story now serial op (reply.Blocked by ceiling) own = ((refl, own), tt)
 step_asked gives tx mine story now serial op (reply.Done outcome over) own = ((refl, own), tt)
+step_asked gives tx mine story now serial op other own = tt
 
 pub step_plans : (set : Set) (seen : List Entry) (tx : TxId) (eager : Bool) (jobs n : ℕ) (story : List Entry) (now : ℕ) (job : JobId) (op : Op) (r : StepReply) → ArePlanned set seen tx eager jobs n (own_pairs story (step_entry now job op r)) × (plans_in (own_pairs story (step_entry now job op r)) ≡ 0)
-step_plans set seen tx eager jobs n story now job op (reply.NoJob ended last) = (tt, refl)
-step_plans set seen tx eager jobs n story now job op (reply.NotYet running) = (tt, refl)
-step_plans set seen tx eager jobs n story now job op (reply.Undeclared item) = (tt, refl)
-step_plans set seen tx eager jobs n story now job op (reply.TooEarly left) = (tt, refl)
-step_plans set seen tx eager jobs n story now job op (reply.Unwritten item) = (tt, refl)
-step_plans set seen tx eager jobs n story now job op (reply.Full room) = (tt, refl)
 step_plans set seen tx eager jobs n story now job op (reply.Blocked by ceiling) = ((tt, tt), refl)
 step_plans set seen tx eager jobs n story now job op (reply.Done outcome over) = ((tt, tt), refl)
-
--- the entry of idling
+step_plans set seen tx eager jobs n story now job op other = (tt, refl)
 
 idle_asked : (gives : ℕ → List Outcome → Op) (tx : TxId) (mine : List (ℕ × Entry)) (story : List Entry) (now : ℕ) (r : IdleReply) → AreAsked gives tx mine (own_pairs story (idle_entry now r))
-idle_asked gives tx mine story now (idle.NotIdle running) = tt
-idle_asked gives tx mine story now idle.Nothing = tt
-idle_asked gives tx mine story now (idle.Full room) = tt
 idle_asked gives tx mine story now (idle.Advanced to) = (tt, tt)
+idle_asked gives tx mine story now other = tt
 
 idle_plans : (set : Set) (seen : List Entry) (tx : TxId) (eager : Bool) (jobs n : ℕ) (story : List Entry) (now : ℕ) (r : IdleReply) → ArePlanned set seen tx eager jobs n (own_pairs story (idle_entry now r)) × (plans_in (own_pairs story (idle_entry now r)) ≡ 0)
-idle_plans set seen tx eager jobs n story now (idle.NotIdle running) = (tt, refl)
-idle_plans set seen tx eager jobs n story now idle.Nothing = (tt, refl)
-idle_plans set seen tx eager jobs n story now (idle.Full room) = (tt, refl)
 idle_plans set seen tx eager jobs n story now (idle.Advanced to) = ((tt, tt), refl)
+idle_plans set seen tx eager jobs n story now other = (tt, refl)
 
 -- the entry of a plan
 
@@ -97,10 +82,8 @@ plan_planned set tx eager jobs n kept room story (Ok p) is is_eager left ended =
 
 module _ {Y : Type 0} (gives : Y → ℕ → List Outcome → Op) (stands : Y → ℕ → List Outcome → Type 0) where
   tied_idle : (tx : TxId) (mine : List (ℕ × Entry)) (story : List Entry) (now : ℕ) (r : IdleReply) (t : Task Y) → Tied gives stands tx mine t → Tied gives stands tx (with_own mine story (idle_entry now r)) t
-  tied_idle tx mine story now (idle.NotIdle running) t k = k
-  tied_idle tx mine story now idle.Nothing t k = k
-  tied_idle tx mine story now (idle.Full room) t k = k
   tied_idle tx mine story now (idle.Advanced to) t k = tied_other gives stands tx mine t _ k (λ s. refl)
+  tied_idle tx mine story now other t k = k
 
   tied_plan : (tx by : TxId) (mine : List (ℕ × Entry)) (story : List Entry) (r : Result (JobId × ℕ) PlanRefused) (t : Task Y) → Tied gives stands tx mine t → Tied gives stands tx (with_own mine story (plan_next_entry by r)) t
   tied_plan tx by mine story (Ok p) t k = tied_other gives stands tx mine t _ k (λ s. refl)
@@ -108,14 +91,14 @@ module _ {Y : Type 0} (gives : Y → ℕ → List Outcome → Op) (stands : Y �
 
 module _ {B Y : Type 0} (gives : Y → ℕ → List Outcome → Op) (stands : Y → ℕ → List Outcome → Type 0) where
   -- a step try that was answered; the task is u once the operation is there
-  pub ran_stepped : (p : PlantFacts) (m n : Member B Y) (t : TxId) (u : Task Y) (op : Op) (r : StepReply) → Sits gives stands p m → m.seat.tx ≡ Some t
+  pub stepped : (p : PlantFacts) (m n : Member B Y) (t : TxId) (u : Task Y) (op : Op) (r : StepReply) (o : Result TryOutcome Halt) → Sits gives stands p m → m.seat.tx ≡ Some t
       → Answered p.set (λ story base. r ≡ step_answer p.set story (length story - base) p.room (job_of t u.serial) op) (λ story. step_entry (now_of p.set story) (job_of t u.serial) op r) m.seat n.seat
       → n.jobs ≡ m.jobs → n.eager ≡ m.eager → gives n.task.body ≡ gives m.task.body → gives u.body ≡ gives m.task.body → u.op ≡ Some op
       → ((tx : TxId) (mine : List (ℕ × Entry)) → Tied gives stands tx mine m.task → Tied gives stands tx mine u)
       → ((tx : TxId) (mine : List (ℕ × Entry)) (o : Op) (now : ℕ) (story : List Entry) → Tied gives stands tx mine u → Tied gives stands tx (with_own mine story (step_entry now (job_of tx u.serial) o r)) n.task)
-      → n.planned ≡ m.planned → n.ended ≡ known_after m.ended r
-      → Ran gives stands p m n
-  ran_stepped p m n t u op r sits is a jobs eager same same_u kept asked_for heard planned ended =
+      → n.planned ≡ m.planned → n.ended ≡ known_after m.ended r → IfErr o (λ h. IsHaltOf h (job_of t u.serial) r)
+      → HasTried gives stands p m o n
+  stepped p m n t u op r o sits is a jobs eager same same_u kept asked_for heard planned ended stop =
       let story = a.story in
       let job : JobId = job_of t u.serial in
       let own : Option Entry = step_entry (now_of p.set story) job op r in
@@ -124,12 +107,16 @@ module _ {B Y : Type 0} (gives : Y → ℕ → List Outcome → Op) (stands : Y 
       let top : ℕ = ended_of p.set (noted story own) t.0 in
       let up : ended_of p.set story t.0 ≤ top = ended_grow p.set story (noted story own) t.0 (noted_begins story story own (whole story)) in
       let bound : known_after m.ended r ≤ top = known_bound p.set (state_of p.set story) (length story - a.base) p.room job op r m.ended top a.says (knew gives stands p m t story own sits is a.begins) up in
-      ran_one gives stands p m n story a.base own sits a.after a.begins jobs eager same
-      (λ tx e. subst (λ (x : TxId). AreAsked (gives m.task.body) x m.seat.mine (own_pairs story own)) (same_tx m.seat.tx t tx is e) (step_asked (gives m.task.body) t m.seat.mine story (now_of p.set story) u.serial op r own_op))
-      (λ tx e. (step_plans p.set (noted story own) tx m.eager m.jobs m.planned story (now_of p.set story) job op r).0)
-      (let none = (step_plans p.set (noted story own) t m.eager m.jobs m.planned story (now_of p.set story) job op r).1 in omega (arith, planned, none))
-      (λ tx e. subst (λ (x : TxId). Tied gives stands x (with_own m.seat.mine story own) n.task) (same_tx m.seat.tx t tx is e) (heard t m.seat.mine op (now_of p.set story) story tied_u))
-      (λ tx e. subst (λ (x : TxId). n.ended ≤ ended_of p.set (noted story own) x.0) (same_tx m.seat.tx t tx is e) (subst (λ (k : ℕ). k ≤ top) (sym ended) bound))
+      record {
+        ran = ran_one gives stands p m n story a.base own sits a.after a.begins jobs eager same
+            (λ tx e. subst (λ (x : TxId). AreAsked (gives m.task.body) x m.seat.mine (own_pairs story own)) (same_tx m.seat.tx t tx is e) (step_asked (gives m.task.body) t m.seat.mine story (now_of p.set story) u.serial op r own_op))
+            (λ tx e. (step_plans p.set (noted story own) tx m.eager m.jobs m.planned story (now_of p.set story) job op r).0)
+            (let none = (step_plans p.set (noted story own) t m.eager m.jobs m.planned story (now_of p.set story) job op r).1 in omega (arith, planned, none))
+            (λ tx e. subst (λ (x : TxId). Tied gives stands x (with_own m.seat.mine story own) n.task) (same_tx m.seat.tx t tx is e) (heard t m.seat.mine op (now_of p.set story) story tied_u))
+            (λ tx e. subst (λ (x : TxId). n.ended ≤ ended_of p.set (noted story own) x.0) (same_tx m.seat.tx t tx is e) (subst (λ (k : ℕ). k ≤ top) (sym ended) bound));
+        met = IfErr-weaker o _ _ (λ h w. subst (λ (x : Halt). Met gives p x n) (sym w.0)
+            (refused_at gives p m.seat n t u.serial op r a is w.1 (own_op ∙ (λ i. sym same i u.serial (own_outcomes m.seat.mine job))))) stop;
+      }
 
   -- a try to idle that was answered
   pub ran_idled : (p : PlantFacts) (m n : Member B Y) (found : List Entry → ℕ → Type 0) (r : IdleReply) → Sits gives stands p m
@@ -144,24 +131,6 @@ module _ {B Y : Type 0} (gives : Y → ℕ → List Outcome → Op) (stands : Y 
       (λ tx e. (idle_plans p.set (noted story own) tx m.eager m.jobs m.planned story (now_of p.set story) r).0)
       (let none = (idle_plans p.set (noted story own) sits.has.0 m.eager m.jobs m.planned story (now_of p.set story) r).1 in omega (arith, planned, none))
       (λ tx e. subst (λ (t : Task Y). Tied gives stands tx (with_own m.seat.mine story own) t) (sym task) (tied_idle gives stands tx m.seat.mine story (now_of p.set story) r m.task (sits.tied tx e)))
-      (λ tx e. subst (λ (k : ℕ). k ≤ ended_of p.set (noted story own) tx.0) (sym ended) (knew gives stands p m tx story own sits e a.begins))
-
-  -- a plan try that was answered
-  pub ran_planned : (p : PlantFacts) (m n : Member B Y) (t : TxId) (r : Result (JobId × ℕ) PlanRefused) → Sits gives stands p m → m.seat.tx ≡ Some t
-      → Answered p.set (λ story base. r ≡ plan_next_answer p.set story (length story - base) p.room t.0) (λ story. plan_next_entry t r) m.seat n.seat
-      → n.jobs ≡ m.jobs → n.eager ≡ m.eager → n.task ≡ m.task → n.ended ≡ m.ended
-      → m.eager ≡ true → m.planned < m.jobs → m.planned ≤ m.ended → n.planned ≡ planned_after m.planned r
-      → Ran gives stands p m n
-  ran_planned p m n t r sits is a jobs eager task ended is_eager left behind planned =
-      let story = a.story in
-      let own : Option Entry = plan_next_entry t r in
-      let knows : m.ended ≤ ended_of p.set story t.0 = knew gives stands p m t story None sits is a.begins in
-      let fine : m.planned ≤ ended_of p.set story t.0 = omega (arith, knows, behind) in
-      ran_one gives stands p m n story a.base own sits a.after a.begins jobs eager (ap (λ (k : Task Y). gives k.body) task)
-      (λ tx e. plan_asked (gives m.task.body) tx t m.seat.mine story r)
-      (λ tx e. subst (λ (x : TxId). ArePlanned p.set (noted story own) x m.eager m.jobs m.planned (own_pairs story own)) (same_tx m.seat.tx t tx is e) (plan_planned p.set t m.eager m.jobs m.planned (length story - a.base) p.room story r a.says is_eager left fine))
-      (planned ∙ plan_number_is m.planned t story r)
-      (λ tx e. subst (λ (k : Task Y). Tied gives stands tx (with_own m.seat.mine story own) k) (sym task) (tied_plan gives stands tx t m.seat.mine story r m.task (sits.tied tx e)))
       (λ tx e. subst (λ (k : ℕ). k ≤ ended_of p.set (noted story own) tx.0) (sym ended) (knew gives stands p m tx story own sits e a.begins))
 
   -- the refusal of a plan is the board's answer at all that the seat has then seen
@@ -185,20 +154,23 @@ module _ {B Y : Type 0} (gives : Y → ℕ → List Outcome → Op) (stands : Y 
         answer = sym r_is ∙ (a.says ∙ (λ i. plan_next_answer p.set (seen i) (length (seen i) - base i) p.room t.0));
       }
 
-  pub unplanned_stop : (p : PlantFacts) (m n : Member B Y) (t : TxId) (r : Result (JobId × ℕ) PlanRefused) (c : Came) (kept : Option Halt) → Sits gives stands p m → m.seat.tx ≡ Some t
+  -- a plan try that was answered
+  pub planned_one : (p : PlantFacts) (m n : Member B Y) (t : TxId) (r : Result (JobId × ℕ) PlanRefused) (o : Result TryOutcome Halt) → Sits gives stands p m → m.seat.tx ≡ Some t
       → Answered p.set (λ story base. r ≡ plan_next_answer p.set story (length story - base) p.room t.0) (λ story. plan_next_entry t r) m.seat n.seat
-      → n.jobs ≡ m.jobs → n.eager ≡ m.eager → n.planned ≡ planned_after m.planned r
-      → m.eager ≡ true → m.planned < m.jobs → m.planned ≤ m.ended → IfStop c kept (λ h. IsPlanHalt h t r) → IfStop c kept (λ h. Met gives p h n)
-  unplanned_stop p m n t r c kept sits is a jobs eager counted is_eager left behind s =
-      if_stop c kept (λ h. IsPlanHalt h t r) (λ h. Met gives p h n) (λ h k. subst (λ (x : Halt). Met gives p x n) (sym k.1) (unplanned_at p m n t r k.0 k.2 sits is a jobs eager counted is_eager left behind k.3)) s
-
-  -- the refusal of a step is the board's answer at all that the seat has then seen; the task is u once the operation is there
-  pub refused_stop : (p : PlantFacts) (m n : Member B Y) (t : TxId) (u : Task Y) (op : Op) (r : StepReply) (c : Came) (kept : Option Halt) → Sits gives stands p m → m.seat.tx ≡ Some t
-      → Answered p.set (λ story base. r ≡ step_answer p.set story (length story - base) p.room (job_of t u.serial) op) (λ story. step_entry (now_of p.set story) (job_of t u.serial) op r) m.seat n.seat
-      → gives n.task.body ≡ gives u.body → u.op ≡ Some op
-      → ((tx : TxId) (mine : List (ℕ × Entry)) → Tied gives stands tx mine m.task → Tied gives stands tx mine u)
-      → IfStop c kept (λ h. IsHaltOf h (job_of t u.serial) r) → IfStop c kept (λ h. Met gives p h n)
-  refused_stop p m n t u op r c k sits is a same kept asked_for s =
-      let job : JobId = job_of t u.serial in
-      let own : op ≡ gives n.task.body u.serial (own_outcomes m.seat.mine job) = (asked_for t m.seat.mine (sits.tied t is)).op_is op kept ∙ (λ i. sym same i u.serial (own_outcomes m.seat.mine job)) in
-      if_stop c k (λ h. IsHaltOf h job r) (λ h. Met gives p h n) (λ h w. subst (λ (x : Halt). Met gives p x n) (sym w.0) (refused_at gives p m.seat n t u.serial op r a is w.1 own)) s
+      → n.jobs ≡ m.jobs → n.eager ≡ m.eager → n.task ≡ m.task → n.ended ≡ m.ended
+      → m.eager ≡ true → m.planned < m.jobs → m.planned ≤ m.ended → n.planned ≡ planned_after m.planned r → IfErr o (λ h. IsPlanHalt h t r)
+      → HasTried gives stands p m o n
+  planned_one p m n t r o sits is a jobs eager task ended is_eager left behind planned stop =
+      let story = a.story in
+      let own : Option Entry = plan_next_entry t r in
+      let knows : m.ended ≤ ended_of p.set story t.0 = knew gives stands p m t story None sits is a.begins in
+      let fine : m.planned ≤ ended_of p.set story t.0 = omega (arith, knows, behind) in
+      record {
+        ran = ran_one gives stands p m n story a.base own sits a.after a.begins jobs eager (ap (λ (k : Task Y). gives k.body) task)
+            (λ tx e. plan_asked (gives m.task.body) tx t m.seat.mine story r)
+            (λ tx e. subst (λ (x : TxId). ArePlanned p.set (noted story own) x m.eager m.jobs m.planned (own_pairs story own)) (same_tx m.seat.tx t tx is e) (plan_planned p.set t m.eager m.jobs m.planned (length story - a.base) p.room story r a.says is_eager left fine))
+            (planned ∙ plan_number_is m.planned t story r)
+            (λ tx e. subst (λ (k : Task Y). Tied gives stands tx (with_own m.seat.mine story own) k) (sym task) (tied_plan gives stands tx t m.seat.mine story r m.task (sits.tied tx e)))
+            (λ tx e. subst (λ (k : ℕ). k ≤ ended_of p.set (noted story own) tx.0) (sym ended) (knew gives stands p m tx story own sits e a.begins));
+        met = IfErr-weaker o _ _ (λ h k. subst (λ (x : Halt). Met gives p x n) (sym k.1) (unplanned_at p m n t r k.0 k.2 sits is a jobs eager planned is_eager left behind k.3)) stop;
+      }

@@ -3,7 +3,7 @@ use Rattle.std.specs.Prelude.{◌≡◌, ℕ, ◌+◌, ◌<◌, ◌≤◌, Bool,
 use Rattle.rt_base.specs.declared.ids.TxId.{TxId}
 use Rattle.txn_set.specs.Set.{Set}
 use Rattle.step_journal.specs.declared.entry.Entry.{Entry}
-use Rattle.step_journal.specs.declared.entry.Entry.TheVariants.{Planned, Step, Blocked, Idle}
+use Rattle.step_journal.specs.declared.entry.Entry.TheVariants.{Planned}
 use Rattle.step_journal.specs.History.{state_of}
 use Rattle.board.specs.Answers.{next_tick_for}
 use Rattle.board.specs.Stories.{ended_of}
@@ -12,9 +12,7 @@ use Rattle.turn_cell.specs.Turn.{Begins}
 -- how many of the entries are plans
 abbrev pub plan_number : Entry → ℕ
 plan_number (Planned tx tick) = 1
-plan_number (Step job op outcome over tick) = 0
-plan_number (Blocked job op by ceiling tick) = 0
-plan_number (Idle from to) = 0
+plan_number other = 0
 
 abbrev pub plans_in : List (ℕ × Entry) → ℕ
 plans_in [] = 0
@@ -35,9 +33,7 @@ pub record IsNextPlan (set : Set) (seen : List Entry) (tx : TxId) (eager : Bool)
 
 abbrev pub IsPlanned : Set → List Entry → TxId → Bool → ℕ → ℕ → ℕ → Entry → Type 0
 IsPlanned set seen tx eager jobs planned place (Planned by tick) = IsNextPlan set seen tx eager jobs planned place by tick
-IsPlanned set seen tx eager jobs planned place (Step job op outcome over tick) = Unit {0}
-IsPlanned set seen tx eager jobs planned place (Blocked job op by ceiling tick) = Unit {0}
-IsPlanned set seen tx eager jobs planned place (Idle from to) = Unit {0}
+IsPlanned set seen tx eager jobs planned place other = Unit {0}
 
 -- each Planned entry of the list is such a plan, after so many plans and those before it in the list
 abbrev pub ArePlanned : Set → List Entry → TxId → Bool → ℕ → ℕ → List (ℕ × Entry) → Type 0

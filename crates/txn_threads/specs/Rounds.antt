@@ -1,5 +1,5 @@
 -- What rounds do to members and workers.
-use Rattle.std.specs.Prelude.{◌≡◌, ℕ, ◌+◌, ◌-◌, ◌<◌, ◌≤◌, ◌++◌, List, Option, Some, None, true, Result, Ok, Err, length, slice_get, slice_index_or, All}
+use Rattle.std.specs.Prelude.{◌≡◌, ℕ, ◌+◌, ◌-◌, ◌<◌, ◌≤◌, ◌++◌, List, Some, true, Result, Ok, Err, IfErr, length, slice_get, slice_index_or, All}
 use Rattle.rt_base.specs.declared.ids.TxId.{TxId}
 use Rattle.rt_base.specs.declared.ids.JobId.{JobId}
 use Rattle.rt_base.specs.declared.operation.Op.{Op}
@@ -16,8 +16,7 @@ use Rattle.txn_threads.specs.declared.member.Halt.{Halt}
 use Rattle.txn_threads.specs.declared.member.Halt.TheVariants.{Refused, NoPlan}
 use Rattle.txn_threads.specs.declared.member.Member.{Member}
 use Rattle.txn_threads.specs.declared.member.Worker.{Worker}
-use Rattle.txn_threads.specs.declared.round.Came.{Came}
-use Rattle.txn_threads.specs.declared.round.Came.TheVariants as came
+use Rattle.txn_threads.specs.declared.tries.TryOutcome.{TryOutcome}
 use Rattle.txn_threads.specs.Scripts.{own_outcomes, AreAsked}
 use Rattle.txn_threads.specs.Plans.{plans_in, ArePlanned}
 use Rattle.txn_threads.specs.Rising.{AreRising}
@@ -31,23 +30,17 @@ Each {X} R xs ys = (length ys ≡ length xs) × ((i : ℕ) (d : X) → i < lengt
 
 -- the refusals of an operation that stop a worker
 abbrev pub IsRefusal : StepReply → Type 0
-IsRefusal (reply.NoJob ended last) = ⊥
-IsRefusal (reply.NotYet running) = ⊥
 IsRefusal (reply.Undeclared item) = Unit {0}
 IsRefusal (reply.TooEarly left) = Unit {0}
 IsRefusal (reply.Unwritten item) = Unit {0}
-IsRefusal (reply.Full room) = ⊥
-IsRefusal (reply.Blocked by ceiling) = ⊥
-IsRefusal (reply.Done outcome over) = ⊥
+IsRefusal other = ⊥
 
 -- the refusals of a plan that stop a worker
 abbrev pub IsCause : PlanRefused → Type 0
-IsCause (cause.Past now) = ⊥
-IsCause (cause.TooSoon earliest) = ⊥
 IsCause (cause.TooFar limit) = Unit {0}
 IsCause (cause.CalendarFull room) = Unit {0}
 IsCause (cause.NoSerial planned) = Unit {0}
-IsCause (cause.Full room) = ⊥
+IsCause other = ⊥
 
 -- At all that the member's seat has seen the board answers this to plan_next, of an eager member that had planned fewer
 -- jobs than it is to have. At least as many jobs had ended there as it had planned.
@@ -104,44 +97,38 @@ module _ {B Y : Type 0} (gives : Y → ℕ → List Outcome → Op) (stands : Y 
     pub planned : n.planned ≡ m.planned + plans_in added
     pub sits : Sits p n
 
+  -- A member after some tries, of which the last met this stop, or none.
+  pub record HasTried (p : PlantFacts) (m : Member B Y) (r : Result TryOutcome Halt) (n : Member B Y) : Type 0 where
+    pub ran : Ran p m n
+    pub met : IfErr r (λ h. Met gives p h n)
+
+  -- what each try of a worker's members is asked
+  abbrev pub MembersSit : PlantFacts → Worker B Y → Type 0
+  MembersSit p w = All (Sits p) w.members.items
+
+  -- A worker after some tries of its members, of which the last met this stop, or none.
+  pub record HaveTried (p : PlantFacts) (w : Worker B Y) (r : Result TryOutcome Halt) (u : Worker B Y) : Type 0 where
+    pub ran : Each (Ran p) w.members.items u.members.items
+    pub halt : u.halt ≡ w.halt
+    pub met : IfErr r (MetIn gives p u.members.items)
+
   -- what holds of a worker while it runs
   abbrev pub WorkerSits : PlantFacts → Worker B Y → Type 0
-  WorkerSits p w = All (Sits p) w.members.items × Halted gives p w
+  WorkerSits p w = MembersSit p w × Halted gives p w
 
   -- a worker after some tries
   abbrev pub WorkerRan : PlantFacts → Worker B Y → Worker B Y → Type 0
   WorkerRan p w u = Each (Ran p) w.members.items u.members.items × Halted gives p u
 
--- the stop that a try met is kept, and no other is
-abbrev pub IfStop : Came → Option Halt → (Halt → Type 0) → Type 0
-IfStop came.NoJob kept P = kept ≡ None
-IfStop (came.NotYet tx) kept P = kept ≡ None
-IfStop (came.Waits tx) kept P = kept ≡ None
-IfStop came.Went kept P = kept ≡ None
-IfStop came.Ended kept P = kept ≡ None
-IfStop came.Idled kept P = kept ≡ None
-IfStop came.Full kept P = kept ≡ None
-IfStop came.Stop kept P = (h : Halt) × (kept ≡ Some h) × P h
-
 -- how many jobs are known to have ended, after an answer
 abbrev pub known_after : ℕ → StepReply → ℕ
 known_after n (reply.NoJob ended last) = ended
-known_after n (reply.NotYet running) = n
-known_after n (reply.Undeclared item) = n
-known_after n (reply.TooEarly left) = n
-known_after n (reply.Unwritten item) = n
-known_after n (reply.Full room) = n
-known_after n (reply.Blocked by ceiling) = n
-known_after n (reply.Done outcome over) = n
+known_after n other = n
 
 -- how many jobs are known to have ended, after what a task heard
 abbrev pub ended_by : ℕ → Heard → ℕ
-ended_by n heard.Nothing = n
 ended_by n (heard.Over ended) = ended
-ended_by n heard.Full = n
-ended_by n (heard.Undeclared item) = n
-ended_by n (heard.TooEarly left) = n
-ended_by n (heard.Unwritten item) = n
+ended_by n other = n
 
 -- the stop is this job's, by this refusal
 abbrev pub IsHaltOf : Halt → JobId → StepReply → Type 0

@@ -1,5 +1,5 @@
 -- What a run does: to its members, to the operator's seat, and to the out.
-use Rattle.std.specs.Prelude.{◌≡◌, ℕ, ◌-◌, ◌<◌, ◌≤◌, ◌++◌, [], List, Some, None, Result, Ok, Err, length, take, drop, slice_get, All}
+use Rattle.std.specs.Prelude.{◌≡◌, ℕ, ◌-◌, ◌<◌, ◌≤◌, ◌++◌, [], List, Some, None, Result, Err, length, take, drop, slice_get, All, vec_capacity}
 use Rattle.rt_base.specs.declared.ids.TxId.{TxId}
 use Rattle.rt_base.specs.declared.operation.Op.{Op}
 use Rattle.rt_base.specs.declared.operation.Outcome.{Outcome}
@@ -7,6 +7,9 @@ use Rattle.board.specs.Stories.{ended_of}
 use Rattle.step_journal.specs.declared.entry.Entry.{Entry}
 use Rattle.turn_cell.specs.Turn.{Begins}
 use Rattle.shared_plant.specs.Seats.{PlantFacts, SeatFacts, IsOf}
+use Rattle.step_journal.specs.History.{IsLegal}
+use Rattle.sim_run.specs.Outs.{StaysGood, IsEmptied}
+use Rattle.txn_threads.specs.declared.drain.Drain.{Drain}
 use Rattle.txn_threads.specs.declared.member.RunStop.{RunStop}
 use Rattle.txn_threads.specs.declared.member.RunStop.TheVariants.{Refused, NoPlan, Stopped}
 use Rattle.txn_threads.specs.declared.member.Halt.{Halt}
@@ -81,10 +84,8 @@ pub record CollectedTo {O : Type 0} (got lost : O → List Entry → Type 0) (s 
   pub lost_is : lost q (part t.seen to t.drained)
 
 abbrev pub IfStopped : Result (Unit {0}) RunStop → Type 0 → Type 0 → Type 0
-IfStopped (Ok x) P Q = Q
-IfStopped (Err (Refused job reply)) P Q = Q
-IfStopped (Err (NoPlan tx e)) P Q = Q
 IfStopped (Err Stopped) P Q = P
+IfStopped other P Q = Q
 
 -- no worker has a member
 abbrev pub NoMembers : {B Y : Type 0} → List (Worker B Y) → Type 0
@@ -136,3 +137,20 @@ abbrev pub HaltIs : {B Y : Type 0} → List (Worker B Y) → RunStop → Type 0
 HaltIs ws (Refused job r) = FirstHalt ws (halt.Refused job r)
 HaltIs ws (NoPlan tx e) = FirstHalt ws (halt.NoPlan tx e)
 HaltIs ws Stopped = Unit {0}
+
+-- What drains go through, before one: the operator's seat, an empty list, and an out that has lost none and may get what is drained.
+pub record CanDrain {B O : Type 0} (got lost good : O → List Entry → Type 0) (p : PlantFacts) (d : Drain B) (o : O) : Type 0 where
+  pub plant : IsOf p d.operator
+  pub operator : d.operator.tx ≡ None
+  pub spare : d.spare.items ≡ []
+  pub none_lost : lost o []
+  pub may : MayDrain (IsLegal p.set) got good d.operator o
+
+-- Some drains have moved what they could, the last one all that was kept if the list has places for it.
+pub record HasDrained {B O : Type 0} (good : O → List Entry → Type 0) (stops : O → ℕ) (p : PlantFacts) (d e : Drain B) (o q : O) : Type 0 where
+  pub operated : Operated d.operator e.operator
+  pub within : e.operator.drained ≤ length e.operator.seen
+  pub all : p.room ≤ vec_capacity d.spare → e.operator.drained ≡ length e.operator.seen
+  pub spare : IsEmptied d.spare e.spare
+  pub stops_more : stops o ≤ stops q
+  pub stays_good : StaysGood good o q

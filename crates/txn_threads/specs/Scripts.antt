@@ -5,7 +5,7 @@ use Rattle.rt_base.specs.declared.ids.JobId.{JobId}
 use Rattle.rt_base.specs.declared.operation.Op.{Op}
 use Rattle.rt_base.specs.declared.operation.Outcome.{Outcome}
 use Rattle.step_journal.specs.declared.entry.Entry.{Entry}
-use Rattle.step_journal.specs.declared.entry.Entry.TheVariants.{Planned, Step, Blocked, Idle}
+use Rattle.step_journal.specs.declared.entry.Entry.TheVariants.{Step, Blocked}
 use Rattle.step_journal.specs.Serial.{outcomes_of}
 
 abbrev pub job_of : TxId → ℕ → JobId
@@ -25,10 +25,9 @@ abbrev pub IsOwnOp : (ℕ → List Outcome → Op) → TxId → List (ℕ × Ent
 IsOwnOp gives tx before job op = (job.tx ≡ tx) × (op ≡ gives job.serial (own_outcomes before job))
 
 abbrev pub IsAsked : (ℕ → List Outcome → Op) → TxId → List (ℕ × Entry) → Entry → Type 0
-IsAsked gives tx before (Planned by tick) = Unit {0}
 IsAsked gives tx before (Step job op outcome over tick) = IsOwnOp gives tx before job op
 IsAsked gives tx before (Blocked job op by ceiling tick) = IsOwnOp gives tx before job op
-IsAsked gives tx before (Idle from to) = Unit {0}
+IsAsked gives tx before other = Unit {0}
 
 -- each Step and Blocked entry of the second list, in order after those of the first, is of this transaction, with the
 -- operation of its body

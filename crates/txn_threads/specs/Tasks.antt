@@ -17,13 +17,11 @@ use Rattle.txn_threads.specs.Scripts.{job_of, own_outcomes}
 -- what a task keeps of an answer
 abbrev pub heard_of : StepReply → Heard
 heard_of (reply.NoJob ended last) = Over ended
-heard_of (reply.NotYet running) = Nothing
 heard_of (reply.Undeclared item) = Undeclared item
 heard_of (reply.TooEarly left) = TooEarly left
 heard_of (reply.Unwritten item) = Unwritten item
 heard_of (reply.Full room) = Full
-heard_of (reply.Blocked by ceiling) = Nothing
-heard_of (reply.Done outcome over) = Nothing
+heard_of other = Nothing
 
 module _ {Y : Type 0} (gives : Y → ℕ → List Outcome → Op) (stands : Y → ℕ → List Outcome → Type 0) where
   -- The body stands where the steps of its present job have brought it, and no later job took a step.

@@ -8,6 +8,7 @@ mod places;
 mod round;
 mod run;
 mod task;
+mod tries;
 
 pub use drain::Drain;
 pub use gate::{Gate, NoGate};

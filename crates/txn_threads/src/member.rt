@@ -3,8 +3,8 @@ ghost use Rattle.std.specs.Prelude.{◌≡◌, None};
 ghost use Rattle.txn_threads.specs.Runs.{Cleared};
 
 use crate::places::Places;
-use crate::round::Came;
 use crate::task::{Heard, Task};
+use crate::tries::TryOutcome;
 use board::{Board, StepReply};
 use rt_base::{JobId, PlanRefused, TxId};
 use shared_plant::Seat;
@@ -102,8 +102,8 @@ pub struct Worker<B: Board, Y: Body> {
     pub(crate) places: Places,
     // the place of the member that it tries first
     pub(crate) first: usize,
-    // what came of its last try
-    pub(crate) came: Came,
+    // what came of its last part of a round
+    pub(crate) outcome: TryOutcome,
 }
 
 impl<B: Board, Y: Body> Worker<B, Y> {
@@ -116,7 +116,7 @@ impl<B: Board, Y: Body> Worker<B, Y> {
             halt: None,
             places: Places::none(),
             first: 0,
-            came: Came::NoJob,
+            outcome: TryOutcome::NoJob,
         }
     }
 
@@ -129,7 +129,7 @@ impl<B: Board, Y: Body> Worker<B, Y> {
             halt: _,
             places: _,
             first: _,
-            came: _,
+            outcome: _,
         } = self;
         members
     }

@@ -5,13 +5,13 @@ ghost use Rattle.shared_plant.specs.Seats.{IsOf};
 ghost use Rattle.sim_run.specs.Outs.{StaysGood, IsEmptied};
 ghost use Rattle.io_edge.specs.Causes.{Rose};
 ghost use Rattle.txn_threads.specs.Rounds.{Each, WorkerSits, WorkerRan};
-ghost use Rattle.txn_threads.specs.Runs.{MayRun, HasRun, IsDone, Operated, GotMore, MayDrain, FirstHalt, HaltIs, StopIs, run_stop, IfStopped, Collected, CollectedTo, part, Cleared, WorkerCleared, NoMembers};
+ghost use Rattle.txn_threads.specs.Runs.{MayRun, HasRun, IsDone, Operated, CanDrain, HasDrained, GotMore, MayDrain, FirstHalt, HaltIs, StopIs, run_stop, IfStopped, Collected, CollectedTo, part, Cleared, WorkerCleared, NoMembers};
 
 use crate::drain::Drain;
 use crate::gate::Gate;
 use crate::member::{Halt, Member, RunStop, Worker};
 use crate::places::{Homes, Places};
-use crate::round::{Came, go_on, has_plans, round};
+use crate::tries::TryOutcome;
 use board::Board;
 use rt_base::TxId;
 use shared_plant::Plant;
@@ -41,7 +41,7 @@ fn round_all<R: Threads + Sync, B: Board + Send, Y: Body + Send, G: Gate + Sync>
         &|_, worker: &mut Worker<B, Y>|
             requires { WorkerSits Y.gives Y.stands plant.now worker.old }
             ensures { WorkerRan Y.gives Y.stands plant.entry.now worker.old worker.new }
-        { round(plant, gate, worker) },
+        { worker.round(plant, gate) },
     );
 }
 
@@ -51,10 +51,10 @@ fn first_running<B: Board, Y: Body>(workers: &[Worker<B, Y>]) -> Option<TxId> {
     let mut running = None;
     for i in 0..workers.len() {
         let worker = &workers[i];
-        if has_plans(worker.members.as_slice()) {
+        if worker.has_plans() {
             return None;
         }
-        if let Came::NotYet(tx) = worker.came {
+        if let TryOutcome::NotYet(tx) = worker.outcome {
             running = running.or(Some(tx));
         }
     }
@@ -69,23 +69,18 @@ fn go_on_at<B: Board, Y: Body, G: Gate>(
     homes: &Homes,
     tx: TxId,
     gate: &G,
-) -> Came
+) -> TryOutcome
     requires sit { All (WorkerSits Y.gives Y.stands plant.now) workers.old }
     ensures ran { Each (WorkerRan Y.gives Y.stands plant.now) workers.old workers.new }
 {
     let Some((at, place)) = homes.of(tx) else {
-        return Came::NoJob;
+        return TryOutcome::NoJob;
     };
     if at >= workers.len() {
-        return Came::NoJob;
+        return TryOutcome::NoJob;
     }
     let worker = &mut workers[at];
-    go_on(plant, gate, worker, place)
-}
-
-// Whether no job runs, or a stop was met.
-fn is_over(came: Came) -> bool {
-    matches!(came, Came::NoJob | Came::Stop)
+    worker.go_on(plant, gate, place)
 }
 
 // Turns in the thread of the caller, each of the member whose job runs, as far as the answers tell: the first is that of a
@@ -102,13 +97,11 @@ fn chain<B: Board, Y: Body, G: Gate>(
 {
     let mut running = tx;
     for _ in 0..TURNS {
-        let came = go_on_at(plant, workers, homes, running, gate);
-        if let Came::NotYet(tx) = came {
-            running = tx;
-        } else if let Came::Full = came {
-            return Some(running);
-        } else if is_over(came) {
-            return None;
+        match go_on_at(plant, workers, homes, running, gate) {
+            TryOutcome::NotYet(tx) => running = tx,
+            TryOutcome::Full => return Some(running),
+            TryOutcome::NoJob => return None,
+            _ => {}
         }
     }
     Some(running)
@@ -143,20 +136,11 @@ fn drain_all<R: Wait, B: Board, O: EntryOut>(
     drain: &mut Drain<B>,
     out: &mut O,
 ) -> Result<(), Stopped>
-    requires plant { IsOf plant.now drain.old.operator }
-    requires operator { drain.old.operator.tx ≡ None }
-    requires spare { drain.old.spare.items ≡ [] }
-    requires lost { O.lost out.old [] }
-    requires good { MayDrain (IsLegal plant.now.set) O.got O.good drain.old.operator out.old }
-    ensures operated { Operated drain.old.operator drain.new.operator }
-    ensures within { drain.new.operator.drained ≤ length drain.new.operator.seen }
-    ensures all { plant.now.room ≤ vec_capacity drain.old.spare → drain.new.operator.drained ≡ length drain.new.operator.seen }
-    ensures spare { IsEmptied drain.old.spare drain.new.spare }
-    ensures stops { O.stops out.old ≤ O.stops out.new }
-    ensures ok { IfOk result (λ _. O.lost out.new [] × GotMore O.got out.old out.new (part drain.new.operator.seen drain.old.operator.drained drain.new.operator.drained)) }
-    ensures may { IfOk result (λ _. MayDrain (IsLegal plant.now.set) O.got O.good drain.new.operator out.new) }
-    ensures good { StaysGood O.good out.old out.new }
-    ensures err { IfErr result (λ _. Rose (O.stops out.old) (O.stops out.new) × O.lost out.new (part drain.new.operator.seen drain.old.operator.drained drain.new.operator.drained) × GotMore O.got out.old out.new []) }
+    requires { CanDrain O.got O.lost O.good plant.now drain.old out.old }
+    ensures drained { HasDrained O.good O.stops plant.now drain.old drain.new out.old out.new }
+    ensures can { IfOk result (λ _. CanDrain O.got O.lost O.good plant.now drain.new out.new) }
+    ensures got { IfOk result (λ _. GotMore O.got out.old out.new (part drain.new.operator.seen drain.old.operator.drained drain.new.operator.drained)) }
+    ensures cut { IfErr result (λ _. Rose (O.stops out.old) (O.stops out.new) × CollectedTo O.got O.lost drain.old.operator drain.new.operator out.old out.new) }
 {
     plant.drain(rt, &mut drain.operator, usize::MAX, &mut drain.spare);
     let put = out.put(drain.spare.as_slice());
@@ -267,7 +251,7 @@ fn clear_worker<B: Board, Y: Body>(worker: &mut Worker<B, Y>)
     worker.halt = None;
     worker.places = places_of(worker.members.as_slice());
     worker.first = 0;
-    worker.came = Came::NoJob;
+    worker.outcome = TryOutcome::NoJob;
 }
 
 fn clear_all<B: Board, Y: Body>(workers: &mut [Worker<B, Y>])
@@ -290,21 +274,12 @@ fn rounds<R: Threads + Wait + Sync, B: Board + Send, Y: Body + Send, G: Gate + S
 ) -> Result<(), RunStop>
     requires sit { All (WorkerSits Y.gives Y.stands plant.now) workers.old }
     requires clear { All (λ w. w.halt ≡ None) workers.old }
-    requires plant { IsOf plant.now drain.old.operator }
-    requires operator { drain.old.operator.tx ≡ None }
-    requires spare { drain.old.spare.items ≡ [] }
-    requires lost { O.lost out.old [] }
-    requires good { MayDrain (IsLegal plant.now.set) O.got O.good drain.old.operator out.old }
+    requires drain { CanDrain O.got O.lost O.good plant.now drain.old out.old }
     ensures ran { Each (WorkerRan Y.gives Y.stands plant.now) workers.old workers.new }
     ensures done { IfOk result (λ _. All (λ w. All (λ m. m.jobs ≤ m.ended) w.members.items) workers.new) }
     ensures none { IfOk result (λ _. All (λ w. w.halt ≡ None) workers.new) }
     ensures stop { IfErr result (λ s. HaltIs workers.new s) }
-    ensures operated { Operated drain.old.operator drain.new.operator }
-    ensures within { drain.new.operator.drained ≤ length drain.new.operator.seen }
-    ensures all { plant.now.room ≤ vec_capacity drain.old.spare → drain.new.operator.drained ≡ length drain.new.operator.seen }
-    ensures good { StaysGood O.good out.old out.new }
-    ensures spare { IsEmptied drain.old.spare drain.new.spare }
-    ensures stops { O.stops out.old ≤ O.stops out.new }
+    ensures drained { HasDrained O.good O.stops plant.now drain.old drain.new out.old out.new }
     ensures got { IfStopped result (Rose (O.stops out.old) (O.stops out.new) × CollectedTo O.got O.lost drain.old.operator drain.new.operator out.old out.new) (Collected O.got O.lost drain.old.operator drain.new.operator out.old out.new) }
 {
     let Ok(()) = drain_all(rt, plant, drain, out) else {

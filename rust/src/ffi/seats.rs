@@ -3,9 +3,7 @@ use std::cell::UnsafeCell;
 use std::ffi::c_void;
 use std::ptr::null_mut;
 
-use crate::ffi::{
-    told, Entry, Item, Refusal, StepAnswer, Stored, Tables, Time, Together, Transaction,
-};
+use crate::ffi::{told, Entry, Operation, RawTables, Refusal, StepAnswer, Stored, Tables, Time};
 
 // A handle as C has it: null while it is closed.
 #[repr(C)]
@@ -16,14 +14,7 @@ struct RawSeat {
 extern "C" {
     fn rtdb_plant_open(
         operator_seat: *mut RawSeat,
-        items: *const Item,
-        item_count: usize,
-        transactions: *const Transaction,
-        transaction_count: usize,
-        together: *const Together,
-        together_count: usize,
-        numbers: *const u32,
-        number_count: usize,
+        tables: *const RawTables,
         room: usize,
         refusal: *mut Refusal,
     ) -> u32;
@@ -36,9 +27,7 @@ extern "C" {
     fn rtdb_seat_step(
         seat: *mut RawSeat,
         serial: u32,
-        operation: u32,
-        item: u32,
-        value: i64,
+        operation: Operation,
         answer: *mut StepAnswer,
     ) -> u32;
     fn rtdb_seat_plan(seat: *mut RawSeat, transaction: u32, tick: u64, answer: *mut Time) -> u32;
@@ -67,22 +56,8 @@ impl SeatHandle {
     pub(crate) fn open(tables: &Tables, room: usize) -> Result<SeatHandle, (u32, Refusal)> {
         let mut raw = RawSeat { at: null_mut() };
         let mut refusal = Refusal::default();
-        // SAFETY: each pointer and count is that of a slice, and the others are of locals.
-        let status = unsafe {
-            rtdb_plant_open(
-                &mut raw,
-                tables.items.as_ptr(),
-                tables.items.len(),
-                tables.transactions.as_ptr(),
-                tables.transactions.len(),
-                tables.together.as_ptr(),
-                tables.together.len(),
-                tables.numbers.as_ptr(),
-                tables.numbers.len(),
-                room,
-                &mut refusal,
-            )
-        };
+        // SAFETY: each pointer and count of the tables is that of a slice, and the others are of locals.
+        let status = unsafe { rtdb_plant_open(&mut raw, &tables.raw(), room, &mut refusal) };
         match status {
             0 => Ok(SeatHandle(UnsafeCell::new(raw))),
             _ => Err((status, refusal)),
@@ -98,17 +73,11 @@ impl SeatHandle {
         told(status, (SeatHandle(UnsafeCell::new(raw)), transaction))
     }
 
-    pub(crate) fn step(
-        &mut self,
-        serial: u32,
-        operation: u32,
-        item: u32,
-        value: i64,
-    ) -> Result<StepAnswer, u32> {
+    pub(crate) fn step(&mut self, serial: u32, operation: Operation) -> Result<StepAnswer, u32> {
         let mut answer = StepAnswer::default();
         // SAFETY: as above.
         told(
-            unsafe { rtdb_seat_step(self.0.get(), serial, operation, item, value, &mut answer) },
+            unsafe { rtdb_seat_step(self.0.get(), serial, operation, &mut answer) },
             answer,
         )
     }

@@ -47,6 +47,18 @@ struct Together {
 }
 
 #[repr(C)]
+struct RawTables {
+    items: *const Item,
+    item_count: usize,
+    transactions: *const Transaction,
+    transaction_count: usize,
+    together: *const Together,
+    together_count: usize,
+    ids: *const u32,
+    id_count: usize,
+}
+
+#[repr(C)]
 #[derive(Clone, Copy, PartialEq, Eq, Debug)]
 struct Refusal {
     rule: u32,
@@ -70,6 +82,14 @@ pub struct Time {
     pub job: Job,
     pub tick: u64,
     pub count: u64,
+}
+
+#[repr(C)]
+#[derive(Clone, Copy)]
+pub struct Operation {
+    pub operation: u32,
+    pub item: u32,
+    pub value: i64,
 }
 
 #[repr(C)]
@@ -116,44 +136,14 @@ pub struct EntryRecord {
     pub answer: Step,
 }
 
-type Open = unsafe extern "C" fn(
-    *mut Raw,
-    *const Item,
-    usize,
-    *const Transaction,
-    usize,
-    *const Together,
-    usize,
-    *const u32,
-    usize,
-    usize,
-    *mut Refusal,
-) -> u32;
+type Open = unsafe extern "C" fn(*mut Raw, *const RawTables, usize, *mut Refusal) -> u32;
 
 extern "C" {
-    fn rtdb_open(
-        db: *mut Raw,
-        items: *const Item,
-        item_count: usize,
-        transactions: *const Transaction,
-        transaction_count: usize,
-        together: *const Together,
-        together_count: usize,
-        numbers: *const u32,
-        number_count: usize,
-        room: usize,
-        refusal: *mut Refusal,
-    ) -> u32;
+    fn rtdb_open(db: *mut Raw, tables: *const RawTables, room: usize, refusal: *mut Refusal)
+        -> u32;
     fn rtdb_open_trial(
         db: *mut Raw,
-        items: *const Item,
-        item_count: usize,
-        transactions: *const Transaction,
-        transaction_count: usize,
-        together: *const Together,
-        together_count: usize,
-        numbers: *const u32,
-        number_count: usize,
+        tables: *const RawTables,
         room: usize,
         refusal: *mut Refusal,
     ) -> u32;
@@ -161,14 +151,7 @@ extern "C" {
     fn rtdb_plan(db: *mut Raw, transaction: u32, tick: u64, answer: *mut Time) -> u32;
     fn rtdb_plan_next(db: *mut Raw, transaction: u32, answer: *mut Time) -> u32;
     fn rtdb_idle(db: *mut Raw, answer: *mut Time) -> u32;
-    fn rtdb_step(
-        db: *mut Raw,
-        job: Job,
-        operation: u32,
-        item: u32,
-        value: i64,
-        answer: *mut Step,
-    ) -> u32;
+    fn rtdb_step(db: *mut Raw, job: Job, operation: Operation, answer: *mut Step) -> u32;
     fn rtdb_running(db: *mut Raw, job: *mut Job) -> u32;
     fn rtdb_pending(db: *mut Raw, transaction: u32, job: *mut Job) -> u32;
     fn rtdb_ended(db: *mut Raw, transaction: u32, count: *mut u32) -> u32;
@@ -236,21 +219,17 @@ impl Handle {
         };
         let mut refusal = before;
         let open: Open = if admitted { rtdb_open } else { rtdb_open_trial };
-        let status = unsafe {
-            open(
-                &mut self.0,
-                items.as_ptr(),
-                items.len(),
-                transactions.as_ptr(),
-                transactions.len(),
-                together.as_ptr(),
-                together.len(),
-                numbers.as_ptr(),
-                numbers.len(),
-                room,
-                &mut refusal,
-            )
+        let tables = RawTables {
+            items: items.as_ptr(),
+            item_count: items.len(),
+            transactions: transactions.as_ptr(),
+            transaction_count: transactions.len(),
+            together: together.as_ptr(),
+            together_count: together.len(),
+            ids: numbers.as_ptr(),
+            id_count: numbers.len(),
         };
+        let status = unsafe { open(&mut self.0, &tables, room, &mut refusal) };
         assert_eq!(refusal == before, status == 0 || status == OPEN);
         status
     }
@@ -271,8 +250,8 @@ impl Handle {
         unsafe { rtdb_idle(&mut self.0, answer) }
     }
 
-    pub fn step(&mut self, job: Job, code: (u32, u32, i64), answer: &mut Step) -> u32 {
-        unsafe { rtdb_step(&mut self.0, job, code.0, code.1, code.2, answer) }
+    pub fn step(&mut self, job: Job, operation: Operation, answer: &mut Step) -> u32 {
+        unsafe { rtdb_step(&mut self.0, job, operation, answer) }
     }
 
     pub fn running(&mut self, job: &mut Job) -> u32 {
@@ -346,14 +325,28 @@ pub fn job_record(job: JobId) -> Job {
     }
 }
 
+/// An operation of this number, with no item and no value.
+pub fn numbered(operation: u32) -> Operation {
+    Operation {
+        operation,
+        item: 0,
+        value: 0,
+    }
+}
+
 /// The operation as its three numbers.
-pub fn code_of(op: Op) -> (u32, u32, i64) {
-    match op {
+pub fn operation_record(op: Op) -> Operation {
+    let (operation, item, value) = match op {
         Op::Read(item) => (0, item.0, 0),
         Op::Write(item, value) => (1, item.0, value),
         Op::Compute => (2, 0, 0),
         Op::Commit => (3, 0, 0),
         Op::Quit => (4, 0, 0),
+    };
+    Operation {
+        operation,
+        item,
+        value,
     }
 }
 
@@ -488,7 +481,11 @@ pub fn step_record(reply: StepReply) -> Step {
 
 pub fn entry_record(entry: Entry) -> EntryRecord {
     let asked = |kind, job, op, tick, answer| {
-        let (operation, item, value) = code_of(op);
+        let Operation {
+            operation,
+            item,
+            value,
+        } = operation_record(op);
         EntryRecord {
             kind,
             operation,

@@ -17,7 +17,7 @@ returns-in-Ok-clause-passed c =
     let same = kept_from _ _ _ _ _ _ c.into_vec.ensures c.into_vec-2.ensures c.into_vec-3.ensures c.requires in
     sym (ap rate_refusal same) ∙ c.in-Ok.ensures.passed
 
-pub returns-else-wants_memory-clause-refused : goal.returns-else-wants_memory-clause-refused
-returns-else-wants_memory-clause-refused c =
+pub returns-in_default-clause-refused : goal.returns-in_default-clause-refused
+returns-in_default-clause-refused c =
     let same = kept_from _ _ _ _ _ _ c.into_vec.ensures c.into_vec-2.ensures c.into_vec-3.ensures c.requires in
-    sym (ap rate_refusal same) ∙ is_rate_refusal _ c.in-Err.error (sym c.wants_memory.ensures ∙ c.if-wants_memory.false) c.in-Err.ensures.refused
+    sym (ap rate_refusal same) ∙ is_rate_refusal _ c.in-Err.error c.in_default.not-OutOfMemory c.in-Err.ensures.refused

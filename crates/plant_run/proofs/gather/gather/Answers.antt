@@ -11,7 +11,7 @@ leave-requires g c =
     let counts = team_counts c.loop.workers.items c.pop.new.self.items w e in
     let long : vec_len w.members ≡ length (team_of w) = search rules in
     let same = ap (λ (v : Vec (Member g.row.B.Denot g.row.Y.Denot) Global). vec_len v) c.into_members.ensures.parts in
-    record { places = omega (arith, i.room, counts, long, same) }
+    record { places = omega (arith, i.len, i.places, counts, long, same) }
 
 pub loop-preserved : goal.loop-preserved
 loop-preserved g c =
@@ -24,7 +24,7 @@ loop-preserved g c =
     record {
       seats = gone_more (c.args.seats.now.items ++ seats_in c.args.workers.items) c.loop.seats.items c.leave.new.seats.items c.loop.workers.items c.pop.new.self.items w i.seats e
           (c.leave.ensures.seats ∙ ap (λ (v : Vec (Member g.row.B.Denot g.row.Y.Denot) Global). c.loop.seats.items ++ seats_of v.items) c.into_members.ensures.parts);
-      room = omega (arith, i.room, counts, long, same, c.leave.ensures.len, c.leave.ensures.places);
+      len = omega (arith, i.len, counts, long, same, c.leave.ensures.len);
       left = omega (arith, one, i.left);
       places = c.leave.ensures.places ∙ i.places;
     }

@@ -1,7 +1,7 @@
-use Rattle.std.proofs.Common.{List, ℕ, ◌++◌, ap, ◌∙◌}
+use Rattle.std.proofs.Common.{◌++◌, ap, ◌∙◌}
 use Rattle.txn_set.specs.declared.decl.TxnDecl.{TxnDecl}
 use Rattle.txn_set.specs.Set.{Set, txn_of, no_txn}
-use Rattle.report_text.proofs.RowLaws.{next_row, all_rows}
+use Rattle.report_text.proofs.RowLaws.{next_row}
 use Rattle.refusal_lines.specs.Lines.{rate_line}
 use Rattle.refusal_lines.proofs.rates.rates_text.Goals as goal
 

@@ -1,7 +1,9 @@
-use Rattle.report_export.proofs.Chains.{chain7}
+use Rattle.std.proofs.Common.{◌≡◌, ◌++◌, codes, rules}
+use Rattle.report_export.specs.Json.{valued}
+use Rattle.report_export.proofs.Chains.{joined, begun}
 use Rattle.report_export.proofs.declared.add_item.Goals as goal
 
 pub returns : goal.returns
 returns c =
-    chain7 _ _ _ _ _ _ _ _ _ _ _ _ _ _ _ _
-    c.reserve.ensures.items c.put.ensures.items c.put_name.ensures.items c.put-2.ensures.items c.put_kind.ensures.items c.put-3.ensures.items c.put_initial.ensures.items c.put-4.ensures.items
+    let value : c.put_valued.new.into.items ≡ c.put_kind.new.into.items ++ valued (codes ",\"value\":") c.args.decl.now.initial = search rules in
+    search (rules, joined, begun) depth 12

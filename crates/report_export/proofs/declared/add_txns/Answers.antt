@@ -1,25 +1,20 @@
+use Rattle.std.proofs.Common.{List, get_or, ap, ◌∙◌}
+use Rattle.std.proofs.lemmas.List.{get_or_read}
+use Rattle.txn_set.specs.declared.decl.TxnDecl.{TxnDecl}
 use Rattle.txn_set.specs.Set.{no_txn}
-use Rattle.report_export.specs.Json.{txn_json}
-use Rattle.report_text.proofs.RowLaws.{next_row, all_rows}
 use Rattle.report_text.proofs.Named.{reads_named, writes_named}
 use Rattle.report_export.proofs.declared.add_txns.Goals as goal
 
 pub add_txn-requires-clause-reads : goal.add_txn-requires-clause-reads
 add_txn-requires-clause-reads c =
-    reads_named c.args.names.now c.args.set.now c.loop-i.i c.txn.result.now c.requires c.is_compiled.ensures
-    (rw c.txns-i-end.ensures at c.loop-i-test.true) c.txn.ensures
+    reads_named c.args.names.now c.args.set.now c.loop-i.i c.decl-item.result c.requires c.is_compiled.ensures
+    (rw c.txns-decl-items.ensures at c.loop-i-test.true)
+    (get_or_read _ c.loop-i.i c.decl-item.result c.loop-i-test.true c.decl-item.is no_txn
+    ∙ ap (λ (l : List TxnDecl). get_or l c.loop-i.i no_txn) c.txns-decl-items.ensures)
 
 pub add_txn-requires-clause-writes : goal.add_txn-requires-clause-writes
 add_txn-requires-clause-writes c =
-    writes_named c.args.names.now c.args.set.now c.loop-i.i c.txn.result.now c.requires c.is_compiled.ensures
-    (rw c.txns-i-end.ensures at c.loop-i-test.true) c.txn.ensures
-
-pub loop-i-preserved : goal.loop-i-preserved
-loop-i-preserved c =
-    next_row (txn_json c.args.names.now) _ _ _ c.args.set.now.txns c.loop-i.i no_txn
-    (rw c.txns-i-end.ensures at c.loop-i-test.true) (rw c.txn.ensures at c.in_ok-add_txn.ensures) c.loop-i.invariant
-
-pub returns : goal.returns
-returns c =
-    all_rows (txn_json c.args.names.now) _ _ c.args.set.now.txns c.loop-i.i
-    (rw c.txns-i-end.ensures at c.loop-i-test.false) c.loop-i.invariant
+    writes_named c.args.names.now c.args.set.now c.loop-i.i c.decl-item.result c.requires c.is_compiled.ensures
+    (rw c.txns-decl-items.ensures at c.loop-i-test.true)
+    (get_or_read _ c.loop-i.i c.decl-item.result c.loop-i-test.true c.decl-item.is no_txn
+    ∙ ap (λ (l : List TxnDecl). get_or l c.loop-i.i no_txn) c.txns-decl-items.ensures)

@@ -1,25 +1,20 @@
-use Rattle.std.proofs.Common.{◌≡◌, ℕ, ◌<◌, List, ◌++◌, length, get_or, vec_len, pos, Option, None, ap, sym, ◌∙◌, arith, rules}
+use Rattle.std.proofs.Common.{◌≡◌, ℕ, ◌<◌, List, ◌++◌, length, get_or, vec_len, Option, None, ap, ◌∙◌, arith, rules}
 use Rattle.std.specs.Prelude.{Bool, is_some}
 use Rattle.std.proofs.lemmas.List.{get_or_read}
 use Rattle.rt_base.specs.declared.ids.JobId.{JobId}
 use Rattle.rt_base.specs.declared.name.Names.{Names}
-use Rattle.item_model.specs.declared.decl.ItemDecl.{ItemDecl}
-use Rattle.item_model.specs.declared.decl.ItemKind.TheVariants.{Sensor}
-use Rattle.item_model.specs.Kinds.{validity_of_kind}
+use Rattle.item_model.specs.Kinds.{validity_of}
 use Rattle.txn_set.specs.Set.{Set}
 use Rattle.step_journal.specs.declared.entry.Entry.{Entry}
 use Rattle.set_admission.specs.Bounds.{age_of}
 use Rattle.job_rows.specs.declared.row.JobRow.{JobRow}
-use Rattle.report_text.proofs.RowLaws.{next_row}
+use Rattle.report_text.proofs.RowLaws.{no_item, next_row}
 use Rattle.report_export.specs.Worsts.{worst, commit_of, ages}
 use Rattle.report_export.specs.Ages.{commit_at}
 use Rattle.report_export.specs.Texts.{bound_in, age_text, item_lines}
 use Rattle.report_export.proofs.Aging.{are_commits, ages_length, are_ages}
-use Rattle.report_export.proofs.SumTelling.{validity_at, rows_in}
+use Rattle.report_export.proofs.SumTelling.{rows_in}
 use Rattle.report_export.proofs.summing.add_items.Goals as goal
-
-abbrev no_item : ItemDecl
-no_item = record { kind = Sensor 0; initial = pos 0 }
 
 pub index-requires : goal.index-requires
 index-requires c =
@@ -27,11 +22,6 @@ index-requires c =
     let count : length c.in_ok-worsts.worsts.items ≡ n = ap length c.in_ok-worsts.ensures ∙ ages_length n c.as_slice.result.now c.args.entries.now in
     let same : vec_len c.in_ok-worsts.worsts ≡ length c.in_ok-worsts.worsts.items = search rules in
     omega (arith, c.loop-i-test.true, count, same)
-
-pub add_age-requires-clause-kind : goal.add_age-requires-clause-kind
-add_age-requires-clause-kind c =
-    validity_at c.args.summed.set.now.items c.loop-i.i no_item (omega (arith, c.loop-i-test.true, ap length c.items-items.ensures))
-    ∙ ap (λ (l : List ItemDecl). validity_of_kind (get_or l c.loop-i.i no_item).kind) (sym c.items-items.ensures)
 
 pub loop-i-preserved : goal.loop-i-preserved
 loop-i-preserved c =
@@ -56,7 +46,5 @@ loop-i-preserved c =
     let out : List ℕ = c.loop-i.into.items in
     let bound : Option ℕ = bound_in admitted (age_of set i) in
     next_row (item_lines names set admitted rows entries) _ _ _ set.items i no_item (omega (arith, lt, ap length c.items-items.ensures))
-    (c.in_ok-add_age.ensures
-    ∙ (ap (λ (o : Option ℕ). out ++ age_text names i o bound (validity_of_kind (get_or c.items-items.result.now i no_item).kind)) is
-    ∙ ap (λ (l : List ItemDecl). out ++ age_text names i (worst (ages rows i entries)) bound (validity_of_kind (get_or l i no_item).kind)) c.items-items.ensures))
+    (c.in_ok-add_age.ensures ∙ ap (λ (o : Option ℕ). out ++ age_text names i o bound (validity_of set.items i)) is)
     c.loop-i.invariant

@@ -1,4 +1,4 @@
-use Rattle.std.proofs.Common.{◌≡◌, ℕ, ◌+◌, ◌-◌, ◌<◌, ◌^◌, List, length, drop, get_or, None, sym, subst, ◌∙◌, arith, length-drop}
+use Rattle.std.proofs.Common.{ℕ, ◌+◌, ◌-◌, ◌<◌, ◌^◌, List, length, drop, get_or, None, sym, subst, ◌∙◌, arith, length-drop}
 use Rattle.std.proofs.lemmas.List.Elements.{All-drop}
 use Rattle.job_rows.specs.declared.row.JobRow.{JobRow}
 use Rattle.report_export.specs.declared.tally.Tally.{Tally}

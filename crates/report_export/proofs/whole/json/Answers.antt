@@ -1,9 +1,8 @@
-use Rattle.std.proofs.Common.{◌∙◌, sym, subst, ap, arith, length}
-use Rattle.std.specs.Prelude.{is_some}
+use Rattle.std.proofs.Common.{◌∙◌, sym, subst, ap, arith, length, rules}
 use Rattle.std.specs.List.{All}
 use Rattle.board.proofs.Counts.{items_count}
 use Rattle.report_text.specs.Texts.{KnownRow}
-use Rattle.report_export.proofs.Telling.{whole_json}
+use Rattle.report_export.proofs.Chains.{joined, begun}
 use Rattle.report_export.proofs.whole.json.Goals as goal
 
 pub add_entries-requires : goal.add_entries-requires
@@ -25,7 +24,6 @@ add_closing-requires-clause-few c =
 
 pub returns : goal.returns
 returns c =
-    whole_json c.args.names.now c.args.set.now (is_some c.args.bounds) c.args.entries.now c.as_slice.result.now c.as_slice-2.result.now
-    c.new-text.result.items c.add_opening.new.into.items c.add_entries.new.into.items c.add_closing.new.into.items
-    c.new-text.ensures.items (c.as_slice.ensures ∙ c.in_ok-rows.ensures) (c.as_slice-2.ensures ∙ c.requires.last)
-    c.in_ok-add_opening.ensures c.in_ok-add_entries.ensures c.in_ok-add_closing.ensures
+    let opening = rw c.new-text.ensures.items at c.in_ok-add_opening.ensures in
+    let closing = rw (c.as_slice.ensures ∙ c.in_ok-rows.ensures, c.as_slice-2.ensures ∙ c.requires.last) at c.in_ok-add_closing.ensures in
+    search (rules, joined, begun, opening, c.in_ok-add_entries.ensures, closing)

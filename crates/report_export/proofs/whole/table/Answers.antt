@@ -1,7 +1,7 @@
-use Rattle.std.proofs.Common.{◌∙◌, sym, subst}
+use Rattle.std.proofs.Common.{ℕ, List, ◌++◌, ◌∙◌, ap, sym, subst}
 use Rattle.std.specs.List.{All}
 use Rattle.report_text.specs.Texts.{KnownRow}
-use Rattle.report_export.proofs.Telling.{whole_table}
+use Rattle.report_export.specs.Table.{table_with}
 use Rattle.report_export.proofs.whole.table.Goals as goal
 
 pub add_table-requires : goal.add_table-requires
@@ -11,5 +11,6 @@ add_table-requires c =
 
 pub returns : goal.returns
 returns c =
-    whole_table c.args.names.now c.args.set.now c.args.entries.now c.as_slice.result.now c.new-text.result.items c.add_table.new.into.items
-    c.new-text.ensures.items (c.as_slice.ensures ∙ c.in_ok-rows.ensures) c.in_ok-add_table.ensures
+    c.in_ok-add_table.ensures
+    ∙ (ap (λ (t : List ℕ). t ++ table_with c.args.names.now c.as_slice.result.now) c.new-text.ensures.items
+    ∙ ap (table_with c.args.names.now) (c.as_slice.ensures ∙ c.in_ok-rows.ensures))

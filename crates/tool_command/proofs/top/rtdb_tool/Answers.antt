@@ -2,7 +2,8 @@ use Rattle.std.proofs.Common.{rules, ◌≡◌, Option, None, Some, sym, subst}
 use Rattle.tool_command.specs.declared.command.ToolCommand.{ToolCommand}
 use Rattle.tool_command.specs.Commands.{command_of}
 use Rattle.tool_command.specs.Answers.{Answers, IsDue}
-use Rattle.tool_command.proofs.Due.{complete}
+use Rattle.command_replies.proofs.Plain.{complete}
+use Rattle.tool_command.proofs.Due.{is_due}
 use Rattle.tool_command.proofs.top.rtdb_tool.Goals as goal
 
 pub returns-in-Ok-None-clause-answer : goal.returns-in-Ok-None-clause-answer
@@ -15,12 +16,12 @@ returns-in-Ok-None-clause-answer g c =
 pub returns-in-Ok-Some-clause-complete : goal.returns-in-Ok-Some-clause-complete
 returns-in-Ok-Some-clause-complete g c = λ due is no_read no_write.
     let some : command_of c.args.words.now ≡ Some c.in-Ok-Some.command = search rules in
-    complete (Some c.in-Ok-Some.command) _ _ _ _ c.answer.result due _ _ c.answer.ensures.answer c.answer.ensures.read c.answer.ensures.write
-    (subst (λ (o : Option ToolCommand). IsDue o (g.S.Source.left c.args.source.now) due) some is) no_read no_write
+    complete _ _ _ c.answer.result due _ _ c.answer.ensures.answer c.answer.ensures.read c.answer.ensures.write
+    (is_due (Some c.in-Ok-Some.command) _ _ due (subst (λ (o : Option ToolCommand). IsDue o (g.S.Source.left c.args.source.now) due) some is)) no_read no_write
 
 pub returns-in-Ok-None-clause-complete : goal.returns-in-Ok-None-clause-complete
 returns-in-Ok-None-clause-complete g c = λ due is no_read no_write.
     let left = g.S.Source.left c.args.source.now in
     let none : command_of c.args.words.now ≡ None = search rules in
-    complete None left left _ _ c.answer_usage.result due ⊥ _ (c.answer_usage.ensures.answer left) c.answer_usage.ensures.read c.answer_usage.ensures.write
-    (subst (λ (o : Option ToolCommand). IsDue o left due) none is) (λ no. no) no_write
+    complete _ _ _ c.answer_usage.result due ⊥ _ (c.answer_usage.ensures.answer left) c.answer_usage.ensures.read c.answer_usage.ensures.write
+    (is_due None left left due (subst (λ (o : Option ToolCommand). IsDue o left due) none is)) (λ no. no) no_write

@@ -4,14 +4,14 @@ use Rattle.txn_threads.proofs.run.chain.Goals as goal
 pub loop-init : goal.loop-init
 loop-init g c = workers_refl g.Y.Body.gives g.Y.Body.stands c.args.plant.now c.args.workers.now c.requires.sit
 
-pub go_on_at-came-requires : goal.go_on_at-came-requires
-go_on_at-came-requires g c = record { sit = workers_sit g.Y.Body.gives g.Y.Body.stands c.args.plant.now c.args.workers.now c.loop.workers c.loop.invariant }
+pub go_on_at-requires : goal.go_on_at-requires
+go_on_at-requires g c = record { sit = workers_sit g.Y.Body.gives g.Y.Body.stands c.args.plant.now c.args.workers.now c.loop.workers c.loop.invariant }
 
 pub returns-in-Full : goal.returns-in-Full
-returns-in-Full g c = record { ran = workers_trans g.Y.Body.gives g.Y.Body.stands c.args.plant.now c.args.workers.now c.loop.workers c.go_on_at-came.new.workers c.loop.invariant c.go_on_at-came.ensures.ran }
+returns-in-Full g c = record { ran = workers_trans g.Y.Body.gives g.Y.Body.stands c.args.plant.now c.args.workers.now c.loop.workers c.go_on_at.new.workers c.loop.invariant c.go_on_at.ensures.ran }
 
-pub returns-then-is_over : goal.returns-then-is_over
-returns-then-is_over g c = record { ran = workers_trans g.Y.Body.gives g.Y.Body.stands c.args.plant.now c.args.workers.now c.loop.workers c.go_on_at-came.new.workers c.loop.invariant c.go_on_at-came.ensures.ran }
+pub returns-in-NoJob : goal.returns-in-NoJob
+returns-in-NoJob g c = record { ran = workers_trans g.Y.Body.gives g.Y.Body.stands c.args.plant.now c.args.workers.now c.loop.workers c.go_on_at.new.workers c.loop.invariant c.go_on_at.ensures.ran }
 
 pub loop-preserved : goal.loop-preserved
-loop-preserved g c = workers_trans g.Y.Body.gives g.Y.Body.stands c.args.plant.now c.args.workers.now c.loop.workers c.go_on_at-came.new.workers c.loop.invariant c.go_on_at-came.ensures.ran
+loop-preserved g c = workers_trans g.Y.Body.gives g.Y.Body.stands c.args.plant.now c.args.workers.now c.loop.workers c.go_on_at.new.workers c.loop.invariant c.go_on_at.ensures.ran

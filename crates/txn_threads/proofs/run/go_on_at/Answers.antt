@@ -13,13 +13,13 @@ returns-then-at-workers g c = record { ran = workers_refl g.Y.Body.gives g.Y.Bod
 pub go_on-requires : goal.go_on-requires
 go_on-requires g c =
     let is = c.index-workers-at.is in
-    record { sits = subst (WorkerSits g.Y.Body.gives g.Y.Body.stands c.args.plant.now) is (at_place (WorkerSits g.Y.Body.gives g.Y.Body.stands c.args.plant.now) c.args.workers.now c.in-Some.at c.index-workers-at.result c.requires.sit c.if-at-workers.false is) }
+    subst (WorkerSits g.Y.Body.gives g.Y.Body.stands c.args.plant.now) is (at_place (WorkerSits g.Y.Body.gives g.Y.Body.stands c.args.plant.now) c.args.workers.now c.in-Some.at c.index-workers-at.result c.requires.sit c.if-at-workers.false is)
 
 pub returns : goal.returns
 returns g c =
     let ws = c.args.workers.now in
     let is = c.index-workers-at.is in
     record {
-      ran = workers_step g.Y.Body.gives g.Y.Body.stands c.args.plant.now ws ws c.in-Some.at c.index-workers-at.result c.go_on.new.worker (workers_refl g.Y.Body.gives g.Y.Body.stands c.args.plant.now ws c.requires.sit) c.if-at-workers.false is
-          (subst (λ w. WorkerRan g.Y.Body.gives g.Y.Body.stands c.args.plant.now w c.go_on.new.worker) (sym is) c.go_on.ensures.ran);
+      ran = workers_step g.Y.Body.gives g.Y.Body.stands c.args.plant.now ws ws c.in-Some.at c.index-workers-at.result c.go_on.new.self (workers_refl g.Y.Body.gives g.Y.Body.stands c.args.plant.now ws c.requires.sit) c.if-at-workers.false is
+          (subst (λ w. WorkerRan g.Y.Body.gives g.Y.Body.stands c.args.plant.now w c.go_on.new.self) (sym is) c.go_on.ensures);
     }

@@ -47,10 +47,10 @@ pub returns-clause-at_once : goal.returns-clause-at_once
 returns-clause-at_once g c = λ none. absurd (c.has_members.ensures.some c.if-not-has_members.false (no_members_after g.Y.Body.gives g.Y.Body.stands c.args.workers.now c.clear_all.new.workers c.clear_all.ensures none))
 
 pub returns-clause-all : goal.returns-clause-all
-returns-clause-all g c = λ members places. c.rounds.ensures.all places
+returns-clause-all g c = λ members places. c.rounds.ensures.drained.all places
 
 pub returns-clause-within : goal.returns-clause-within
-returns-clause-within g c = λ before. c.rounds.ensures.within
+returns-clause-within g c = λ before. c.rounds.ensures.drained.within
 
 pub returns-then-not-has_members-clause-all : goal.returns-then-not-has_members-clause-all
 returns-then-not-has_members-clause-all g c = λ members places. absurd (members (no_members_before g.Y.Body.gives g.Y.Body.stands c.args.workers.now c.clear_all.new.workers c.clear_all.ensures (c.has_members.ensures.none c.if-not-has_members.true)))

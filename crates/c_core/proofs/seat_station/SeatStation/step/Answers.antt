@@ -1,5 +1,4 @@
-use Rattle.std.proofs.Common.{◌≡◌, ℤ, Some, ap, sym, ◌∙◌, to_z-of_z, vec_len, vec_capacity}
-use Rattle.c_core.specs.Forms.{op_named}
+use Rattle.std.proofs.Common.{◌≡◌, Some, sym, ◌∙◌, vec_len, vec_capacity}
 use Rattle.c_core.proofs.Trying.{turned_station}
 use Rattle.c_core.proofs.Saying.{stepped}
 use Rattle.c_core.proofs.seat_station.SeatStation.step.Goals as goal
@@ -13,5 +12,5 @@ invariant_of-self-2 c =
 pub returns : goal.returns
 returns c =
     let own : c.self.inside.seat.tx ≡ Some c.in-Some.field-0 = sym c.tx.ensures ∙ c.in-Some.is in
-    stepped c.deref.result.now c.self.inside.plant.value c.self.inside.seat c.try_step.new.seat (vec_len c.self.inside.others) c.args.self.now c.in-Some.field-0 c.args.serial c.args.code c.args.item c.args.value c.in-Some-op_of.op c.in-Said.reply c.put_step.new.answer c.self.view_is c.deref.ensures c.self.invariant.compiled c.self.invariant.meets own
-    (sym (c.op_of.ensures ∙ ap (λ (v : ℤ). op_named c.args.code c.args.item v) (to_z-of_z c.ranges.value)) ∙ c.in-Some-op_of.is) c.put_step.ensures (c.in-Said.ensures.said c.in-Some.field-0 own)
+    stepped c.deref.result.now c.self.inside.plant.value c.self.inside.seat c.try_step.new.seat (vec_len c.self.inside.others) c.args.self.now c.in-Some.field-0 c.args.serial c.args.op c.in-Some-op_of.op c.in-Said.reply c.put_step.new.answer c.self.view_is c.deref.ensures c.self.invariant.compiled c.self.invariant.meets own
+    (sym c.op_of.ensures ∙ c.in-Some-op_of.is) c.put_step.ensures (c.in-Said.ensures.said c.in-Some.field-0 own)

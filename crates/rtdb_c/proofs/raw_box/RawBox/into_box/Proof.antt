@@ -33,7 +33,7 @@ use Rattle.std.specs.contracts.boxed.Box as box
 use Rattle.std.proofs.boxed.Box.TheLaws as box_laws
 use Rattle.std.specs.contracts.boxed.Box.from_raw as callee
 use Rattle.std.proofs.boxed.Box.from_raw.Met.{met}
-use Rattle.rtdb_c.proofs.BoxApart.{Row, two, two_fits, taken_apart}
+use Rattle.rtdb_c.proofs.BoxApart.{Row, two, words_fit, taken_apart}
 use Rattle.rtdb_c.specs.contracts.raw_box.RawBox.into_box as f
 use Rattle.rtdb_c.proofs.raw_box.RawBox.into_box.Statement.{statement}
 use Rattle.rtdb_c.proofs.raw_box.RawBox.into_box.Code as code
@@ -51,7 +51,7 @@ into_box_spec 𝓤 𝓛 𝓜 𝓡 wired T' A' laws_T laws_A g d drop_T drop_A bo
     let Run : List Val → SProp 𝓤 = λ us. WpFn 𝓤 𝓛.H 𝓣.C 𝓣.Λ fn us Post in let alive : Item 𝓤 = ‵ (flft κs.0 qs.0) ⊛ ‵ (flft κs.1.0 qs.1.0) ⊛ ‵ ftrue in
     qed 𝓛 ((alive ⊛ ‵ (owns (types_at ended.signature.params κs) y.0.3 y.0.4)) ∷ raw ((clauses κs y.0.3).requires y.1) ∷ []) ∵
     split ! $ move ! (1 ∷ []) $ fsplit ! $ taken_apart T A lawful g ! this y.0.4.0 (λ b o h lies is fits.
-    let p : List Val = vptr b o ∷ [] in let w : Val = two (vptr b o) h in let good = two_fits A lawful b o h fits in
+    let p : List Val = vptr b o ∷ [] in let w : Val = two (vptr b o) h in let good = words_fit A lawful (block_ptr b o) h fits in
     let C = triple_of 𝓛 (callee.signature T' A' g d drop_A) (callee.spec T' A' g d drop_A 𝓛 𝓜.mem 𝓡.returns) in
     let z : C.Ghost = ((κs, qs, tt, (this.alloc, (block_ptr b o, tt)), (h ∷ [], (p, tt))), this.value) in
     -- [the block; the allocator; nothing; the tokens; the lifetimes' bounds]

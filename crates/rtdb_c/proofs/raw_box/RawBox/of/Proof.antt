@@ -34,7 +34,7 @@ use Rattle.std.specs.contracts.boxed.Box as box
 use Rattle.std.proofs.boxed.Box.TheLaws as box_laws
 use Rattle.std.specs.contracts.boxed.Box.into_raw_with_allocator as callee
 use Rattle.std.proofs.boxed.Box.into_raw_with_allocator.Met.{met}
-use Rattle.rtdb_c.proofs.BoxApart.{two, two_fits, fields_apart, block_of, in_its_block, Row, put_together}
+use Rattle.rtdb_c.proofs.BoxApart.{two, words_fit, fields_apart, block_of, in_its_block, Row, put_together}
 use Rattle.rtdb_c.specs.contracts.raw_box.RawBox.of as f
 use Rattle.rtdb_c.proofs.raw_box.RawBox.of.Statement.{statement}
 use Rattle.rtdb_c.proofs.raw_box.RawBox.of.Code as code
@@ -69,13 +69,13 @@ of_spec 𝓤 𝓛 𝓜 𝓡 wired T' A' laws_T laws_A g d drop_T drop_A bound me
     fields_apart A lawful g ! (shape (tuple_type (RawPtr ∷ A ∷ []))) r.0 r.1 (v ∷ []) (λ h is fits.
     rewrite ! 0 (λ (x : A.Denot). ‵ (A.own_val x (h ∷ []))) same refl $
     -- [the allocator; the tokens; the block; the locals]
-    let good = two_fits A lawful block offset h fits in let made : (Row T A g).Denot = record { at = block_ptr block offset; alloc = a; value = b.value } in
+    let good = words_fit A lawful (block_ptr block offset) h fits in let made : (Row T A g).Denot = record { at = block_ptr block offset; alloc = a; value = b.value } in
     lands_as ! (ap only (is ∙ ap (λ (p : Ptr). two (ptr_val p) h ∷ []) lies)) refl good $
     sets ! (of_opd ! (get_in ! (fld ! refl (stop !)) (sub ! 0 refl (whole !)))) refl (tt, tt) $
     sets ! (of_opd ! (get_in ! (fld ! refl (stop !)) (sub ! 1 refl (whole !)))) refl fits $
     sets ! (of_opd ! (get ! refl)) refl fits $
     sets ! (agg ! (and_then ! (get ! refl) (and_then ! (get ! refl) (no_more !)))) refl good $
-    move ! (2 ∷ 0 ∷ []) $ put_together T A g ! block offset h a b.value $
+    move ! (2 ∷ 0 ∷ []) $ put_together T A lawful g ! (block_ptr block offset) h a b.value $
     returns ! (look_at ! 0 refl) $ free_all ! refl $
     suffices ! _ (ends_at 𝓛 ended stayed clauses y (two (vptr block offset) h) made ((tt, (tt, tt)), tt) (tt, tt)) $ says ! refl $
     nothing ! $ nothing ! $ join ! $ move ! (2 ∷ []) $ done !))))))))

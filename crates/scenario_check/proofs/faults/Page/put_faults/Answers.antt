@@ -1,4 +1,4 @@
-use Rattle.std.proofs.Common.{◌≡◌, ◌||◌, Bool, sym, ap, subst, ◌∙◌}
+use Rattle.std.proofs.Common.{◌||◌, Bool, sym, ap, subst, ◌∙◌}
 use Rattle.scenario_check.specs.Findings.{Adds}
 use Rattle.scenario_check.proofs.Adding.{both_more}
 use Rattle.scenario_check.proofs.faults.Page.put_faults.Goals as goal

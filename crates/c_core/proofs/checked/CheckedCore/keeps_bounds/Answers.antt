@@ -1,0 +1,11 @@
+use Rattle.std.proofs.Common.{List, subst}
+use Rattle.step_journal.specs.declared.entry.Entry.{Entry}
+use Rattle.lock_core.specs.Stands.{Stands}
+use Rattle.c_core.specs.Open.{OpenSeen, KeepsBoundsOf}
+use Rattle.c_core.proofs.Over.{kept}
+use Rattle.c_core.proofs.checked.CheckedCore.keeps_bounds.Goals as goal
+
+pub returns : goal.returns
+returns c =
+    subst (λ (o : OpenSeen). (story : List Entry) → Stands o.board story → KeepsBoundsOf o story) c.self.view_is
+    (λ story h. kept c.self.inside.core c.self.inside.admitted story c.self.invariant.0 h)

@@ -1,4 +1,0 @@
-use Rattle.core_tests.proofs.margins.margin_text.Given as goal
-
-abbrev pub ghosts-margins : goal.ghosts-margins
-ghosts-margins a = record { name = a.blank.name; parts = a.blank.parts }

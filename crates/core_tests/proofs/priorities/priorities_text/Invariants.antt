@@ -1,4 +1,0 @@
-use Rattle.core_tests.proofs.priorities.priorities_text.Given as goal
-
-abbrev pub ghosts-assigned : goal.ghosts-assigned
-ghosts-assigned a = record { name = a.blank.name; parts = a.blank.parts }

@@ -1,4 +1,0 @@
-use Rattle.tool_command.proofs.priorities.priorities.Given as goal
-
-abbrev pub ghosts-assigned : goal.ghosts-assigned
-ghosts-assigned a = record { name = a.blank.name; parts = a.blank.parts }

@@ -1,5 +1,0 @@
-use Rattle.txn_threads.proofs.Stepping.{ran_asked}
-use Rattle.txn_threads.proofs.round.ask_ahead.Goals as goal
-
-pub returns : goal.returns
-returns g c = record { ran = λ p sits. ran_asked g.Y.Body.gives g.Y.Body.stands p c.args.member.now c.operation-op.new.self sits c.operation-op.ensures.same (λ tx e. c.operation-op.ensures.tied tx c.args.member.now.seat.mine (sits.tied tx e)) }
