@@ -1,4 +1,4 @@
-/* Drives the generated set of n transactions as core_tests does, by the same calls, and prints the same line: so the
+/* Drives the generated set of n transactions as core_bench does, by the same calls, and prints the same line: so the
  * instructions of the two, and the entries a second, compare what the calls by a handle cost beside those of the board.
  *
  *   drive N JOBS PLANS     N is 1 to 64; JOBS of each transaction, N times JOBS is at most 65,536; PLANS is ahead, where all

@@ -6,7 +6,7 @@ use Rattle.std.specs.Option.{option_map, option_and_then}
 use Rattle.rt_base.specs.declared.ids.JobId.{JobId}
 use Rattle.rt_base.specs.declared.ids.ItemId.{ItemId}
 use Rattle.rt_base.specs.declared.operation.Op.{Op}
-use Rattle.rt_base.specs.declared.operation.Op.TheVariants.{Read, Write, Compute, Commit, Quit}
+use Rattle.rt_base.specs.declared.operation.Op.TheVariants.{Read, Write, Commit}
 use Rattle.txn_set.specs.declared.decl.TxnDecl.{TxnDecl}
 use Rattle.rt_base.specs.declared.operation.End.{End}
 use Rattle.step_journal.specs.declared.entry.Entry.{Entry}
@@ -61,11 +61,10 @@ checked_is set now job row (Write item value) asks rest p h =
     let txn : TxnDecl = txn_of set row.job.tx.0 in
     early_is now job asks txn row rest p (nat_lt row.used txn.quiet) (may_write txn item.0) item h refl
     ∙ ap (λ (b : Bool). entry_given (given (may_write txn item.0 && b) p)) (sym (le_not_lt txn.quiet row.used))
-checked_is set now job row Compute asks rest p h = h
 checked_is set now job row Commit asks rest p h =
     unwritten_at now job asks rest p (unwritten set (txn_of set row.job.tx.0).writes row.work) h
     ∙ ap (λ (b : Bool). entry_given (given b p)) (sym (complete_is set (txn_of set row.job.tx.0).writes row.work))
-checked_is set now job row Quit asks rest p h = h
+checked_is set now job row other asks rest p h = h
 
 lock_is : (set : Set) (s : State) (row : Row) (op : Op) (o : Option Above) → step_entry s.now row.job op (lock_reply set s row op o) ≡ Some (answered set s row op o).0
 lock_is set s row op None = refl

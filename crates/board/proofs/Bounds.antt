@@ -1,7 +1,5 @@
 -- After every legal history the planned ticks are small, and so is the time where a job is pending.
-use Rattle.std.proofs.Common.{◌≡◌, ℕ, zero, suc, ◌+◌, ◌-◌, ◌^◌, ◌<◌, ◌≤◌, Bool, true, false, ◌&&◌, List, [], ◌∷◌, length, map, Option, None, Some, get_or, set as with_item, refl, ap, ◌∙◌, arith}
-use Rattle.std.proofs.lemmas.Bool.{and_parts, leb-true}
-use Rattle.std.specs.Prelude.{nat_lt, nat_le}
+use Rattle.std.proofs.Common.{◌≡◌, ℕ, zero, suc, ◌+◌, ◌^◌, ◌<◌, ◌≤◌, Bool, true, false, List, [], ◌∷◌, length, map, Option, None, Some, get_or, set as with_item, refl, ap, ◌∙◌, arith}
 use Rattle.std.specs.List.{filter, fold}
 use Rattle.std.specs.Option.{option_map, option_and_then}
 use Rattle.rt_base.specs.declared.operation.Op.{Op}
@@ -14,11 +12,13 @@ use Rattle.rt_base.specs.declared.release.Plans.{Plans}
 use Rattle.step_journal.specs.LockRule.{Above, in_falling_priority}
 use Rattle.step_journal.specs.Instant.{with_end, with_late, is_due, with_cancellations, with_releases, arrived}
 use Rattle.step_journal.specs.Running.{running, of_job}
-use Rattle.step_journal.specs.Step.{Event, plan, ask, idle, step, given, plans_of, earliest, may_plan, with_plan, lock_refusal, row_after, end_by, settled, after_effect, with_step, with_wait, answered, asked, may_ask, idled, next_tick}
+use Rattle.step_journal.specs.Step.{Event, plan, ask, idle, step, given, plans_of, may_plan, with_plan, lock_refusal, row_after, end_by, settled, after_effect, with_step, with_wait, answered, asked, may_ask, idled, next_tick}
 use Rattle.step_journal.specs.History.{IsLegal, state_of, states_after, state_after, state_given, event_of}
 use Rattle.law_histories.proofs.Invariant.{IsPending, in_range}
 use Rattle.law_histories.proofs.Calendar.{times_at}
 use Rattle.law_histories.proofs.Never.{legal_sound}
+use Rattle.law_histories.proofs.Counts.{no_plans}
+use Rattle.law_histories.proofs.Rooms.{tick_limit as may_plan_early}
 
 -- only a plan changes the plans
 
@@ -61,24 +61,12 @@ idled_plans set s [] (Some t) e = ap (λ (n : Option ℕ). (state_given s (optio
 abbrev pub AreEarly : State → Type 0
 AreEarly s = (n : ℕ) → (plans_of s n).last ≤ 2 ^ 40
 
-abbrev pub no_plans : Plans
-no_plans = record { number = 0; last = 0 }
-
 early_set : (plans : List Plans) (i n : ℕ) (p : Plans) → p.last ≤ 2 ^ 40 → (get_or plans n no_plans).last ≤ 2 ^ 40 → (get_or (with_item plans i p) n no_plans).last ≤ 2 ^ 40
 early_set [] i n p h k = k
 early_set (q ∷ qs) zero zero p h k = h
 early_set (q ∷ qs) zero (suc n) p h k = k
 early_set (q ∷ qs) (suc i) zero p h k = k
 early_set (q ∷ qs) (suc i) (suc n) p h k = early_set qs i n p h k
-
-may_plan_early : (set : Set) (s : State) (tx tick : ℕ) → may_plan set s tx tick ≡ true → tick ≤ 2 ^ 40
-unfolding may_plan
-may_plan_early set s tx tick h =
-    let a = and_parts (nat_lt tx (length set.txns) && nat_le s.now tick && nat_le tick (2 ^ 40) && nat_le (earliest set tx (plans_of s tx)) tick && nat_lt (length s.planned) 65536) (nat_lt (plans_of s tx).number (2 ^ 32 - 1)) h in
-    let b = and_parts (nat_lt tx (length set.txns) && nat_le s.now tick && nat_le tick (2 ^ 40) && nat_le (earliest set tx (plans_of s tx)) tick) (nat_lt (length s.planned) 65536) a.0 in
-    let c = and_parts (nat_lt tx (length set.txns) && nat_le s.now tick && nat_le tick (2 ^ 40)) (nat_le (earliest set tx (plans_of s tx)) tick) b.0 in
-    let d = and_parts (nat_lt tx (length set.txns) && nat_le s.now tick) (nat_le tick (2 ^ 40)) c.0 in
-    leb-true _ _ d.1
 
 plan_early : (set : Set) (s : State) (tx tick : ℕ) (b : Bool) (e : Entry) → may_plan set s tx tick ≡ b → AreEarly s → AreEarly (state_given s (given b (e, with_plan s tx tick)))
 unfolding with_plan

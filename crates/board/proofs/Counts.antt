@@ -34,11 +34,7 @@ installed_count set work release (w ∷ ws) items = installed_count set work rel
 
 after_count : (set : Set) (work : Work) (release : ℕ) (e : End) (items : List Stored) → length (items_after set.items work release e items) ≡ length items
 after_count set work release end.Committed items = installed_count set work release work.writes items
-after_count set work release end.Overrun items = refl
-after_count set work release end.Late items = refl
-after_count set work release (end.Stale item stamp) items = refl
-after_count set work release end.Quit items = refl
-after_count set work release (end.Apart a b) items = refl
+after_count set work release other items = refl
 
 settled_count : (set : Set) (row : Row) (t : ℕ) (o : Option End) (s : State) → length (settled set row t o s).items ≡ length s.items
 unfolding with_end

@@ -24,6 +24,7 @@ use Rattle.law_histories.proofs.Invariant.{IsPending, running_is}
 use Rattle.law_histories.proofs.Calendar.{Frame, Sound, named_from, frame_without}
 use Rattle.law_histories.proofs.Histories.{frame_set, may_plan_is}
 use Rattle.law_histories.proofs.Never.{step_goes, entry_goes, refused_after, opening_sound}
+use Rattle.law_histories.proofs.Counts.{no_plans}
 use Rattle.board.specs.Answers.{ended_number}
 use Rattle.board.proofs.Bounds.{asked_plans, idled_plans}
 use Rattle.board.proofs.Overs.{gone_at}
@@ -290,9 +291,6 @@ plan_at n tx tick s false =
 plan_fits : (n tx tick : ℕ) (s : State) → all_of n (with_plan s tx tick) ≤ all_of n s + bit (tx == n)
 unfolding with_plan
 plan_fits n tx tick s = plan_at n tx tick s (tick == s.now)
-
-abbrev no_plans : Plans
-no_plans = record { number = 0; last = 0 }
 
 plan_number : (n tx tick : ℕ) (s : State) → tx < length s.plans → (plans_of (with_plan s tx tick) n).number ≡ (plans_of s n).number + bit (tx == n)
 unfolding with_plan

@@ -24,10 +24,11 @@ use Rattle.law_histories.proofs.Calendar.{Frame, in_sorted, sorted_in}
 use Rattle.law_histories.proofs.Histories.{frame_set}
 use Rattle.law_histories.proofs.Never.{legal_sound}
 use Rattle.law_histories.proofs.SerialAll.{legal_serial}
+use Rattle.law_histories.proofs.Events.{false_from as not_true}
 use Rattle.board.specs.Over.{over_of}
 use Rattle.board.proofs.Asks.{running_here}
 
-abbrev late_of : ℕ → Row → EndedJob
+abbrev pub late_of : ℕ → Row → EndedJob
 late_of t r = record { job = r.job; release = r.release; end = Late; tick = t }
 
 lates_ended : (t : ℕ) (gone : List Row) (s : State) → (fold (with_late t) s gone).ended ≡ s.ended ++ map (late_of t) gone
@@ -53,7 +54,7 @@ find_past p (x ∷ xs) ys h =
 find_here : {A : Type 0} (p : A → Bool) (x : A) (xs : List A) → p x ≡ true → find p (x ∷ xs) ≡ Some x
 find_here p x xs h = ap (λ (b : Bool). cond b (Some x) (find p xs)) h
 
-abbrev named : JobId → EndedJob → Bool
+abbrev pub named : JobId → EndedJob → Bool
 named job e = same_job e.job job
 
 abbrev end_found : Option EndedJob → Option End
@@ -75,12 +76,8 @@ late_missing t job [] h = refl
 late_missing t job (r ∷ rs) h =
     ap (λ (b : Bool). cond b (Some (late_of t r)) (find (named job) (map (late_of t) rs))) (h r (inl refl)) ∙ late_missing t job rs (λ q i. h q (inr i))
 
-same_self : (job : JobId) → same_job job job ≡ true
+pub same_self : (job : JobId) → same_job job job ≡ true
 same_self job = and_from _ _ (eq-eqb job.tx.0 job.tx.0 refl) (eq-eqb job.serial job.serial refl)
-
-not_true : (b : Bool) → (b ≡ true → ⊥) → b ≡ false
-not_true true h = absurd (h refl)
-not_true false h = refl
 
 module _ (set : Set) (s : State) (x : Row) (op : Op) (frame : Frame set s.rows) (here : IsPending s.rows x) (new : (e : EndedJob) → In e s.ended → named x.job e ≡ false) where
   abbrev next : Row

@@ -8,7 +8,7 @@ use Rattle.rt_base.specs.declared.ids.JobId.{JobId}
 use Rattle.txn_set.specs.declared.decl.TxnDecl.{TxnDecl}
 use Rattle.rt_base.specs.declared.operation.End.{End}
 use Rattle.rt_base.specs.declared.operation.Op.{Op}
-use Rattle.rt_base.specs.declared.operation.Op.TheVariants.{Read, Write, Compute, Commit, Quit}
+use Rattle.rt_base.specs.declared.operation.Op.TheVariants.{Read, Write, Commit}
 use Rattle.step_journal.specs.declared.entry.Entry.{Entry}
 use Rattle.txn_set.specs.Set.{Set, IsCompiled, txn_of, may_read, may_write}
 use Rattle.step_journal.specs.State.{State, Row, same_job}
@@ -36,9 +36,8 @@ unwritten_full now job op rest (Some item) h = refl
 checked_full : (set : Set) (now : ℕ) (job : JobId) (row : Row) (asks op : Op) (rest : StepReply) → step_entry now job asks rest ≡ None → step_entry now job asks (checked set row op rest) ≡ None
 checked_full set now job row asks (Read item) rest h = let txn : TxnDecl = txn_of set row.job.tx.0 in early_full now job asks txn row rest item (may_read txn item.0) (nat_lt row.used txn.quiet) h
 checked_full set now job row asks (Write item value) rest h = let txn : TxnDecl = txn_of set row.job.tx.0 in early_full now job asks txn row rest item (may_write txn item.0) (nat_lt row.used txn.quiet) h
-checked_full set now job row asks Compute rest h = h
 checked_full set now job row asks Commit rest h = unwritten_full now job asks rest (unwritten set (txn_of set row.job.tx.0).writes row.work) h
-checked_full set now job row asks Quit rest h = h
+checked_full set now job row asks other rest h = h
 
 module _ (set : Set) (s : State) (kept room : ℕ) (job : JobId) (op : Op) (full : nat_le room kept ≡ true) where
   asked_full : (x : Row) → step_entry s.now job op (asked_reply set s kept room op x) ≡ None

@@ -5,7 +5,7 @@ use Rattle.rt_base.specs.declared.ids.ItemId.{ItemId}
 use Rattle.txn_set.specs.declared.decl.TxnDecl.{TxnDecl}
 use Rattle.rt_base.specs.declared.ids.JobId.{JobId}
 use Rattle.rt_base.specs.declared.operation.Op.{Op}
-use Rattle.rt_base.specs.declared.operation.Op.TheVariants.{Read, Write, Compute, Commit, Quit}
+use Rattle.rt_base.specs.declared.operation.Op.TheVariants.{Read, Write, Commit}
 use Rattle.rt_base.specs.declared.operation.Outcome.{Outcome}
 use Rattle.rt_base.specs.declared.operation.End.{End}
 use Rattle.rt_base.specs.declared.release.PlanRefused.{PlanRefused}
@@ -93,9 +93,8 @@ checked set row (Write item value) rest =
     if may_write (txn_of set row.job.tx.0) item.0
     then early_or (txn_of set row.job.tx.0) row rest
     else reply.Undeclared item
-checked set row Compute rest = rest
 checked set row Commit rest = unwritten_or (unwritten set (txn_of set row.job.tx.0).writes row.work) rest
-checked set row Quit rest = rest
+checked set row other rest = rest
 
 abbrev pub lock_reply : Set → State → Row → Op → Option Above → StepReply
 lock_reply set s row op None = reply.Done (outcome_of s.items row.work op) (end_of (with_step set s row op) row.job)
@@ -121,13 +120,7 @@ step_reply set s kept room job op =
 -- what the job is told by an answer
 abbrev pub told_by : StepReply → Option Outcome
 told_by (reply.Done outcome over) = Some outcome
-told_by (reply.NoJob ended last) = None
-told_by (reply.NotYet running) = None
-told_by (reply.Undeclared item) = None
-told_by (reply.TooEarly left) = None
-told_by (reply.Unwritten item) = None
-told_by (reply.Full room) = None
-told_by (reply.Blocked by ceiling) = None
+told_by other = None
 
 -- the running job asks for an operation that it may ask for: declared, after the quiet steps, and with nothing left unwritten
 pub record IsAsking (set : Set) (s : State) (job : JobId) (op : Op) : Type 0 where

@@ -36,20 +36,13 @@ plan_next_entry tx (Ok p) = Some (Planned tx p.1)
 plan_next_entry tx (Err e) = None
 
 abbrev pub step_entry : ℕ → JobId → Op → StepReply → Option Entry
-step_entry now job op (reply.NoJob ended last) = None
-step_entry now job op (reply.NotYet running) = None
-step_entry now job op (reply.Undeclared item) = None
-step_entry now job op (reply.TooEarly left) = None
-step_entry now job op (reply.Unwritten item) = None
-step_entry now job op (reply.Full room) = None
 step_entry now job op (reply.Blocked by ceiling) = Some (Blocked job op by ceiling now)
 step_entry now job op (reply.Done outcome over) = Some (Step job op outcome over now)
+step_entry now job op other = None
 
 abbrev pub idle_entry : ℕ → IdleReply → Option Entry
-idle_entry now (idle.NotIdle running) = None
-idle_entry now idle.Nothing = None
-idle_entry now (idle.Full room) = None
 idle_entry now (idle.Advanced to) = Some (Idle now to)
+idle_entry now other = None
 
 -- a history with one more entry, if there is one
 abbrev pub noted : List Entry → Option Entry → List Entry

@@ -13,9 +13,6 @@ use Rattle.c_core.specs.declared.tables.TxnRow.{TxnRow}
 use Rattle.c_core.specs.declared.tables.TogetherRow.{TogetherRow}
 use Rattle.c_core.specs.Rows.{ids_at, item_of_row, txn_of_row, together_of_row}
 
-AreBelow : ℕ → List ItemId → Type 0
-AreBelow n items = All (λ i. i.0 < n) items
-
 pub ids-below : (n : ℕ) (ids : List ℕ) (at count : ℕ) → All (λ i. i < n) ids → All (λ (i : ItemId). i.0 < n) (ids_at ids at count)
 ids-below n ids at count h =
     let named : ℕ → ItemId = λ i. record { 0 = i } in let P : ℕ → Type 0 = λ i. i < n in let Q : ItemId → Type 0 = λ i. i.0 < n in

@@ -1,6 +1,6 @@
 //! A core over an admitted set, or over one that was not admitted, whose calls test each number that they are given. Such a
 //! call answers a status: OK where the core was called, and else why it was not; then nothing is changed.
-ghost use Rattle.std.specs.Prelude.{◌≡◌, ◌≤◌, ◌<◌, ◌^◌, [], List, length, nat_lt, IfOk, IfErr, IsTrue, false, Some, None, MatchOption, vec_capacity};
+ghost use Rattle.std.specs.Prelude.{◌≡◌, ◌≤◌, ◌<◌, ◌^◌, [], List, length, nat_lt, if◌then◌else◌, IfOk, IfErr, IsTrue, false, Some, None, MatchOption, vec_capacity};
 ghost use Rattle.step_journal.specs.declared.entry.Entry.{Entry as Noted};
 ghost use Rattle.board.specs.Stories.{noted, now_of, step_entry, planned_of};
 ghost use Rattle.lock_core.specs.Stands.{Stands};
@@ -95,6 +95,19 @@ fn core_over(alloc: Global, set: &AdmittedSet, room: usize) -> Result<Core, OutO
             drop(copy);
             Err(error)
         }
+    }
+}
+
+// Why a step is not made whose operation or transaction is none. It stands apart, so that a step that is made pays nothing for it.
+#[cold]
+#[inline(never)]
+fn unknown_step(code: u32) -> u32
+    ensures { result ≡ (if nat_lt 4 code then 3 else 4) }
+{
+    if code > 4 {
+        NO_OPERATION
+    } else {
+        NO_TRANSACTION
     }
 }
 
@@ -296,11 +309,8 @@ impl CheckedCore {
         ensures { Stepped job op result answer.old answer.new self.old self.new }
     {
         self.keeps_bounds();
-        if op.code > 4 {
-            return NO_OPERATION;
-        }
-        if !self.has_txn(job.tx) {
-            return NO_TRANSACTION;
+        if op.code > 4 || !self.has_txn(job.tx) {
+            return unknown_step(op.code);
         }
         let Some(op) = op_of(op) else {
             return NO_OPERATION;

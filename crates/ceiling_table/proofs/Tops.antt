@@ -53,10 +53,6 @@ above_one_way p c a b h = false_from_ne_true _ (λ (k : stands_above p c b a ≡
   both (inr x) (inl y) = omega (arith, ltb-true (c a) (c b) y, eqb-true (c a) (c b) (and_parts _ _ x).0)
   both (inr x) (inr y) = omega (arith, ltb-true (p b) (p a) (and_parts _ _ x).1, ltb-true (p a) (p b) (and_parts _ _ y).1)
 
--- none stands above itself
-above_itself : (p c : ℕ → ℕ) (a : ℕ) → stands_above p c a a ≡ false
-above_itself p c a = false_from_ne_true _ (λ (k : stands_above p c a a ≡ true). absurd (cc (k, above_one_way p c a a k)))
-
 -- the topmost is in the list
 in_upper_at : (p c : ℕ → ℕ) (x t s : ℕ) (xs : List ℕ) (b : Bool) → In s xs → cond b s x ≡ t → (t ≡ x) ⊎ In t xs
 in_upper_at p c x t s xs true i k = inr (subst (λ (n : ℕ). In n xs) k i)

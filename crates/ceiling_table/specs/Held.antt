@@ -35,13 +35,11 @@ kind_ceiling row Write = row.absolute
 
 abbrev pub is_lock : LockKind → Bool
 is_lock Free = false
-is_lock Read = true
-is_lock Write = true
+is_lock other = true
 
 abbrev pub is_write : LockKind → Bool
-is_write Free = false
-is_write Read = false
 is_write Write = true
+is_write other = false
 
 -- the greatest of f at the numbers below n, and 0 where there is none
 abbrev pub greatest_below : ℕ → (ℕ → ℕ) → ℕ
@@ -80,15 +78,12 @@ refusal h tx = option_map (above_of h) (blocker (prio_of h) (ceiling_of h) (prio
 abbrev pub needs_lock : Locks → ℕ → Op → Bool
 needs_lock h tx (ReadOf item) = not (is_lock (lock_at h tx item.0))
 needs_lock h tx (WriteOf item value) = not (is_write (lock_at h tx item.0))
-needs_lock h tx Compute = false
-needs_lock h tx Commit = false
-needs_lock h tx Quit = false
+needs_lock h tx other = false
 
 -- a lock with a read lock added
 abbrev pub with_read : LockKind → LockKind
-with_read Free = Read
-with_read Read = Read
 with_read Write = Write
+with_read other = Read
 
 abbrev pub with_lock : Bool → LockKind → LockKind
 with_lock true kind = Write

@@ -14,6 +14,7 @@ use Rattle.txn_compiler.proofs.Verdict.{compiled-unless-refused}
 use Rattle.report_text.specs.Texts.{NamesSet}
 use Rattle.step_script.specs.Shown.{Shown, set_of}
 use Rattle.step_script.specs.Scenarios.{IsScenario}
+use Rattle.scale_margin.proofs.Looks.{lists_in_range as in_range}
 
 pub lists : (s : Shown) → IsScenario s → AreLists (set_of s)
 lists s is = record { reads = is.reads; writes = is.writes; together = is.together }
@@ -25,13 +26,6 @@ is_compiled s is none = (compiled-unless-refused (set_of s) (lists s is)).0 none
 pub names_set : (s : Shown) (names : Names) (set : Set) → IsScenario s → names ≡ s.names → set ≡ set_of s → NamesSet names set
 names_set s names set is e f =
     subst (λ (n : Names). NamesSet n set) (sym e) (subst (NamesSet s.names) (sym f) (record { items = is.named_items; txns = is.named_txns }))
-
-in_range : (set : Set) → AreLists set → IsInRange set
-in_range set ok = record {
-  reads = λ k d lt. (ok.reads k d lt).in_range;
-  writes = λ k d lt. (ok.writes k d lt).in_range;
-  together = λ k d lt. (ok.together k d lt).in_range;
-}
 
 abbrev set_from : List ItemDecl → List TxnDecl → List TogetherDecl → Set
 set_from items txns together = record { items = items; txns = txns; together = together }

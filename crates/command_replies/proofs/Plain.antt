@@ -12,11 +12,11 @@ use Rattle.run_report.specs.declared.verdict.Verdict.{Verdict}
 use Rattle.run_report.specs.declared.verdict.Verdict.TheVariants.{Legal}
 use Rattle.run_report.specs.declared.judged.LegalReport.{LegalReport}
 use Rattle.run_report.specs.Verdict.{IsVerdict}
-use Rattle.run_report.specs.Judged.{IsLegalReport}
 use Rattle.run_report.proofs.OneOnly.{one_verdict}
 use Rattle.refusal_lines.specs.Causes.{scenario_cause, compile_cause, admit_cause}
 use Rattle.io_edge.specs.declared.status.Status.{Status}
 use Rattle.io_edge.specs.declared.status.Status.TheVariants as statuses
+use Rattle.run_report.proofs.Parts.{legal_verdict as legal_is}
 use Rattle.command_replies.specs.Verdicts.{status_of}
 use Rattle.command_replies.specs.Replies.{Reply, Written, Refused, Compiling, Admitting}
 use Rattle.command_replies.specs.Taken.{TakesAll, InputReply}
@@ -65,9 +65,6 @@ input goes true plain = fixed (InputReply goes true) statuses.TooLong refl (λ s
 input goes false plain = plain
 
 -- a legal report is not refused, and any other is answered by its verdict
-
-legal_is : (bytes : List ℕ) (r : LegalReport) → IsLegalReport bytes r → IsVerdict bytes Legal
-legal_is bytes r h = (h.document, h.tells, h.whole)
 
 verdict_told : (v : Verdict) → is_told (status_of v) ≡ true
 verdict_told Legal = refl

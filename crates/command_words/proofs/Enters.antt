@@ -87,7 +87,7 @@ refused name unnamed plain =
     (ap (λ o. other_fault top o name nothing_held) none ∙ no_plain_fault top idle name nothing_held plain)
     (ap (λ o. subcommand_or_other [] o idle 1 name nothing_held) none ∙ met_plain [] idle 1 name nothing_held plain)
 
-level_first : (s : Shape) (ns : Names) (word : Text) (words : List Text) (has : Bool) (below : Kinds) (k : ErrorKind) (ks : Kinds) → turn_fault s ns start word ≡ k ∷ ks → level_fault s ns nothing_held (word ∷ words) has below ≡ k ∷ ks
+pub level_first : (s : Shape) (ns : Names) (word : Text) (words : List Text) (has : Bool) (below : Kinds) (k : ErrorKind) (ks : Kinds) → turn_fault s ns start word ≡ k ∷ ks → level_fault s ns nothing_held (word ∷ words) has below ≡ k ∷ ks
 unfolding walk_fault
 level_first s ns word words has below k ks e =
     let end : Held = (walk s.rules ns nothing_held (word ∷ words)).held in

@@ -11,10 +11,10 @@ use Rattle.command_words.specs.Shape.{IsLine, bare, rtdb}
 pub with_sub : (old sub new : Command) (a s : App) → AddsSubcommand old sub new → IsLine a old → IsLine s sub → IsLine (with_subcommand a s.top) new
 with_sub old sub new a s adds o t = (adds.shape t.1 ∙ ap₂ with_subcommand o.0 (ap (λ (x : App). x.top) t.0), adds.globals ∙ ap₂ ◌||◌ o.1 t.1)
 
-abbrev Fields : Type 0
+abbrev pub Fields : Type 0
 Fields = Command-F Command
 
-abbrev set_bare : App → App
+abbrev pub set_bare : App → App
 set_bare a = record a { top = record a.top { no_binary_name = true; disable_help_flag = true; disable_help_subcommand = true } }
 
 pub bare_line : (c d e f : Command) → IsLine (new_app (codes "rtdb")) c → out-Command d ≡ record (out-Command c) { no_binary_name = true } → out-Command e ≡ record (out-Command d) { disable_help_flag = true }

@@ -2,7 +2,6 @@
 use Rattle.std.proofs.Common.{◌≡◌, ◌∙◌, ℕ, ◌<◌, ◌==◌, Bool, true, false, List, [], ◌∷◌, ◌++◌, map, length, take, drop, Option, Some, None, refl, sym, ap, ap₂, subst, codes, true≢false, arith, if◌then◌else◌, decimal}
 use Rattle.std.specs.Prelude.{◌&&◌, is_some, option_and_then, option_map}
 use Rattle.std.specs.List.{list_all}
-use Rattle.std.specs.Int.{IsInRange}
 use Rattle.std.specs.Str.{bytes_eq}
 use Rattle.std.proofs.lemmas.Slice.Eq.{bytes_eq-Decides}
 use Rattle.std.proofs.lemmas.Bool.{ne_eqb}
@@ -10,8 +9,9 @@ use Rattle.std.proofs.lemmas.List.{take-append-drop}
 use Rattle.std.proofs.lemmas.Fmt.{decimal_nonempty}
 use Rattle.journal_text.specs.Cuts.{Lacks}
 use Rattle.journal_text.specs.Numbers.{unsigned_of}
-use Rattle.journal_text.proofs.CutLaws.{both_true, none_some}
-use Rattle.journal_text.proofs.NumberLaws.{decimal_lacks, unsigned_takes}
+use Rattle.journal_text.proofs.CutLaws.{none_some}
+use Rattle.journal_text.proofs.NumberLaws.{decimal_lacks, unsigned_takes, no_minus}
+use Rattle.rt_base.proofs.Padding.{both as both_true}
 use Rattle.command_words.specs.Commands.{Text, Part, trial, workers, workers_are, number, number_of, number_part, option_part, part_of, parts_of, up_to_most, workers_part}
 use Rattle.command_words.specs.Asking.{is_part}
 use Rattle.command_words.proofs.Walks.{IsPlainWord, text_of}
@@ -20,9 +20,6 @@ use Rattle.command_words.proofs.Leaves.{AreRight, IsRight, Piece, flag, joined, 
 -- a word that does not begin with a minus
 pub plain_word : (b : ℕ) (bs : Text) → (b == 45) ≡ false → IsPlainWord (b ∷ bs)
 plain_word b bs e = (rw e refl, rw e refl, rw e refl)
-
-no_minus : ¬ IsInRange 48 57 45
-no_minus h = omega (arith, h.0, h.1)
 
 lacking : (word : Text) → 0 < length word → Lacks 45 word → IsPlainWord word
 lacking [] some lacks = absurd (omega arith)

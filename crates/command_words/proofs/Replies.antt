@@ -12,7 +12,7 @@ use Rattle.clap.specs.Faults.{fault_of, level_fault, turn_fault}
 use Rattle.clap.specs.Words.{new_app}
 use Rattle.clap.specs.declared.error.kind.ErrorKind.{ErrorKind}
 use Rattle.clap.proofs.OnLiterals.{clap_on_literals}
-use Rattle.journal_text.proofs.CutLaws.{both_true}
+use Rattle.rt_base.proofs.Padding.{both as both_true}
 use Rattle.command_words.specs.declared.command.Command.{Command}
 use Rattle.command_words.specs.declared.command.PlainCommand.TheVariants.{Ceilings, Admit, Replay, Rates, Margin}
 use Rattle.command_words.specs.Commands.{Text, Part, alone, command_of, gen_of, load_of, named, number_of, parts_of, run_of}

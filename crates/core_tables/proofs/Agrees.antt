@@ -14,9 +14,11 @@ use Rattle.item_model.specs.Work.{has_read, has_written}
 use Rattle.step_journal.specs.State.{Row, row_of, new_row}
 use Rattle.step_journal.specs.Instant.{with_row}
 use Rattle.law_histories.proofs.Invariant.{in_range}
+use Rattle.law_histories.proofs.Once.{some_same as some_is}
 use Rattle.core_tables.specs.Deadlines.{deadline_of, IsLeastDeadline}
 use Rattle.core_tables.specs.PendingTables.{row_lock, IsWait, AreRanks, IsLeast, Agree, earlier_of}
-use Rattle.core_tables.proofs.RankSets.{With, with_this, with_other, same_rank}
+use Rattle.rt_base.proofs.Ranks.{With, with_this, with_other}
+use Rattle.inherit_prio.proofs.Orders.{same_rank}
 
 -- a row after a write at n
 pub set_at : (rows : List (Option Row)) (n k : ℕ) (x y : Option Row) → n < length rows → row_of (set rows n x) k ≡ y → ((k ≡ n) × (x ≡ y)) ⊎ ((k ≢ n) × (row_of rows k ≡ y))
@@ -32,9 +34,6 @@ still_some rows n k r lt h =
       | inl e ↦ ap is_some (ap (row_of (set rows n (Some r))) e ∙ get_or-set_same rows n (Some r) None lt)
       | inr ne ↦ ap is_some (get_or-set_other rows n k (Some r) None ne) ∙ h
     ]
-
-pub some_is : {A : Type 0} (a b : A) → Some a ≡ Some b → a ≡ b
-some_is a b h = cc
 
 -- a release
 

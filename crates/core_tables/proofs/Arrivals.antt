@@ -25,13 +25,6 @@ pub record Releasing (tick : ℕ) (old now : PendingSeen) (old_calendar calendar
   pub each : (planned : List Release) → Holds old_calendar planned → CanRelease tick old.rows planned → Left tick old.rows now.rows planned calendar
   pub plans : SamePlans old_calendar calendar
 
-pub releasing_nothing : (tick : ℕ) (p : PendingSeen) (c : Agenda) → Releasing tick p p c c
-releasing_nothing tick p c = record {
-  facts = refl;
-  each = λ planned holds can. record { planned = planned; holds = holds; can = can; rows_as = refl; later_as = refl };
-  plans = record { periods = refl; plans = refl; room = refl };
-}
-
 pub left_some : (tick : ℕ) (old now : PendingSeen) (old_calendar calendar : Agenda) → Releasing tick old now old_calendar calendar → CanReleaseSome tick old.rows old_calendar → CanReleaseSome tick now.rows calendar
 left_some tick old now old_calendar calendar r some =
     let l = r.each some.planned some.holds some.can in

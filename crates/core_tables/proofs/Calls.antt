@@ -19,14 +19,15 @@ use Rattle.step_journal.specs.State.{Row, row_of, pending}
 use Rattle.step_journal.specs.Instant.{freed, with_row}
 use Rattle.law_histories.proofs.Members.{In, pending_in}
 use Rattle.law_histories.proofs.Invariant.{in_range}
+use Rattle.law_histories.proofs.Once.{some_same as some_is}
 use Rattle.core_tables.specs.declared.head.Head.{Head}
 use Rattle.core_tables.specs.Rows.{Facts, Accesses, PendingSeen, head_of, rows_stepped, rows_waiting, rows_ended}
 use Rattle.core_tables.specs.Waiting.{MayWait}
 use Rattle.core_tables.specs.Deadlines.{deadline_of, IsLeastDeadline}
 use Rattle.core_tables.specs.PendingTables.{no_job, head_at, waited_job, row_by, rows_by, access_of, job_after, op_locked_at, head_with, AreHeadRanks, IsLeast, AreRanks, IsLeastOfHeads, Agree, IsRunningJob, IsTable, earlier_of}
-use Rattle.core_tables.proofs.RankSets.{With, Without}
+use Rattle.rt_base.proofs.Ranks.{With, Without}
 use Rattle.core_tables.proofs.RowsBy.{rows_length, rows_at, head_here, Fits, fits, rows_released, rows_after_step, rows_after_wait, rows_after_end}
-use Rattle.core_tables.proofs.Agrees.{some_is, not_waiting, not_waited, agree_released}
+use Rattle.core_tables.proofs.Agrees.{not_waiting, not_waited, agree_released}
 use Rattle.core_tables.proofs.Changed.{agree_stepped, agree_waiting, agree_ended, least_stays, end_ranks, end_early, end_named}
 use Rattle.core_tables.proofs.Highs.{row_here, head_ranks, early_heads, least_of_rows}
 

@@ -19,12 +19,14 @@ use Rattle.item_model.specs.Work.{has_read, has_written}
 use Rattle.step_journal.specs.State.{Row, row_of}
 use Rattle.step_journal.specs.Instant.{freed}
 use Rattle.law_histories.proofs.Invariant.{in_range}
+use Rattle.law_histories.proofs.Once.{some_same as some_is}
 use Rattle.core_tables.specs.Rows.{row_stepped, rows_stepped, rows_waiting}
 use Rattle.core_tables.specs.Deadlines.{deadline_of}
 use Rattle.core_tables.specs.PendingTables.{row_lock, op_locked_at, IsWait, AreRanks, IsLeast, Agree}
-use Rattle.core_tables.proofs.RankSets.{Without, without_this, without_other, same_rank}
+use Rattle.rt_base.proofs.Ranks.{Without, without_this, without_other}
+use Rattle.inherit_prio.proofs.Orders.{same_rank}
 use Rattle.core_tables.proofs.WorkLocks.{op_lock, lock_after, locked_here, locked_there, touched_after, item_low}
-use Rattle.core_tables.proofs.Agrees.{agree_changed, some_same, some_is}
+use Rattle.core_tables.proofs.Agrees.{agree_changed, some_same}
 
 module _ (rows : List (Option Row)) (held : Locks) (waiting : Waiting) (deadlines : List ℕ) (ranks : RankSet) (least : Option ℕ) (a : Agree rows held waiting deadlines ranks least)
     (tx : ℕ) (row : Row) (here : row_of rows tx ≡ Some row) where

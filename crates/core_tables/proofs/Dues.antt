@@ -1,14 +1,14 @@
 -- The loops over the pending ranks: a rank is taken, and what holds of those that were passed.
 use Rattle.std.proofs.Common.{◌≡◌, ℕ, ◌+◌, ◌<◌, ◌≤◌, true, false, List, length, Option, None, Some, get_or, refl, ap, sym, ◌∙◌, subst, inl, inr, arith}
 use Rattle.std.proofs.lemmas.Bool.{cases_eq, cases_lt}
-use Rattle.std.specs.Prelude.{is_some, MatchOption}
+use Rattle.std.specs.Prelude.{MatchOption}
 use Rattle.rt_base.specs.declared.ids.TxId.{TxId}
 use Rattle.rt_base.specs.declared.rank_set.RankSet.{RankSet}
 use Rattle.rt_base.specs.Ranks.{has_rank, IsLeastRank}
 use Rattle.inherit_prio.specs.Waits.{tx_of}
 use Rattle.core_tables.specs.declared.head.Head.{Head}
 use Rattle.core_tables.specs.PendingTables.{head_at, head_with, head_deadline, AreHeadRanks, HasDeadline, NotDue, IsFirstDue, IsLeastOutside, IsLeastPassed, IsLeastOfHeads, earlier_of}
-use Rattle.core_tables.proofs.RankSets.{Without, without_this, without_other}
+use Rattle.rt_base.proofs.Ranks.{Without, without_this, without_other}
 
 -- a rank that is left is one of the pending ones, below their number
 pub rank_low : (heads : List (Option Head)) (order : List TxId) (ranks : RankSet) (rank : ℕ) → AreHeadRanks heads order ranks → has_rank ranks rank ≡ true → rank < length heads
@@ -24,25 +24,6 @@ still_left left left' ranks rank other w all h =
     elim (cases_eq other rank) [
       | inl e ↦ absurd (let no : has_rank left' other ≡ false = ap (has_rank left') e ∙ without_this left left' rank w in cc (no, h))
       | inr ne ↦ all other (sym (without_other left left' rank other w ne) ∙ h)
-    ]
-
--- before the loop, each rank that is not left has no job
-pub none_outside : (heads : List (Option Head)) (order : List TxId) (ranks : RankSet) (rank : ℕ) → AreHeadRanks heads order ranks → rank < length heads → has_rank ranks rank ≡ false → head_with heads order rank ≡ None
-none_outside heads order ranks rank a lt h = at (head_with heads order rank) (sym (a.within rank lt) ∙ h) where
-  at : (o : Option Head) → is_some o ≡ false → o ≡ None
-  at None e = refl
-  at (Some x) e = absurd cc
-
-pub not_due_outside : (heads : List (Option Head)) (deadlines : List ℕ) (order : List TxId) (ranks : RankSet) (tick rank : ℕ) → AreHeadRanks heads order ranks → has_rank ranks rank ≡ false → NotDue heads deadlines order tick rank
-not_due_outside heads deadlines order ranks tick rank a h head d = let none = none_outside heads order ranks rank a d.within h in let some = d.here in cc (none, some)
-
--- the rank that was taken is passed
-pub passed_more : (heads : List (Option Head)) (deadlines : List ℕ) (order : List TxId) (left left' : RankSet) (tick rank : ℕ) → Without left left' rank → NotDue heads deadlines order tick rank
-    → ((r : ℕ) → has_rank left r ≡ false → NotDue heads deadlines order tick r) → (r : ℕ) → has_rank left' r ≡ false → NotDue heads deadlines order tick r
-passed_more heads deadlines order left left' tick rank w here before r h =
-    elim (cases_eq r rank) [
-      | inl e ↦ subst (NotDue heads deadlines order tick) (sym e) here
-      | inr ne ↦ before r (out_of left left' rank r w h ne)
     ]
 
 -- the job found is the first

@@ -6,7 +6,7 @@ use Rattle.std.specs.Prelude.{nat_le}
 use Rattle.std.specs.Option.{option_map}
 use Rattle.rt_base.specs.declared.ids.JobId.{JobId}
 use Rattle.rt_base.specs.declared.operation.Op.{Op}
-use Rattle.rt_base.specs.declared.operation.Op.TheVariants.{Read, Write, Compute, Commit, Quit}
+use Rattle.rt_base.specs.declared.operation.Op.TheVariants.{Read, Write}
 use Rattle.rt_base.specs.declared.operation.End.{End}
 use Rattle.item_model.specs.Work.{outcome_of}
 use Rattle.item_model.specs.declared.stored.Stored.{Stored}
@@ -53,9 +53,7 @@ own_tx set s job op g = ap (λ (j : JobId). j.tx.0) g.is
 declared_by : (set : Set) (row : Row) (op : Op) → may_ask set row op ≡ true → IsDeclared (accesses_of (txn_of set row.job.tx.0)) op
 declared_by set row (Read item) h = (and_parts (names_item (txn_of set row.job.tx.0).reads item.0) (nat_le (txn_of set row.job.tx.0).quiet row.used) h).0
 declared_by set row (Write item value) h = (and_parts (names_item (txn_of set row.job.tx.0).writes item.0) (nat_le (txn_of set row.job.tx.0).quiet row.used) h).0
-declared_by set row Compute h = tt
-declared_by set row Commit h = tt
-declared_by set row Quit h = tt
+declared_by set row other h = tt
 
 pub is_declared : (set : Set) (t : TablesSeen) (s : State) (job : JobId) (op : Op) → AreTables set t s → IsGranted set s job op → IsDeclared (accesses_at t.pending.facts job.tx.0) op
 is_declared set t s job op a g =

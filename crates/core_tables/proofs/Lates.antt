@@ -175,11 +175,6 @@ apart_left set rows r x m ok frame here h =
           ne (sym own ∙ (named_from set rows ok frame).apart x r there here same))
     ]
 
-in_without : {A : Type 0} (x r : A) (xs ys : List A) → In x (xs ++ ys) → In x (xs ++ r ∷ ys)
-in_without x r [] ys i = inr i
-in_without x r (a ∷ xs) ys (inl e) = inl e
-in_without x r (a ∷ xs) ys (inr i) = inr (in_without x r xs ys i)
-
 module _ (set : Set) (tick : ℕ) (rows : List (Option Row)) (r : Row) (ok : IsCompiled set) (frame : Frame set rows) (top : highest set (filter (is_due set tick) (pending rows)) ≡ Some r) where
   abbrev left : List (Option Row)
   left = with_item rows r.job.tx.0 None

@@ -15,7 +15,6 @@ pub mod Effected
 pub mod Quiet
 pub mod Jobs
 pub mod RowsBy
-pub mod RankSets
 pub mod Agrees
 pub mod Dues
 pub mod WorkLocks

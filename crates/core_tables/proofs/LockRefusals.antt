@@ -1,11 +1,11 @@
 -- The refusal by the table of locks is that of the rows.
-use Rattle.std.proofs.Common.{◌≡◌, ◌≢◌, ℕ, zero, suc, ◌<◌, ◌≤◌, ◌==◌, Bool, true, false, not, ◌&&◌, ◌||◌, cond, List, [], ◌∷◌, length, map, Option, None, Some, get_or, refl, ap, sym, ◌∙◌, subst, inl, inr, arith}
+use Rattle.std.proofs.Common.{◌≡◌, ◌≢◌, ℕ, zero, suc, ◌<◌, ◌≤◌, ◌==◌, Bool, true, false, not, ◌&&◌, ◌||◌, cond, List, length, map, Option, None, Some, get_or, refl, ap, sym, ◌∙◌, subst, inl, inr, arith}
 use Rattle.std.proofs.Math.Nat.{le-max_left, le-max_right}
 use Rattle.std.proofs.lemmas.Bool.{cases_eq, cases_lt, cases_order, eq-eqb, ne_eqb, or_cases, or_left, or_right, and_parts, and_from, not-true, not_from_false}
 use Rattle.std.specs.Option.{option_map}
 use Rattle.rt_base.specs.LockRule.{blocker}
 use Rattle.rt_base.specs.declared.operation.Op.{Op}
-use Rattle.rt_base.specs.declared.operation.Op.TheVariants.{Read, Write, Compute, Commit, Quit}
+use Rattle.rt_base.specs.declared.operation.Op.TheVariants.{Read, Write}
 use Rattle.rt_base.specs.declared.rank_set.RankSet.{RankSet}
 use Rattle.ceiling_table.specs.declared.Above.{Above as AboveRow}
 use Rattle.ceiling_table.specs.declared.CeilRow.{CeilRow}
@@ -21,7 +21,7 @@ use Rattle.step_journal.specs.State.{Row, row_of, pending, prio}
 use Rattle.step_journal.specs.LockRule.{locks, lock_ceiling, ceiling_of, needs_lock, others, refusal}
 use Rattle.law_histories.proofs.Members.{In, in_filter, filter_in, in_pending, pending_in}
 use Rattle.law_histories.proofs.Invariant.{in_range}
-use Rattle.law_histories.proofs.Holding.{locks_tell, write_le, read_le}
+use Rattle.law_histories.proofs.Holding.{locks_tell, write_le, read_le, greatest_least}
 use Rattle.core_tables.specs.Rows.{Facts, Accesses, AreFactsOf}
 use Rattle.core_tables.specs.PendingTables.{work_lock, row_lock, Agree}
 use Rattle.core_tables.proofs.Blockers.{SameBlockers, Answers, Neither, Both, answers}
@@ -57,10 +57,6 @@ any_at (suc n) g h =
       | inr r ↦ (let x = any_at n g r in (x.0, omega (arith, x.1), x.2))
     ]
 
-greatest_least : {A : Type 0} (f : A → ℕ) (xs : List A) (c : ℕ) → ((x : A) → In x xs → f x ≤ c) → greatest (map f xs) ≤ c
-greatest_least f [] c h = omega arith
-greatest_least f (y ∷ ys) c h = let a : f y ≤ c = h y (inl refl) in let b : greatest (map f ys) ≤ c = greatest_least f ys c (λ x i. h x (inr i)) in omega arith
-
 in_numbers : (n x : ℕ) → x < n → In x (numbers_below n)
 in_numbers zero x h = absurd (omega arith)
 in_numbers (suc n) x h = elim (cases_eq x n) [ inl e ↦ inl e | inr ne ↦ inr (in_numbers n x (omega arith)) ]
@@ -90,8 +86,7 @@ ceiling_of_work row false false c a b = omega arith
 
 ceiling_is_lock : (row : CeilRow) (k : LockKind) → 0 < kind_ceiling row k → is_lock k ≡ true
 ceiling_is_lock row kind.Free h = absurd (omega arith)
-ceiling_is_lock row kind.Read h = refl
-ceiling_is_lock row kind.Write h = refl
+ceiling_is_lock row other h = refl
 
 module _ (rows : List (Option Row)) (held : Locks) (waiting : Waiting) (deadlines : List ℕ) (ranks : RankSet) (least : Option ℕ) (a : Agree rows held waiting deadlines ranks least)
     (set : Set) (accesses : List Accesses) (f : AreFactsOf set (record { ceilings = held.ceilings; prios = held.prios; deadlines = deadlines; accesses = accesses })) where
@@ -235,6 +230,4 @@ module _ (rows : List (Option Row)) (held : Locks) (waiting : Waiting) (deadline
     pub needs_same : (op : Op) → HasItem (length held.ceilings) op → held_needs held tx op ≡ needs_lock row.work op
     needs_same (Read item) low = ap not (ap is_lock (lock_is tx item.0 row here low) ∙ lock_of_work (has_written row.work item.0) (has_read row.work item.0))
     needs_same (Write item value) low = ap not (ap is_write (lock_is tx item.0 row here low) ∙ write_of_work (has_written row.work item.0) (has_read row.work item.0))
-    needs_same Compute low = refl
-    needs_same Commit low = refl
-    needs_same Quit low = refl
+    needs_same other low = refl

@@ -19,6 +19,7 @@ use Rattle.law_histories.proofs.Invariant.{IsPending}
 use Rattle.law_histories.proofs.Calendar.{row_none, times_at}
 use Rattle.board.specs.Answers.{most_planned, plan_reply, unless_refused}
 use Rattle.board.proofs.More.{Passes, passes}
+use Rattle.law_histories.proofs.SerialAll.{noted}
 use Rattle.core_tables.specs.Rows.{PendingSeen}
 use Rattle.core_tables.specs.Seen.{TablesSeen}
 use Rattle.core_tables.specs.Tables.{AreTables}
@@ -45,9 +46,6 @@ bounds set t s tx tick a h =
     (ap (λ (o : Option PlanRefused). unless_refused o (Ok (next_job s tx))) (sym (refusal_at set t s tx tick a) ∙ h))).0
 
 -- for another tick
-
-abbrev noted : State → ℕ → ℕ → Plans
-noted s tx tick = record { number = (plans_of s tx).number + 1; last = tick }
 
 abbrev with_at : State → ℕ → ℕ → Bool → State
 with_at s tx tick b = record s {

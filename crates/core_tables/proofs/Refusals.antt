@@ -83,11 +83,10 @@ may_of set row (Read item) h =
 may_of set row (Write item value) h =
     let a = allows (txn_of set row.job.tx.0).writes item (txn_of set row.job.tx.0).quiet row.used h in
     and_from _ _ a.named (late_enough (txn_of set row.job.tx.0).quiet row.used a.late)
-may_of set row Compute h = refl
 may_of set row Commit h =
     complete_is set (txn_of set row.job.tx.0).writes row.work
     ∙ ap (λ (o : Option ItemId). not (is_some o)) (none_of_map (unwritten set (txn_of set row.job.tx.0).writes row.work) h)
-may_of set row Quit h = refl
+may_of set row other h = refl
 
 pub has_item : (set : Set) (row : Row) (op : Op) → IsCompiled set → row.job.tx.0 < length set.txns → denied set row op ≡ None → HasItem (length set.items) op
 has_item set row (Read item) ok lt h =
@@ -96,9 +95,7 @@ has_item set row (Read item) ok lt h =
 has_item set row (Write item value) ok lt h =
     any_low (txn_of set row.job.tx.0).writes item.0 (length set.items) (writes_of set row.job.tx.0 ok lt).in_range
     (allows (txn_of set row.job.tx.0).writes item (txn_of set row.job.tx.0).quiet row.used h).named
-has_item set row Compute ok lt h = tt
-has_item set row Commit ok lt h = tt
-has_item set row Quit ok lt h = tt
+has_item set row other ok lt h = tt
 
 -- what is denied is the board's answer
 
@@ -119,9 +116,8 @@ missed_checked (Some i) rest = refl
 checked_is : (set : Set) (row : Row) (op : Op) (rest : StepReply) → checked set row op rest ≡ unless (denied set row op) rest
 checked_is set row (Read item) rest = access_checked item (txn_of set row.job.tx.0).quiet row.used rest (names_item (txn_of set row.job.tx.0).reads item.0) (nat_lt row.used (txn_of set row.job.tx.0).quiet)
 checked_is set row (Write item value) rest = access_checked item (txn_of set row.job.tx.0).quiet row.used rest (names_item (txn_of set row.job.tx.0).writes item.0) (nat_lt row.used (txn_of set row.job.tx.0).quiet)
-checked_is set row Compute rest = refl
 checked_is set row Commit rest = missed_checked (unwritten set (txn_of set row.job.tx.0).writes row.work) rest
-checked_is set row Quit rest = refl
+checked_is set row other rest = refl
 
 module _ (set : Set) (s : State) (job : JobId) (op : Op) where
   refuses_access : (item : ItemId) (quiet used : ℕ) (r : StepReply) (b c : Bool) → cond b (cond c (Some (reply.TooEarly (quiet - used))) None) (Some (reply.Undeclared item)) ≡ Some r → Refuses set s job op r
@@ -203,9 +199,8 @@ granted_access declared item quiet used h =
 denied_none : (set : Set) (row : Row) (op : Op) → may_ask set row op ≡ true → denied set row op ≡ None
 denied_none set row (Read item) h = granted_access (txn_of set row.job.tx.0).reads item (txn_of set row.job.tx.0).quiet row.used h
 denied_none set row (Write item value) h = granted_access (txn_of set row.job.tx.0).writes item (txn_of set row.job.tx.0).quiet row.used h
-denied_none set row Compute h = refl
 denied_none set row Commit h = none_by (unwritten set (txn_of set row.job.tx.0).writes row.work) (sym (complete_is set (txn_of set row.job.tx.0).writes row.work) ∙ h)
-denied_none set row Quit h = refl
+denied_none set row other h = refl
 
 checked_may : (set : Set) (row : Row) (op : Op) (rest : StepReply) → may_ask set row op ≡ true → checked set row op rest ≡ rest
 checked_may set row op rest h = checked_is set row op rest ∙ ap (λ (d : Option StepReply). unless d rest) (denied_none set row op h)
@@ -275,10 +270,6 @@ no_head = None
 pub head_row : (o : Option Row) (h : Head) → Some h ≡ option_map head_of o → (r : Row) × (o ≡ Some r) × (h ≡ head_of r)
 head_row None h e = absurd cc
 head_row (Some r) h e = (r, refl, cc)
-
-pub head_none : (o : Option Row) → no_head ≡ option_map head_of o → o ≡ None
-head_none None e = refl
-head_none (Some r) e = absurd cc
 
 -- a commit
 

@@ -1,6 +1,6 @@
 -- The releases of a tick take place one after another, in any order, since they are of different transactions.
-use Rattle.std.proofs.Common.{◌≡◌, ◌≢◌, ◌⊎◌, ℕ, zero, suc, ◌<◌, ◌==◌, ◌&&◌, not, Bool, true, false, cond, List, [], ◌∷◌, map, length, Option, None, Some, get_or, set as with_item, refl, ap, sym, ◌∙◌, subst, inl, inr, arith, get_or-set_other}
-use Rattle.std.proofs.lemmas.Bool.{eqb-true, eq-eqb, and_parts, and_from}
+use Rattle.std.proofs.Common.{◌≡◌, ◌≢◌, ◌⊎◌, ℕ, zero, suc, ◌<◌, ◌==◌, not, Bool, true, false, cond, List, [], ◌∷◌, map, length, Option, None, Some, get_or, set as with_item, refl, ap, sym, ◌∙◌, subst, inl, inr, arith, get_or-set_other}
+use Rattle.std.proofs.lemmas.Bool.{eqb-true, eq-eqb}
 use Rattle.std.proofs.lemmas.List.{length-set}
 use Rattle.std.proofs.lemmas.List.Sorted.{length_permutation, IsPermutation-refl}
 use Rattle.std.specs.List.{filter, fold, All}
@@ -11,20 +11,9 @@ use Rattle.step_journal.specs.State.{Row, row_of, new_row}
 use Rattle.step_journal.specs.Instant.{with_row}
 use Rattle.law_histories.proofs.Members.{In, in_filter}
 use Rattle.law_histories.proofs.Calendar.{AreApart}
+use Rattle.release_calendar.proofs.Moves.{same-true as same_true, same-itself as same_self}
 use Rattle.core_tables.specs.Changes.{due_jobs, later}
 use Rattle.core_tables.specs.Arriving.{CanRelease}
-
-same_true : (a b : Release) → same_release a b ≡ true → a ≡ b
-same_true a b h =
-    let parts : ((a.job.tx.0 == b.job.tx.0 && a.job.serial == b.job.serial) ≡ true) × ((a.tick == b.tick) ≡ true) = and_parts _ _ h in
-    let job : ((a.job.tx.0 == b.job.tx.0) ≡ true) × ((a.job.serial == b.job.serial) ≡ true) = and_parts _ _ parts.0 in
-    let tx : a.job.tx.0 ≡ b.job.tx.0 = eqb-true _ _ job.0 in
-    let serial : a.job.serial ≡ b.job.serial = eqb-true _ _ job.1 in
-    let tick : a.tick ≡ b.tick = eqb-true _ _ parts.1 in
-    let q : record { job = record { tx = record { 0 = a.job.tx.0 }; serial = a.job.serial }; tick = a.tick } ≡ record { job = record { tx = record { 0 = b.job.tx.0 }; serial = b.job.serial }; tick = b.tick } = cc in q
-
-same_self : (a : Release) → same_release a a ≡ true
-same_self a = and_from _ _ (and_from _ _ (eq-eqb a.job.tx.0 a.job.tx.0 refl) (eq-eqb a.job.serial a.job.serial refl)) (eq-eqb a.tick a.tick refl)
 
 -- members
 

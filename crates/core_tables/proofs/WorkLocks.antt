@@ -76,9 +76,7 @@ lock_by w r = cond w kind.Write (cond r kind.Read kind.Free)
 abbrev pub op_lock : Op → ℕ → LockKind → LockKind
 op_lock (Read item) i k = cond (i == item.0) (and_read k) k
 op_lock (Write item value) i k = cond (i == item.0) kind.Write k
-op_lock Compute i k = k
-op_lock Commit i k = k
-op_lock Quit i k = k
+op_lock other i k = k
 
 read_more : (w r e : Bool) → lock_by w (e || r) ≡ cond e (and_read (lock_by w r)) (lock_by w r)
 read_more true true true = refl
@@ -112,24 +110,18 @@ lock_after items work (Read item) i = read_lock items work item i (has_written w
 lock_after items work (Write item value) i =
     ap (λ (w : Bool). lock_by w (has_read work i)) (write_found work.writes item value i ∙ ap (λ (b : Bool). b || has_written work i) (eqb_sym item.0 i))
     ∙ write_more (has_written work i) (has_read work i) (i == item.0)
-lock_after items work Compute i = refl
-lock_after items work Commit i = refl
-lock_after items work Quit i = refl
+lock_after items work other i = refl
 
 -- the table's change is that one, at the transaction
 pub locked_here : (held : Locks) (tx : ℕ) (op : Op) (i : ℕ) → op_locked_at held tx op tx i ≡ op_lock op i (lock_at held tx i)
 locked_here held tx (Read item) i = ap (λ (t : Bool). cond (t && (i == item.0)) (and_read (lock_at held tx i)) (lock_at held tx i)) (eq-eqb tx tx refl)
 locked_here held tx (Write item value) i = ap (λ (t : Bool). cond (t && (i == item.0)) kind.Write (lock_at held tx i)) (eq-eqb tx tx refl)
-locked_here held tx Compute i = refl
-locked_here held tx Commit i = refl
-locked_here held tx Quit i = refl
+locked_here held tx other i = refl
 
 pub locked_there : (held : Locks) (tx : ℕ) (op : Op) (k i : ℕ) → (k == tx) ≡ false → op_locked_at held tx op k i ≡ lock_at held k i
 locked_there held tx (Read item) k i e = ap (λ (t : Bool). cond (t && (i == item.0)) (and_read (lock_at held k i)) (lock_at held k i)) e
 locked_there held tx (Write item value) k i e = ap (λ (t : Bool). cond (t && (i == item.0)) kind.Write (lock_at held k i)) e
-locked_there held tx Compute k i e = refl
-locked_there held tx Commit k i e = refl
-locked_there held tx Quit k i e = refl
+locked_there held tx other k i e = refl
 
 -- what was touched after an operation was touched before, or is its item
 
@@ -157,13 +149,9 @@ touched_after items work (Write item value) i h =
       | inl r ↦ inl (or_left (has_read work i) (has_written work i) r)
       | inr w ↦ elim (or_cases (item.0 == i) (has_written work i) (sym (write_found work.writes item value i) ∙ w)) [ inl e ↦ inr (eqb-true _ _ e) | inr old ↦ inl (or_right (has_read work i) (has_written work i) old) ]
     ]
-touched_after items work Compute i h = inl h
-touched_after items work Commit i h = inl h
-touched_after items work Quit i h = inl h
+touched_after items work other i h = inl h
 
 pub item_low : (count : ℕ) (op : Op) (i : ℕ) → HasItem count op → IsItemOf op i → i < count
 item_low count (Read item) i h e = omega (arith, h, e)
 item_low count (Write item value) i h e = omega (arith, h, e)
-item_low count Compute i h e = absurd e
-item_low count Commit i h e = absurd e
-item_low count Quit i h e = absurd e
+item_low count other i h e = absurd e

@@ -5,7 +5,7 @@ use Rattle.std.specs.Option.{option_map}
 use Rattle.rt_base.specs.declared.ids.JobId.{JobId}
 use Rattle.rt_base.specs.declared.ids.ItemId.{ItemId}
 use Rattle.rt_base.specs.declared.operation.Op.{Op}
-use Rattle.rt_base.specs.declared.operation.Op.TheVariants.{Read, Write, Compute, Commit, Quit}
+use Rattle.rt_base.specs.declared.operation.Op.TheVariants.{Read, Write, Commit}
 use Rattle.rt_base.specs.declared.operation.End.{End}
 use Rattle.rt_base.specs.declared.operation.End.TheVariants as end
 use Rattle.rt_base.specs.declared.release.Release.{Release}
@@ -62,9 +62,8 @@ access_by declared item quiet used =
 abbrev pub denied : Set → Row → Op → Option StepReply
 denied set row (Read item) = access_by (txn_of set row.job.tx.0).reads item (txn_of set row.job.tx.0).quiet row.used
 denied set row (Write item value) = access_by (txn_of set row.job.tx.0).writes item (txn_of set row.job.tx.0).quiet row.used
-denied set row Compute = None
 denied set row Commit = option_map (λ i. reply.Unwritten i) (unwritten set (txn_of set row.job.tx.0).writes row.work)
-denied set row Quit = None
+denied set row other = None
 
 -- the pending rows and the tallies after a step of this row, where it ends the job or not
 abbrev pub pending_settled : Row → Option End → PendingSeen → PendingSeen

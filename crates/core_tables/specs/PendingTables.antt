@@ -10,7 +10,7 @@ use Rattle.ceiling_table.specs.declared.LockKind.{LockKind}
 use Rattle.ceiling_table.specs.declared.LockKind.TheVariants as kind
 use Rattle.ceiling_table.specs.Held.{Locks, lock_at, locked_at}
 use Rattle.rt_base.specs.declared.operation.Op.{Op}
-use Rattle.rt_base.specs.declared.operation.Op.TheVariants.{Read, Write, Compute, Commit, Quit}
+use Rattle.rt_base.specs.declared.operation.Op.TheVariants.{Read, Write}
 use Rattle.inherit_prio.specs.Waits.{Waiting, IsOrder, on_of, tx_of}
 use Rattle.dispatch_core.specs.Dispatch.{IsRunning}
 use Rattle.strict_commit.specs.Jobs.{Job}
@@ -168,9 +168,7 @@ earlier_of tick (Some other) = min tick other
 abbrev pub op_locked_at : Locks → ℕ → Op → ℕ → ℕ → LockKind
 op_locked_at held tx (Read item) t i = locked_at held tx item.0 false t i
 op_locked_at held tx (Write item value) t i = locked_at held tx item.0 true t i
-op_locked_at held tx Compute t i = lock_at held t i
-op_locked_at held tx Commit t i = lock_at held t i
-op_locked_at held tx Quit t i = lock_at held t i
+op_locked_at held tx other t i = lock_at held t i
 
 abbrev pub job_after : List Stored → Op → Job → Job
 job_after items op job = record job { work = work_after items job.work op }

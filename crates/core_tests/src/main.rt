@@ -1,7 +1,6 @@
 //! Does what the lines of standard input say, and prints what came of it. Of the set that they declare: makes calls on a core and
 //! on a plain core, replays histories, and drives both cores by the same calls from a seed. Lines that begin with `set` declare
-//! further sets, which are compiled, admitted and rated; besides, they ask for responses and ages of plain rows. A line `drive`
-//! runs the generated set on one board, which bench/core measures. Others try the crates below: names and counted looks, sources
+//! further sets, which are compiled, admitted and rated; besides, they ask for responses and ages of plain rows. Others try the crates below: names and counted looks, sources
 //! and sinks of bytes, items, scripts, the journal, releases and outs of entries; disks in memory and over files; and what lines of
 //! journals and heads of reports are read as, where `⏎` stands for a line end and `␍` for a carriage return. Empty lines and lines
 //! that begin with `#` are passed over.
@@ -11,8 +10,6 @@ mod below;
 mod boards;
 mod compare;
 mod disks;
-mod drive;
-mod driven;
 mod edge;
 mod heads;
 mod histories;
@@ -31,7 +28,6 @@ mod texts;
 mod words;
 
 use disks::{Kept, follow_disk};
-use driven::drive_board;
 use scene::{Scene, follow};
 use sets::{Declared, follow_set, nothing};
 use std::io;
@@ -56,7 +52,6 @@ fn follow_line<'a>(
     match word {
         "set" => follow_set(alloc, &mut made.declared, rest, said),
         "disk" => follow_disk(rt, &mut made.disks, rest, said),
-        "drive" => drive_board(alloc, rest, said),
         _ => follow(alloc, &mut made.scene, line, said),
     }
 }

@@ -38,13 +38,6 @@ found_short slot k at count file into bytes here is less long cut finds off =
     let low : length bytes < 256 = omega (arith, ap length cut, length-take count into, less) in
     subst (λ l. Finds slot into (slot_of l)) same (finds_other slot bytes into (slot_of bytes) (off low) finds)
 
-pub found_whole : (slot : Slot) (k at count : ℕ) (file into : List ℕ) → at ≡ 256 * k → IsRead file at count into → count ≡ 256 → length into ≡ 256
-    → Finds slot into (slot_of into) → Finds slot into (slot_at k file)
-found_whole slot k at count file into here is all long finds =
-    let same : into ≡ take 256 (drop (256 * k) file) =
-    sym (take_all count into (omega (arith, all, long))) ∙ is.bytes ∙ ap (λ (n : ℕ). take n (drop at file)) all ∙ ap (λ (a : ℕ). take 256 (drop a file)) here in
-    subst (λ l. Finds slot into (slot_of l)) same finds
-
 pub found_short_told : (slot : Slot) (k at count : ℕ) (seen : Option (List ℕ)) (into bytes : List ℕ) → at ≡ 256 * k → IfSome seen (λ file. IsRead file at count into) → count < 256 → length into ≡ 256 → bytes ≡ take count into
     → Finds slot bytes (slot_of bytes) → (length bytes < 256 → slot ≡ Whole → ⊥) → IfSome seen (λ file. Finds slot into (slot_at k file))
 found_short_told slot k at count None into bytes here is less long cut finds off = tt

@@ -1,5 +1,5 @@
 -- A log that was opened stands for the entries that it handed out.
-use Rattle.std.proofs.Common.{◌≡◌, ℕ, ◌+◌, false, List, [], length, Option, Some, None, IfSome, IsSome, ◌↔◌, refl, sym, ◌∙◌, subst, arith, ◌*◌, ◌∷◌, Ok, ap}
+use Rattle.std.proofs.Common.{◌≡◌, ℕ, ◌+◌, false, List, [], length, Option, Some, None, IfSome, IsSome, ◌↔◌, refl, sym, ◌∙◌, subst, arith, ◌*◌, ◌∷◌, ap}
 use Rattle.std.specs.List.{AllByRecursion}
 use Rattle.std.proofs.lemmas.List.{length-map}
 use Rattle.rt_base.specs.declared.name.Names.{Names}
@@ -10,27 +10,16 @@ use Rattle.step_journal.specs.History.{IsLegal}
 use Rattle.journal_text.specs.Lines.{entry_line}
 use Rattle.journal_text.specs.EntryLaws.{LinesBothWays}
 use Rattle.durable_disk.specs.Images.{Written}
-use Rattle.durable_disk.specs.Device.{AfterWrite, BothTold, Only}
+use Rattle.durable_disk.specs.Device.{Only}
 use Rattle.durable_disk.specs.Records.{Reads}
 use Rattle.durable_disk.specs.Laws.{FoundAsRead, WholeIsWide, ClosedAsRead}
 use Rattle.durable_journal.specs.declared.scan.Stop.{Stop}
-use Rattle.durable_journal.specs.declared.scan.Stop.TheVariants.{Ended, Unended, Broken, More}
+use Rattle.durable_journal.specs.declared.scan.Stop.TheVariants.{Ended, Unended}
 use Rattle.durable_journal.specs.Format.{body_of, bodies_of}
 use Rattle.durable_journal.specs.Texts.{ended, unended, texts_from}
 use Rattle.durable_journal.specs.Log.{Fits, Stood}
 use Rattle.durable_journal.specs.Opened.{Scanned, texts_by, ClosesAt, IsEnd}
 use Rattle.durable_journal.proofs.Converse.{found_entries, found_unended}
-
--- a gate was written, and synced
-pub closes_at : {T : Type 0} (E : Type 0) (t : T) (at k : ℕ) (seen mid later : Option (List ℕ)) (outcomes : List ℕ → Type 0) → at ≡ 256 * k → BothTold (AfterWrite {T = T} {E = E} (Ok t) at (0 ∷ [])) seen mid → later ≡ mid → Only later outcomes → ClosesAt seen later outcomes k
-closes_at E t at k None mid later outcomes is both next only = tt
-closes_at E t at k (Some f) None later outcomes is both next only = absurd both
-closes_at E t at k (Some f) (Some g) later outcomes is both next only = (
-  g,
-  next,
-  subst (λ (a : ℕ). Written a (0 ∷ []) f g) is (both.written (omega arith)),
-  let P : Option (List ℕ) → Type 0 = λ s. Only s outcomes in subst P next only,
-)
 
 -- a disk that did not tell does not begin to
 none_after : (s t : Option (List ℕ)) → (IsSome t → IsSome s) → s ≡ None → t ≡ None
@@ -75,8 +64,7 @@ module _ (lines : LinesBothWays) (found : FoundAsRead) (wide : WholeIsWide) (clo
     by_stop : (s : Stop) → stop ≡ s → IsEnd s → Stood names set (seen new) (may_leave new) count false es
     by_stop Ended is end = at_end is
     by_stop Unended is end = at_missing is
-    by_stop Broken is end = absurd end
-    by_stop More is end = absurd end
+    by_stop other is end = absurd end
 
   -- of a disk that does not tell
   made_untold : (outcomes : List ℕ → Type 0) (count : ℕ) (es : List Entry) → AllByRecursion (Fits names) es → IsLegal set es → count ≡ length es + 1 → Stood names set None outcomes count false es

@@ -14,6 +14,7 @@ use Rattle.durable_disk.specs.Laws.{FoundAsRead}
 use Rattle.durable_disk.specs.Standing.{IsSettled, IsStaging}
 use Rattle.durable_disk.proofs.Pieces.{bodies_read}
 use Rattle.durable_disk.proofs.Calls.{settled_each}
+use Rattle.law_histories.proofs.Events.{false_from as not_true}
 use Rattle.durable_journal.specs.Format.{body_of, bodies_of, entry_bodies, header}
 use Rattle.durable_journal.specs.declared.log.LogError.{LogError}
 use Rattle.durable_journal.specs.declared.log.LogError.TheVariants.{Stopped}
@@ -27,10 +28,6 @@ nothing_staged (Some file) outcomes bodies settled = (
   subst (λ (l : List (List ℕ)). HasBodies file l (length bodies)) (sym (append-nil bodies)) (bodies_read file bodies settled.0),
   settled_each (Some file) outcomes bodies settled,
 )
-
-pub not_true : (b : Bool) → (b ≡ true → ⊥) → b ≡ false
-not_true true off = absurd (off (cc))
-not_true false off = cc
 
 pub fit_append : (names : Names) (xs ys : List Entry) → AllByRecursion (Fits names) xs → AllByRecursion (Fits names) ys → AllByRecursion (Fits names) (xs ++ ys)
 fit_append names [] ys few more = more

@@ -1,48 +1,13 @@
--- How many ranks a set has, and what is left of the waits when the waiters are gone over.
-use Rattle.std.proofs.Common.{◌≡◌, ℕ, zero, suc, ◌+◌, ◌<◌, ◌≤◌, ◌==◌, Bool, true, false, not, ◌&&◌, cond, List, length, get_or, set, Option, None, Some, refl, ap, sym, ◌∙◌, inl, inr, arith}
-use Rattle.std.proofs.lemmas.Bool.{cases_eq, cases_lt, eq-eqb, ne_eqb, and_left, not_from_true}
+-- What is left of the waits when the waiters are gone over.
+use Rattle.std.proofs.Common.{◌≡◌, ℕ, ◌<◌, Bool, true, false, cond, List, length, get_or, set, Option, None, Some, refl, ap, sym, ◌∙◌, inl, inr, arith}
+use Rattle.std.proofs.lemmas.Bool.{cases_eq, cases_lt}
 use Rattle.std.proofs.lemmas.List.{get_or-set_same, get_or-set_other, get_or_read, get_or_past}
 use Rattle.rt_base.specs.declared.ids.TxId.{TxId}
 use Rattle.rt_base.specs.declared.rank_set.RankSet.{RankSet}
 use Rattle.rt_base.specs.Ranks.{has_rank, IsLeastRank}
+use Rattle.rt_base.proofs.Ranks.{Without, without_this, without_other}
 use Rattle.inherit_prio.specs.Waits.{tx_of, on_of, is_tx, unless_on, no_ranks, ranks_at, IsOrder, IsTable, IsRanking, AreRanksOn}
 use Rattle.inherit_prio.proofs.Orders.{same_rank}
-
-abbrev pub one_if : Bool → ℕ
-one_if true = 1
-one_if false = 0
-
--- how many of the ranks below n the set has
-abbrev pub count_ranks : ℕ → RankSet → ℕ
-count_ranks zero s = 0
-count_ranks (suc n) s = one_if (has_rank s n) + count_ranks n s
-
--- the second set is the first without one rank
-abbrev pub Without : RankSet → RankSet → ℕ → Type 0
-Without s t k = (rank : ℕ) → has_rank t rank ≡ (not (rank == k) && has_rank s rank)
-
-other_rank : (s t : RankSet) (k n : ℕ) → Without s t k → (n ≡ k → ⊥) → has_rank t n ≡ has_rank s n
-other_rank s t k n w ne = w n ∙ ap (λ (b : Bool). not b && has_rank s n) (ne_eqb _ _ ne)
-
-this_rank : (s t : RankSet) (k : ℕ) → Without s t k → has_rank t k ≡ false
-this_rank s t k w = w k ∙ and_left _ _ (not_from_true _ (eq-eqb k k refl))
-
-count_same : (s t : RankSet) (k n : ℕ) → Without s t k → n ≤ k → count_ranks n t ≡ count_ranks n s
-count_same s t k zero w le = refl
-count_same s t k (suc n) w le = ap (λ (b : Bool). one_if b + count_ranks n t) (other_rank s t k n w (λ (q : n ≡ k). omega arith)) ∙ ap (λ (m : ℕ). one_if (has_rank s n) + m) (count_same s t k n w (omega arith))
-
-pub count_less : (s t : RankSet) (k n : ℕ) → Without s t k → has_rank s k ≡ true → k < n → count_ranks n t < count_ranks n s
-count_less s t k zero w h lt = absurd (omega arith)
-count_less s t k (suc n) w h lt =
-    elim (cases_eq n k) [
-      | inl e ↦ (
-          let gone : one_if (has_rank t n) ≡ 0 = ap one_if (ap (has_rank t) e ∙ this_rank s t k w) in
-          let was : one_if (has_rank s n) ≡ 1 = ap one_if (ap (has_rank s) e ∙ h) in
-          omega (arith, gone, was, count_same s t k n w (omega arith)))
-      | inr ne ↦ (
-          let same : one_if (has_rank t n) ≡ one_if (has_rank s n) = ap one_if (other_rank s t k n w ne) in
-          omega (arith, same, count_less s t k n w h (omega arith)))
-    ]
 
 -- ---- one waiter stops waiting
 
@@ -68,12 +33,12 @@ ranks_step on order tx rank left left' waiter size o a least e w =
             | inl q ↦ (
                 let who : tx_of order r ≡ waiter.0 = ap (tx_of order) q ∙ sym is.1 in
                 let none : on_of (set on waiter.0 None) (tx_of order r) ≡ None = ap (on_of (set on waiter.0 None)) who ∙ get_or-set_same on waiter.0 None None (omega (arith, size, is.0)) in
-                ap (has_rank left') q ∙ this_rank left left' rank w ∙ sym (ap (λ (p : Option TxId). is_tx p tx) none))
+                ap (has_rank left') q ∙ without_this left left' rank w ∙ sym (ap (λ (p : Option TxId). is_tx p tx) none))
             | inr nq ↦ (
                 let away : tx_of order r ≡ waiter.0 → ⊥ = (λ k. nq (o.one_rank r rank lr lt (k ∙ is.1))) in
-                other_rank left left' rank r w nq ∙ a.within r lr ∙ sym (ap (λ (p : Option TxId). is_tx p tx) (get_or-set_other on waiter.0 (tx_of order r) None None away)))
+                without_other left left' rank r w nq ∙ a.within r lr ∙ sym (ap (λ (p : Option TxId). is_tx p tx) (get_or-set_other on waiter.0 (tx_of order r) None None away)))
           ];
-      beyond = λ r ge. other_rank left left' rank r w (λ (q : r ≡ rank). omega arith) ∙ a.beyond r ge;
+      beyond = λ r ge. without_other left left' rank r w (λ (q : r ≡ rank). omega arith) ∙ a.beyond r ge;
     }
 
 unless_is : (tx : ℕ) (o : Option TxId) → is_tx o tx ≡ true → unless_on tx o ≡ None

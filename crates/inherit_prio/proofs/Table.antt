@@ -1,12 +1,12 @@
 -- What one wait more or less leaves of the table, and the priority that is inherited.
 use Rattle.std.proofs.Common.{◌≡◌, ℕ, zero, suc, ◌<◌, ◌≤◌, ◌==◌, max, Bool, true, false, not, ◌&&◌, ◌||◌, cond, List, length, get_or, set, replicate, Option, None, Some, refl, ap, sym, ◌∙◌, subst, inl, inr, arith}
 use Rattle.std.proofs.Math.Nat.{le-max_left, le-max_right}
-use Rattle.std.proofs.lemmas.Bool.{cases_eq, cases_lt, cases_order, eqb-true, eq-eqb, ne_eqb, or_left, and_left, not_from_true}
+use Rattle.std.proofs.lemmas.Bool.{cases_eq, cases_lt, cases_order, eq-eqb, ne_eqb, or_left, and_left, not_from_true}
 use Rattle.std.proofs.lemmas.List.{get_or-set_same, get_or-set_other, get_or_read, get_or-replicate, length-set, length-replicate}
 use Rattle.rt_base.specs.declared.ids.TxId.{TxId}
 use Rattle.rt_base.specs.declared.rank_set.RankSet.{RankSet}
 use Rattle.rt_base.specs.Ranks.{has_rank, IsLeastRank}
-use Rattle.inherit_prio.specs.Waits.{Waiting, prio_of, tx_of, on_of, is_tx, waits, highest_waiter, effective_of, IsOrder, unless_on, no_ranks, ranks_at, IsShallow, AreWaiters, IsTable}
+use Rattle.inherit_prio.specs.Waits.{Waiting, prio_of, tx_of, on_of, is_tx, waits, highest_waiter, effective_of, IsOrder, no_ranks, ranks_at, IsShallow, AreWaiters, IsTable}
 use Rattle.inherit_prio.specs.Ranks.{IsRanked}
 use Rattle.inherit_prio.proofs.Orders.{same_rank}
 
@@ -176,59 +176,6 @@ unblock_keeps prios order on on' ranks waiters waiters' tx u rank was now t lt w
       waiting = rewait prios order on waiters tx.0 u.0 rank now None false one;
       shallow = shallow_less (length prios) on (set on tx.0 None) back none t.shallow;
     }))
-
-unless_back : (tx : ℕ) (o : Option TxId) (w : TxId) → unless_on tx o ≡ Some w → o ≡ Some w
-unless_back tx None w h = h
-unless_back tx (Some v) w h = at (v.0 == tx) h where
-  at : (b : Bool) → cond b None (Some v) ≡ Some w → Some v ≡ Some w
-  at true k = absurd (cc (k))
-  at false k = k
-
-unless_is_tx : (tx t : ℕ) (o : Option TxId) → (t ≡ tx → ⊥) → is_tx (unless_on tx o) t ≡ is_tx o t
-unless_is_tx tx t None ne = refl
-unless_is_tx tx t (Some v) ne = at (v.0 == tx) refl where
-  at : (b : Bool) → (v.0 == tx) ≡ b → is_tx (cond b None (Some v)) t ≡ (v.0 == t)
-  at true e = sym (ne_eqb v.0 t (λ (q : v.0 ≡ t). ne (sym q ∙ eqb-true _ _ e)))
-  at false e = refl
-
-unless_not_tx : (tx : ℕ) (o : Option TxId) → is_tx (unless_on tx o) tx ≡ false
-unless_not_tx tx None = refl
-unless_not_tx tx (Some v) = at (v.0 == tx) refl where
-  at : (b : Bool) → (v.0 == tx) ≡ b → is_tx (cond b None (Some v)) tx ≡ false
-  at true e = refl
-  at false e = e
-
-pub free_keeps : (prios : List ℕ) (order : List TxId) (on on' : List (Option TxId)) (ranks : List ℕ) (waiters waiters' : List RankSet) (tx : ℕ) (now : RankSet) → IsTable (table prios order on) ranks waiters → tx < length prios → length on' ≡ length on → ((t : ℕ) → on_of on' t ≡ unless_on tx (on_of on t)) → ((r : ℕ) → has_rank now r ≡ false) → waiters' ≡ set waiters tx now
-    → IsTable (table prios order on') ranks waiters'
-free_keeps prios order on on' ranks waiters waiters' tx now t lt size freed nobody se =
-    let here : ranks_at (set waiters tx now) tx ≡ now = get_or-set_same waiters tx now no_ranks (omega (arith, t.waiting.size)) in
-    subst (λ (s : List RankSet). IsTable (table prios order on') ranks s) (sym se)
-    (record {
-      few = t.few;
-      order = t.order;
-      size = size ∙ t.size;
-      ranks_size = t.ranks_size;
-      ranked = t.ranked;
-      waiting = record {
-        size = length-set waiters tx now ∙ t.waiting.size;
-        within = λ v r lv lr.
-            elim (cases_eq v tx) [
-              | inl e ↦ (
-                  let left : has_rank (ranks_at (set waiters tx now) v) r ≡ false = ap (λ (k : ℕ). has_rank (ranks_at (set waiters tx now) k) r) e ∙ ap (λ (s : RankSet). has_rank s r) here ∙ nobody r in
-                  let right : waits on' (tx_of order r) v ≡ false = ap (waits on' (tx_of order r)) e ∙ ap (λ (p : Option TxId). is_tx p tx) (freed (tx_of order r)) ∙ unless_not_tx tx (on_of on (tx_of order r)) in
-                  left ∙ sym right)
-              | inr ne ↦ (
-                  ap (λ (s : RankSet). has_rank s r) (get_or-set_other waiters tx v now no_ranks ne) ∙ t.waiting.within v r lv lr
-                  ∙ sym (ap (λ (p : Option TxId). is_tx p v) (freed (tx_of order r)) ∙ unless_is_tx tx v (on_of on (tx_of order r)) ne))
-            ];
-        beyond = λ v r lv le.
-            elim (cases_eq v tx) [
-              | inl e ↦ ap (λ (k : ℕ). has_rank (ranks_at (set waiters tx now) k) r) e ∙ ap (λ (s : RankSet). has_rank s r) here ∙ nobody r
-              | inr ne ↦ ap (λ (s : RankSet). has_rank s r) (get_or-set_other waiters tx v now no_ranks ne) ∙ t.waiting.beyond v r lv le
-            ];
-      };
-      shallow = shallow_less (length prios) on on' (λ v w h. unless_back tx (on_of on v) w (sym (freed v) ∙ h)) (λ v h. freed v ∙ ap (unless_on tx) h) t.shallow;
-    })
 
 -- ---- nobody waits
 

@@ -17,9 +17,8 @@ validity_of_kind (Derived validity) = Some validity
 validity_of_kind State = None
 
 abbrev pub is_derived_kind : ItemKind → Bool
-is_derived_kind (Sensor validity) = false
 is_derived_kind (Derived validity) = true
-is_derived_kind State = false
+is_derived_kind other = false
 
 -- the validity of an item; none where it is a state item or no item at all
 abbrev pub validity_of : List ItemDecl → ℕ → Option ℕ

@@ -6,7 +6,7 @@ use Rattle.std.specs.Option.{option_map_or}
 use Rattle.rt_base.specs.declared.ids.ItemId.{ItemId}
 use Rattle.rt_base.specs.declared.ids.TogetherDecl.{TogetherDecl}
 use Rattle.rt_base.specs.declared.operation.Op.{Op}
-use Rattle.rt_base.specs.declared.operation.Op.TheVariants.{Read, Write, Compute, Commit, Quit}
+use Rattle.rt_base.specs.declared.operation.Op.TheVariants.{Read, Write, Compute}
 use Rattle.rt_base.specs.declared.operation.End.{End}
 use Rattle.rt_base.specs.declared.operation.End.TheVariants as end
 use Rattle.rt_base.specs.declared.operation.Outcome.{Outcome}
@@ -75,8 +75,7 @@ abbrev pub outcome_of : List Stored → Work → Op → Outcome
 outcome_of items work (Read item) = got (write_of work item.0) (stored_of items item.0)
 outcome_of items work (Write item value) = Put
 outcome_of items work Compute = Computed
-outcome_of items work Commit = Closed
-outcome_of items work Quit = Closed
+outcome_of items work other = Closed
 
 -- what is noted of an operation: an outside read with its stamp, and a write
 abbrev pub work_after : List Stored → Work → Op → Work
@@ -85,9 +84,7 @@ work_after items work (Read item) =
     then work
     else record work { reads = with_read work.reads item (stored_of items item.0).stamp }
 work_after items work (Write item value) = record work { writes = with_write work.writes item value }
-work_after items work Compute = work
-work_after items work Commit = work
-work_after items work Quit = work
+work_after items work other = work
 
 -- each sensor or derived item among these is written (the complete-writes rule)
 abbrev pub is_complete : List ItemDecl → List ItemId → Work → Bool
@@ -173,8 +170,4 @@ write_installed decls work release items w =
 -- the items after a job ended: a committed job's writes are installed, any other leaves nothing
 abbrev pub items_after : List ItemDecl → Work → ℕ → End → List Stored → List Stored
 items_after decls work release end.Committed items = fold (write_installed decls work release) items work.writes
-items_after decls work release end.Overrun items = items
-items_after decls work release end.Late items = items
-items_after decls work release (end.Stale item stamp) items = items
-items_after decls work release end.Quit items = items
-items_after decls work release (end.Apart a b) items = items
+items_after decls work release other items = items

@@ -12,7 +12,7 @@ use Rattle.job_rows.specs.declared.row.JobRow.{JobRow}
 use Rattle.job_rows.specs.declared.row.Urgency.{Urgency}
 use Rattle.job_rows.specs.Lists.{no_urgency, prio_in, delayed}
 use Rattle.job_rows.specs.Bounds.{AreHeld, AreRanks, end_of}
-use Rattle.job_rows.proofs.Ranks.{Without, without_this, without_other, without_has}
+use Rattle.rt_base.proofs.Ranks.{Without, without_this, without_other, without_has}
 use Rattle.job_rows.proofs.Bounding.{clash, each_mapped, not_delayed}
 use Rattle.job_rows.proofs.Higher.{tx_at, rank_is, not_higher}
 

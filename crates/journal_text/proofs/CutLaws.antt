@@ -1,5 +1,5 @@
 -- Fields are read back as they were written.
-use Rattle.std.proofs.Common.{◌≡◌, ℕ, zero, suc, ◌+◌, ◌-◌, ◌<◌, Bool, true, false, ◌&&◌, cond, nat_eq, ltb, eqb, List, [], ◌∷◌, ◌++◌, length, take, drop, get_or, Option, Some, None, option_map, refl, sym, ap, subst, ◌∙◌, arith, length-append, length-drop, drop-cons, add-one}
+use Rattle.std.proofs.Common.{◌≡◌, ℕ, zero, suc, ◌+◌, ◌-◌, ◌<◌, Bool, true, false, cond, nat_eq, ltb, eqb, List, [], ◌∷◌, ◌++◌, length, take, drop, get_or, Option, Some, None, option_map, refl, sym, ap, subst, ◌∙◌, arith, length-append, length-drop, drop-cons, add-one}
 use Rattle.std.proofs.Math.Seq.{take-length, drop-append-add}
 use Rattle.std.specs.Prelude.{position, not}
 use Rattle.std.specs.List.{position_or_len, list_all}
@@ -9,6 +9,7 @@ use Rattle.std.proofs.lemmas.List.Sums.{position_or_len_is, prefix_len-le-length
 use Rattle.std.proofs.lemmas.List.Quantifiers.{position-Some}
 use Rattle.std.proofs.lemmas.Slice.Eq.{bytes_eq-Decides}
 use Rattle.std.proofs.lemmas.Bool.{lt-ltb, ltb-false, eqb-true, ne_eqb, eq-eqb}
+use Rattle.rt_base.proofs.Padding.{both as both_true}
 use Rattle.journal_text.specs.Cuts.{◌>>=◌, word_of, field_of, next, word_is, done_of, cut_at, Lacks, Ends}
 
 -- a slice from n on
@@ -32,10 +33,6 @@ map_some : {A B : Type 0} (f : A → B) (o : Option A) (y : B) → option_map f 
     → (x : A) × (o ≡ Some x) × (f x ≡ y)
 map_some f None y e = absurd cc
 map_some f (Some x) y e = (x, refl, cc)
-
-pub both_true : (a b : Bool) → (a && b) ≡ true → (a ≡ true) × (b ≡ true)
-both_true true b e = (refl, e)
-both_true false b e = absurd cc
 
 pub chosen : {A : Type 0} (b : Bool) (x : Option A) (y : A) → cond b x None ≡ Some y → (b ≡ true) × (x ≡ Some y)
 chosen true x y e = (refl, e)

@@ -6,9 +6,9 @@ use Rattle.rt_base.specs.declared.name.Names.{Names}
 use Rattle.rt_base.specs.declared.ids.TxId.{TxId}
 use Rattle.rt_base.specs.declared.ids.JobId.{JobId}
 use Rattle.rt_base.specs.declared.operation.Op.{Op}
-use Rattle.rt_base.specs.declared.operation.Op.TheVariants.{Read, Write, Compute, Commit, Quit}
+use Rattle.rt_base.specs.declared.operation.Op.TheVariants.{Read, Write}
 use Rattle.rt_base.specs.declared.operation.Outcome.{Outcome}
-use Rattle.rt_base.specs.declared.operation.Outcome.TheVariants.{Got, Put, Computed, Closed}
+use Rattle.rt_base.specs.declared.operation.Outcome.TheVariants.{Got}
 use Rattle.rt_base.specs.declared.operation.End.{End}
 use Rattle.rt_base.specs.declared.operation.End.TheVariants as end
 use Rattle.step_journal.specs.declared.entry.Entry.{Entry}
@@ -34,16 +34,11 @@ IsTick n = n < 2 ^ 64
 
 ends_op : (names : Names) (op : Op) (rest : List ℕ) → Ends (op_text names op ++ rest)
 ends_op names (Read item) rest = refl
-ends_op names (Write item value) rest = refl
-ends_op names Compute rest = refl
-ends_op names Commit rest = refl
-ends_op names Quit rest = refl
+ends_op names other rest = refl
 
 ends_outcome : (outcome : Outcome) (rest : List ℕ) → Ends rest → Ends (outcome_text outcome ++ rest)
 ends_outcome (Got value stamp) rest ends = refl
-ends_outcome Put rest ends = ends
-ends_outcome Computed rest ends = ends
-ends_outcome Closed rest ends = ends
+ends_outcome other rest ends = ends
 
 ends_over : (names : Names) (over : Option End) → Ends (over_text names over)
 ends_over names None = tt
@@ -221,17 +216,12 @@ entry_again names (Idle from to) items txns fits =
 op_known : (names : Names) (op : Op) → IsOp names op → KnownOp names op
 op_known names (Read item) h = h
 op_known names (Write item value) h = h.0
-op_known names Compute h = tt
-op_known names Commit h = tt
-op_known names Quit h = tt
+op_known names other h = tt
 
 end_known : (names : Names) (e : End) → IsEnd names e → KnownEnd names e
-end_known names end.Committed h = tt
-end_known names end.Overrun h = tt
-end_known names end.Late h = tt
 end_known names (end.Stale item stamp) h = h.0
 end_known names (end.Apart a b) h = h
-end_known names end.Quit h = tt
+end_known names other h = tt
 
 over_known : (names : Names) (o : Option End) → IsOver names o → KnownOver names o
 over_known names None h = tt

@@ -1,11 +1,10 @@
 -- Names and jobs are read back as they were written.
-use Rattle.std.proofs.Common.{◌≡◌, ℕ, zero, suc, ℤ, pos, negsuc, ◌^◌, ◌<◌, ◌≤◌, Bool, true, false, ◌&&◌, ltb, List, [], ◌∷◌, ◌++◌, length, take, get_or, Some, decimal, codes, refl, sym, ap, subst, ◌∙◌, arith, rules, w64, append_assoc}
+use Rattle.std.proofs.Common.{◌≡◌, ℕ, zero, suc, ℤ, pos, negsuc, ◌^◌, ◌<◌, ◌≤◌, Bool, true, false, ◌&&◌, ltb, List, [], ◌∷◌, ◌++◌, length, get_or, Some, decimal, codes, refl, sym, ap, subst, ◌∙◌, arith, rules, w64, append_assoc}
 use Rattle.std.specs.Prelude.{FitsSigned}
 use Rattle.std.specs.List.{list_all}
 use Rattle.std.specs.Fmt.{signed_decimal}
 use Rattle.std.specs.Str.{bytes_eq}
 use Rattle.std.proofs.lemmas.List.Quantifiers.{position-Some}
-use Rattle.std.proofs.lemmas.Bool.{ltb-true}
 use Rattle.std.proofs.lemmas.Fmt.{length-decimal-le}
 use Rattle.std.proofs.lemmas.Slice.Eq.{bytes_eq-Decides}
 use Rattle.rt_base.specs.declared.ids.TxId.{TxId}
@@ -13,10 +12,11 @@ use Rattle.rt_base.specs.declared.ids.ItemId.{ItemId}
 use Rattle.rt_base.specs.declared.ids.JobId.{JobId}
 use Rattle.rt_base.specs.Names.{is_letter, is_name_byte, is_name, AreNames}
 use Rattle.name_table.specs.Places.{place_in}
+use Rattle.rt_base.proofs.Padding.{both as both_true}
 use Rattle.journal_text.specs.Cuts.{◌>>=◌, cut_at, next, Ends, Lacks}
 use Rattle.journal_text.specs.Numbers.{short_of, IsI64}
 use Rattle.journal_text.specs.Ids.{name_at, index_of, tx_of, item_of, job_text, job_of, IsJob}
-use Rattle.journal_text.proofs.CutLaws.{some_is, bind_some, both_true, cut_again, cut_takes, position_at, lacks_append, lacks_test, next_again, Takes}
+use Rattle.journal_text.proofs.CutLaws.{some_is, bind_some, cut_again, cut_takes, position_at, lacks_append, lacks_test, next_again, Takes}
 use Rattle.journal_text.proofs.NumberLaws.{short_takes, short_again, unsigned_lacks}
 
 -- ---- the bytes of a name
@@ -38,13 +38,6 @@ name_lacks byte other (b ∷ bs) e =
     let l = both_true (is_letter b) (ltb (length bs) 32) t.0 in
     let all : list_all is_name_byte (b ∷ bs) ≡ true = rw (letter_is b l.0, t.1) refl in
     all_lacks byte other (b ∷ bs) all
-
-pub name_short : (name : List ℕ) → is_name name ≡ true → length name ≤ 32
-name_short [] e = absurd cc
-name_short (b ∷ bs) e =
-    let t = both_true (is_letter b && ltb (length bs) 32) (list_all is_name_byte bs) e in
-    let l = both_true (is_letter b) (ltb (length bs) 32) t.0 in
-    omega (arith, ltb-true _ _ l.1)
 
 -- ---- places of names
 
@@ -130,14 +123,6 @@ job_lacks txns job good fits =
     lacks_append 32 (name_at txns job.tx.0 ++ codes "/") (decimal job.serial)
     (lacks_append 32 (name_at txns job.tx.0) (codes "/") (id_lacks txns job.tx.0 good fits.0) (lacks_test 32 (codes "/") refl))
     (unsigned_lacks job.serial (omega (arith, fits.1)))
-
--- a front that has no such byte
-pub lacks_take : (byte : ℕ) (bs : List ℕ) (i : ℕ) → ((j : ℕ) → j < i → get_or bs j 0 ≡ byte → ⊥) → Lacks byte (take i bs)
-lacks_take byte [] zero h j lt = absurd (omega arith)
-lacks_take byte [] (suc i) h j lt = absurd (omega arith)
-lacks_take byte (b ∷ bs) zero h j lt = absurd (omega arith)
-lacks_take byte (b ∷ bs) (suc i) h zero lt = h zero (omega arith)
-lacks_take byte (b ∷ bs) (suc i) h (suc j) lt = lacks_take byte bs i (λ k less. h (suc k) (omega arith)) j (omega arith)
 
 pub next_job_found : (txns : List (List ℕ)) (bs front name after rest : List ℕ) (tx : TxId) (n : ℕ) → bs ≡ 32 ∷ front → front ≡ name ++ 47 ∷ after → Lacks 47 name → Lacks 32 name
     → after ≡ decimal n ++ rest → Ends rest → n < 2 ^ 32 → tx_of txns name ≡ Some tx → Some (made tx n, rest) ≡ next (job_of txns) bs

@@ -1,5 +1,5 @@
 -- Lines of entries, one after the other.
-use Rattle.std.proofs.Common.{◌≡◌, ℕ, suc, ◌+◌, ◌<◌, List, [], ◌∷◌, ◌++◌, length, take, drop, get_or, refl, sym, ap, subst, ◌∙◌, arith, append_assoc, append-nil}
+use Rattle.std.proofs.Common.{◌≡◌, ℕ, ◌+◌, ◌<◌, List, [], ◌∷◌, ◌++◌, length, take, get_or, refl, sym, ap, subst, ◌∙◌, append_assoc, append-nil}
 use Rattle.std.proofs.lemmas.List.{take_more}
 use Rattle.std.proofs.lemmas.List.Elements.{All-push}
 use Rattle.std.specs.List.{All}
@@ -41,8 +41,3 @@ pub all_more : (names : Names) (entries : List Entry) (i : ℕ) (d : Entry) → 
     → HasLine names (get_or entries i d) → All (HasLine names) (take (i + 1) entries)
 all_more names entries i d lt all one =
     subst (All (HasLine names)) (sym (take_more entries i d lt)) (All-push (HasLine names) (take i entries) (get_or entries i d) all one)
-
--- what was added last
-pub tail_is : (before more : List ℕ) (n : ℕ) → n ≡ length before → drop n (before ++ more) ≡ more
-tail_is [] more n e = (let q : n ≡ 0 = omega (arith, e) in ap (λ (k : ℕ). drop k more) q)
-tail_is (x ∷ before) more n e = ap (λ (k : ℕ). drop k (x ∷ (before ++ more))) (let q : n ≡ suc (length before) = omega (arith, e) in q) ∙ tail_is before more (length before) refl

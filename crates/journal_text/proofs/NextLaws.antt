@@ -1,12 +1,11 @@
 -- The line that is likely to be next is read as the step that it is kept for.
-use Rattle.std.proofs.Common.{◌≡◌, ℕ, zero, suc, ◌+◌, ◌-◌, ◌/◌, ◌%◌, ◌<◌, ◌≤◌, ◌^◌, Bool, true, false, nat_eq, List, [], ◌∷◌, ◌++◌, length, take, drop, get_or, set, replicate, Option, Some, None, decimal, codes, refl, sym, ap, subst, ◌∙◌, inl, inr, arith, append_assoc, length-append, length-take, drop-cons, w64}
+use Rattle.std.proofs.Common.{◌≡◌, ℕ, zero, suc, ◌+◌, ◌-◌, ◌/◌, ◌%◌, ◌<◌, ◌≤◌, ◌^◌, Bool, true, false, nat_eq, List, [], ◌∷◌, ◌++◌, length, take, drop, get_or, set, replicate, Option, Some, None, decimal, codes, refl, sym, ap, subst, ◌∙◌, inl, inr, arith, append_assoc, length-append, length-take}
 use Rattle.std.specs.Prelude.{not}
 use Rattle.std.specs.List.{position_or_len}
-use Rattle.std.specs.Int.{IsInRange, from_le_bytes, to_le_bytes}
-use Rattle.std.proofs.lemmas.Nat.{le_bytes_8}
+use Rattle.std.specs.Int.{IsInRange}
 use Rattle.std.proofs.lemmas.Bool.{cases_lt, eq-eqb}
 use Rattle.std.proofs.lemmas.Fmt.{decimal_nonempty, decimal_digit, decimal_step}
-use Rattle.std.proofs.lemmas.List.{take_at, take_more, take-append-drop, ext_get_or, get_or-take, length-take-le, set_at}
+use Rattle.std.proofs.lemmas.List.{take_at, take_more, take-append-drop, get_or-take, length-take-le, set_at}
 use Rattle.std.proofs.lemmas.List.Sums.{prefix_len_passes}
 use Rattle.std.proofs.Math.Seq.{take-length, get_or-append_seam}
 use Rattle.rt_base.specs.declared.name.Names.{Names}
@@ -19,11 +18,10 @@ use Rattle.journal_text.specs.Cuts.{◌>>=◌, cut_at, word_of, field_of, next, 
 use Rattle.journal_text.specs.Numbers.{unsigned_of}
 use Rattle.journal_text.specs.Ids.{job_of, job_text}
 use Rattle.journal_text.specs.Numerals.{placed, AreDigits}
-use Rattle.journal_text.proofs.CutLaws.{rest_of, some_is, none_some, bind_some, chosen, cut_again, field_takes, next_again, lacks_test, lacks_append}
+use Rattle.journal_text.proofs.CutLaws.{some_is, none_some, bind_some, chosen, cut_again, field_takes, next_again, lacks_test, lacks_append}
 use Rattle.journal_text.proofs.NumberLaws.{unsigned_takes, unsigned_again, unsigned_lacks, decimal_lacks}
 use Rattle.journal_text.proofs.IdLaws.{unsigned_length}
 use Rattle.journal_text.proofs.NumeralLaws.{next_digits}
-use Rattle.journal_text.specs.Lines.{entry_line}
 use Rattle.journal_text.specs.Reading.{outcome_of, over_of, step_of, entry_of}
 use Rattle.journal_text.specs.Next.{step_by, first_entry, front_of, compute_line, Holds, Awaits, IsNext, IsOwn}
 use Rattle.journal_text.specs.declared.next_step.NextStep.{NextStep}
@@ -32,70 +30,10 @@ use Rattle.journal_text.proofs.EntryLaws.{step_in}
 
 -- ---- eight bytes as one number
 
-abbrev pub eight : List ℕ → ℕ → List ℕ
-eight bs at =
-    get_or bs at 0 ∷ get_or bs (at + 1) 0 ∷ get_or bs (at + 2) 0 ∷ get_or bs (at + 3) 0 ∷ get_or bs (at + 4) 0
-    ∷ get_or bs (at + 5) 0 ∷ get_or bs (at + 6) 0 ∷ get_or bs (at + 7) 0 ∷ []
-
-nth : (bs : List ℕ) (at k : ℕ) → k < 8 → get_or (eight bs at) k 0 ≡ get_or bs (at + k) 0
-nth bs at zero lt = let same : at ≡ at + 0 = omega arith in ap (λ (i : ℕ). get_or bs i 0) same
-nth bs at (suc zero) lt = refl
-nth bs at (suc (suc zero)) lt = refl
-nth bs at (suc (suc (suc zero))) lt = refl
-nth bs at (suc (suc (suc (suc zero)))) lt = refl
-nth bs at (suc (suc (suc (suc (suc zero))))) lt = refl
-nth bs at (suc (suc (suc (suc (suc (suc zero)))))) lt = refl
-nth bs at (suc (suc (suc (suc (suc (suc (suc zero))))))) lt = refl
-nth bs at (suc (suc (suc (suc (suc (suc (suc (suc k)))))))) lt = absurd (omega (arith, lt))
-
-eight_at : (a b : List ℕ) (at i : ℕ) → eight a at ≡ eight b at → at ≤ i → i < at + 8 → get_or a i 0 ≡ get_or b i 0
-eight_at a b at i e le lt =
-    let place : at + (i - at) ≡ i = omega (arith, le) in
-    let few : i - at < 8 = omega (arith, le, lt) in
-    sym (nth a at (i - at) few ∙ ap (λ (k : ℕ). get_or a k 0) place)
-    ∙ (ap (λ (l : List ℕ). get_or l (i - at) 0) e
-    ∙ (nth b at (i - at) few ∙ ap (λ (k : ℕ). get_or b k 0) place))
-
-abbrev pub AreBytes : List ℕ → Type 0
-AreBytes bs = (i : ℕ) → get_or bs i 0 < 256
-
--- numbers that are equal have the same bytes
-pub same_eight : (a b : List ℕ) (at m n : ℕ) → AreBytes (eight a at) → AreBytes (eight b at) → m ≡ from_le_bytes w64 (eight a at)
-    → n ≡ from_le_bytes w64 (eight b at) → m ≡ n → (i : ℕ) → at ≤ i → i < at + 8 → get_or a i 0 ≡ get_or b i 0
-same_eight a b at m n one other first second same i le lt =
-    let bytes : eight a at ≡ eight b at =
-    sym (le_bytes_8 (eight a at) m refl one first) ∙ (ap (to_le_bytes w64) same ∙ le_bytes_8 (eight b at) n refl other second) in
-    eight_at a b at i bytes le lt
-
 abbrev pub SameBelow : List ℕ → List ℕ → ℕ → Type 0
 SameBelow a b n = (i : ℕ) → i < n → get_or a i 0 ≡ get_or b i 0
 
-abbrev pub SameFrom : List ℕ → List ℕ → ℕ → Type 0
-SameFrom a b at = (i : ℕ) → at ≤ i → i < at + 8 → get_or a i 0 ≡ get_or b i 0
-
-pub eight_more : (a b : List ℕ) (at m : ℕ) → m ≡ at + 8 → SameBelow a b at → SameFrom a b at → SameBelow a b m
-eight_more a b at m is below from i lt =
-    elim (cases_lt i at) [ inl low ↦ below i low | inr high ↦ from i high (omega (arith, is, lt)) ]
-
--- all are the same, where those below a place are, and the last eight
-pub all_same : (a b : List ℕ) (at len : ℕ) → 8 ≤ len → len ≤ at + 8 → len ≤ length a → len ≤ length b → SameBelow a b at
-    → SameFrom a b (len - 8) → take len a ≡ take len b
-all_same a b at len some near first second below last =
-    let one : length (take len a) ≡ len = length-take-le len a first in
-    let other : length (take len b) ≡ len = length-take-le len b second in
-    let each : (i : ℕ) → i < len → get_or a i 0 ≡ get_or b i 0 =
-    λ i lt. elim (cases_lt i at) [ inl low ↦ below i low | inr high ↦ last i (omega (arith, near, high)) (omega (arith, some, lt)) ] in
-    ext_get_or 0 (take len a) (take len b) (one ∙ sym other)
-    (λ i lt. let low : i < len = omega (arith, lt, one) in get_or-take len a i 0 low ∙ (each i low ∙ sym (get_or-take len b i 0 low)))
-
 -- ---- what follows a front
-
-pub front_cut : (a b : List ℕ) (n : ℕ) → take n a ≡ take n b → a ≡ take n b ++ take (length a - n) (drop n a)
-front_cut a b n e =
-    sym (take-append-drop n a) ∙ (ap (λ (t : List ℕ). t ++ drop n a) e ∙ ap (λ (r : List ℕ). take n b ++ r) (sym (rest_of n a)))
-
-pub blank_ends : (a : List ℕ) (n : ℕ) → n < length a → get_or a n 0 ≡ 32 → Ends (take (length a - n) (drop n a))
-blank_ends a n lt is = subst Ends (sym (rest_of n a ∙ drop-cons a n 0 lt)) is
 
 -- ---- a line that is kept
 
@@ -141,7 +79,7 @@ computed_by : (names : Names) (job : JobId) (tick : ℕ) → step_by names job t
 unfolding step_by outcome_of over_of
 computed_by names job tick = rw (op_compute names (codes " compute") [] refl tt) refl
 
-no_digit : ¬ IsInRange 48 57 10
+pub no_digit : ¬ IsInRange 48 57 10
 no_digit h = omega (arith, h.0, h.1)
 
 line_lacks : (names : Names) (n : NextStep) (h : Awaits names n) → Lacks 10 (front_of h.word n.tick ++ codes " compute")
@@ -429,9 +367,6 @@ own_carries names n own some nine digit low lt = own_on names n (carried_on n) o
 pub nothing : (names : Names) (n : NextStep) → n.len ≡ 0 → IsNext names n
 nothing names n none = record { within = omega (arith, none); awaits = λ enough. absurd (omega (arith, none, enough)) }
 
-pub own_nothing : (names : Names) (n : NextStep) → n.len ≡ 0 → IsOwn names n
-own_nothing names n none = record { within = omega (arith, none); holds = λ enough. absurd (omega (arith, none, enough)) }
-
 -- ---- a line that is noted
 
 pub noted : (names : Names) (n : NextStep) (fields word : List ℕ) → n.len ≡ 4 + length fields + 9 → n.len ≤ 64
@@ -571,16 +506,6 @@ pub own_line : (names : Names) (n : NextStep) (job : JobId) (tick : ℕ) → IsO
 own_line names n job tick own some same at =
     (own.holds some).line
     ∙ (ap (λ (j : JobId). compute_line names j n.tick) (sym same) ∙ ap (compute_line names job) (sym at))
-
--- the line of a Compute by its parts
-pub compute_whole : (names : Names) (job : JobId) (tick : ℕ) → entry_line names (Step job Compute Computed None tick) ++ codes "\n" ≡ compute_line names job tick
-compute_whole names job tick =
-    let word : List ℕ = job_text names.txns job in
-    append_assoc (codes "step") (field word ++ (field (decimal tick) ++ codes " compute")) (codes "\n")
-    ∙ (ap (λ (r : List ℕ). codes "step" ++ r)
-    (append_assoc (field word) (field (decimal tick) ++ codes " compute") (codes "\n")
-    ∙ ap (λ (r : List ℕ). field word ++ r) (append_assoc (field (decimal tick)) (codes " compute") (codes "\n")))
-    ∙ sym (grouped word tick (codes " compute\n")))
 
 -- what stands before, and a front of what follows
 pub take_past : (a b : List ℕ) (n m : ℕ) → n ≡ length a + m → take n (a ++ b) ≡ a ++ take m b

@@ -11,9 +11,10 @@ use Rattle.std.proofs.lemmas.Str.{IsUtf8-from_ascii}
 use Rattle.std.proofs.lemmas.Fmt.{IsAscii-decimal, digits_value-decimal, digits_decimal, parse-decimal, decimal_nonempty, decimal-digits_value, decimal_digit, first_decimal}
 use Rattle.std.proofs.lemmas.Slice.Eq.{bytes_eq-Decides}
 use Rattle.std.proofs.lemmas.Bool.{ltb-true, lt-ltb, ne_eqb, eq-eqb, eqb-true}
+use Rattle.rt_base.proofs.Padding.{both as both_true}
 use Rattle.journal_text.specs.Cuts.{◌>>=◌, Lacks}
 use Rattle.journal_text.specs.Numbers.{IsRead, is_led, unsigned_of, short_of, below_zero, signed_of, IsI64}
-use Rattle.journal_text.proofs.CutLaws.{some_is, none_some, bind_some, both_true, chosen, Takes}
+use Rattle.journal_text.proofs.CutLaws.{some_is, none_some, bind_some, chosen, Takes}
 
 pub own : IsNumeralModel (AllDigits 10) (digits_value 10)
 own = numerals_by_value (AllDigits 10) (search rules)
@@ -146,7 +147,7 @@ short_again n lt =
 pub decimal_lacks : (byte n : ℕ) → ¬ IsInRange 48 57 byte → n < 2 ^ 64 → Lacks byte (decimal n)
 decimal_lacks byte n other lt = not_in_digits own (decimal n) byte (digits_decimal own n lt) other
 
-no_minus : ¬ IsInRange 48 57 45
+pub no_minus : ¬ IsInRange 48 57 45
 no_minus h = omega (arith, h.0, h.1)
 
 below_takes : (m : ℕ) (z : ℤ) → below_zero m ≡ Some z → IsI64 z × (signed_decimal z ≡ 45 ∷ decimal m)

@@ -1,19 +1,12 @@
 -- Digits at the front of 32 places.
-use Rattle.std.proofs.Common.{◌≡◌, ℕ, ◌+◌, ◌-◌, ◌/◌, ◌%◌, ◌^◌, ◌<◌, ◌≤◌, Bool, true, false, ltb, List, [], ◌∷◌, ◌++◌, length, take, drop, get_or, replicate, decimal, refl, sym, ap, subst, ◌∙◌, arith, append_assoc, length-append}
+use Rattle.std.proofs.Common.{◌≡◌, ℕ, ◌+◌, ◌-◌, ◌/◌, ◌%◌, ◌^◌, ◌<◌, ◌≤◌, Bool, true, false, ltb, List, [], ◌∷◌, ◌++◌, length, drop, get_or, replicate, decimal, refl, sym, ap, subst, ◌∙◌, arith, append_assoc, length-append}
 use Rattle.std.proofs.Math.ListN.{set}
 use Rattle.std.proofs.lemmas.Fmt.{decimal_step, decimal_digit, decimal_nonempty}
 use Rattle.std.proofs.lemmas.Bool.{ltb-true, ltb-false}
-use Rattle.std.proofs.lemmas.List.{take_at, drop-replicate, set_at}
+use Rattle.std.proofs.lemmas.List.{drop-replicate, set_at}
 use Rattle.std.proofs.Math.Seq.{get_or-append_seam}
 use Rattle.journal_text.specs.Numerals.{placed, AreDigits}
 use Rattle.journal_text.proofs.IdLaws.{unsigned_length}
-
--- the digits and what stands before them
-pub placed_cut : (bs : List ℕ) (n end : ℕ) → end ≡ length bs + length (decimal n) → take end (bs ++ placed n) ≡ bs ++ decimal n
-placed_cut bs n end at =
-    let zeros : List ℕ = replicate (32 - length (decimal n)) 0 in
-    ap (take end) (sym (append_assoc bs (decimal n) zeros))
-    ∙ take_at (bs ++ decimal n) zeros end (length-append bs (decimal n) ∙ sym at)
 
 -- the places after the digits were written
 text_is : (n : ℕ) (text : List ℕ) → n < 2 ^ 64 → text ≡ decimal n → AreDigits n (text ++ drop (length text) (replicate 32 0)) (length text)

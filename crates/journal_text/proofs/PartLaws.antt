@@ -312,11 +312,7 @@ over_takes names (b ∷ bs) o e =
 
 ends_end : (names : Names) (e : End) → Ends (end_text names e)
 ends_end names end.Committed = refl
-ends_end names end.Overrun = refl
-ends_end names end.Late = refl
-ends_end names (end.Stale item stamp) = refl
-ends_end names (end.Apart a b) = refl
-ends_end names end.Quit = refl
+ends_end names other = refl
 
 pub over_again : (names : Names) (o : Option End) → AreNames names.items → IsOver names o
     → over_of names (over_text names o) ≡ Some o

@@ -37,9 +37,7 @@ stamp_text None = codes "own"
 
 abbrev pub outcome_text : Outcome → List ℕ
 outcome_text (Got value stamp) = field (signed_decimal value) ⊕ field (stamp_text stamp)
-outcome_text Put = []
-outcome_text Computed = []
-outcome_text Closed = []
+outcome_text other = []
 
 -- an end
 abbrev pub end_text : Names → End → List ℕ

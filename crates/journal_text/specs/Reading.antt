@@ -55,8 +55,7 @@ unfoldable pub outcome_of : Op → List ℕ → Option (Outcome × List ℕ)
 outcome_of (Read item) bs = got_of bs
 outcome_of (Write item value) bs = Some (Put, bs)
 outcome_of Compute bs = Some (Computed, bs)
-outcome_of Commit bs = Some (Closed, bs)
-outcome_of Quit bs = Some (Closed, bs)
+outcome_of other bs = Some (Closed, bs)
 
 -- ---- ends
 

@@ -7,7 +7,7 @@ use Rattle.std.specs.List.{find, fold, cons_option}
 use Rattle.rt_base.specs.declared.ids.JobId.{JobId}
 use Rattle.rt_base.specs.declared.ids.ItemId.{ItemId}
 use Rattle.rt_base.specs.declared.operation.Op.{Op}
-use Rattle.rt_base.specs.declared.operation.Op.TheVariants.{Read, Write, Compute, Commit, Quit}
+use Rattle.rt_base.specs.declared.operation.Op.TheVariants.{Read}
 use Rattle.rt_base.specs.declared.operation.Outcome.{Outcome}
 use Rattle.rt_base.specs.declared.operation.End.{End}
 use Rattle.rt_base.specs.declared.operation.End.TheVariants as end
@@ -62,10 +62,7 @@ read_same items items' w item None h =
 op_same : (items items' : List Stored) (w : Work) (op : Op) → Agree items items' (work_after items w op) → (outcome_of items' w op ≡ outcome_of items w op) × (work_after items' w op ≡ work_after items w op)
 unfolding Agree
 op_same items items' w (Read item) h = read_same items items' w item (write_of w item.0) (h item.0)
-op_same items items' w (Write item value) h = (refl, refl)
-op_same items items' w Compute h = (refl, refl)
-op_same items items' w Commit h = (refl, refl)
-op_same items items' w Quit h = (refl, refl)
+op_same items items' w other h = (refl, refl)
 
 pub alone_same : (items items' : List Stored) (w : Work) (ops : List Op) → ((i : ℕ) → has_read (work_alone items w ops) i ≡ true → stored_of items i ≡ stored_of items' i)
     → (outcomes_alone items' w ops ≡ outcomes_alone items w ops) × (work_alone items' w ops ≡ work_alone items w ops)
@@ -91,11 +88,7 @@ not_written w i h v k e = let t : has_written w i ≡ true = in_find (λ (q : Ow
 
 pub item_stays : (set : Set) (w : Work) (release : ℕ) (e : End) (items : List Stored) (i : ℕ) → has_written w i ≡ false → stored_of (items_after set.items w release e items) i ≡ stored_of items i
 item_stays set w release end.Committed items i h = installed_other set w release w.writes items i (not_written w i h)
-item_stays set w release end.Overrun items i h = refl
-item_stays set w release end.Late items i h = refl
-item_stays set w release (end.Stale item stamp) items i h = refl
-item_stays set w release end.Quit items i h = refl
-item_stays set w release (end.Apart a b) items i h = refl
+item_stays set w release other items i h = refl
 
 -- entries
 

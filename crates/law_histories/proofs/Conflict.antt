@@ -8,7 +8,7 @@ use Rattle.std.specs.List.{find}
 use Rattle.rt_base.specs.declared.ids.ItemId.{ItemId}
 use Rattle.rt_base.specs.declared.ids.JobId.{JobId}
 use Rattle.rt_base.specs.declared.operation.Op.{Op}
-use Rattle.rt_base.specs.declared.operation.Op.TheVariants.{Read, Write, Compute, Commit, Quit}
+use Rattle.rt_base.specs.declared.operation.Op.TheVariants.{Read, Write}
 use Rattle.txn_set.specs.Set.{Set, no_txn, txn_of, names_item, may_read, may_write}
 use Rattle.txn_set.specs.Ceilings.{write_ceiling, absolute_ceiling}
 use Rattle.item_model.specs.Work.{has_read, has_written, with_read, with_write, stored_of}
@@ -115,6 +115,4 @@ read_row set s x item false d may = record { reads = λ i h. read_declared set x
 pub row_declared : (set : Set) (s : State) (x : Row) (op : Op) → IsDeclared set x → may_ask set x op ≡ true → IsDeclared set (row_after s x op)
 row_declared set s x (Read item) d may = read_row set s x item (has_written x.work item.0) d (and_parts _ _ may).0
 row_declared set s x (Write item value) d may = record { reads = d.reads; writes = λ i h. write_declared set x item value d (and_parts _ _ may).0 i h }
-row_declared set s x Compute d may = record { reads = d.reads; writes = d.writes }
-row_declared set s x Commit d may = record { reads = d.reads; writes = d.writes }
-row_declared set s x Quit d may = record { reads = d.reads; writes = d.writes }
+row_declared set s x other d may = record { reads = d.reads; writes = d.writes }

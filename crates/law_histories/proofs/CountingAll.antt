@@ -19,13 +19,13 @@ use Rattle.law_histories.proofs.Idles.{idle_releases}
 use Rattle.law_histories.proofs.PlanOnce.{planned_once}
 
 -- of some jobs whose serials rise and lie from b below k there are at most k - b
-ended_at : (n b k : ℕ) (e : EndedJob) (es : List EndedJob) (t : Bool) → (e.job.tx.0 == n) ≡ t → (e.job.tx.0 ≡ n → (b ≤ e.job.serial) × (e.job.serial < k))
+pub ended_at : (n b k : ℕ) (e : EndedJob) (es : List EndedJob) (t : Bool) → (e.job.tx.0 == n) ≡ t → (e.job.tx.0 ≡ n → (b ≤ e.job.serial) × (e.job.serial < k))
     → (e.job.tx.0 ≡ n → length (filter (λ d. d.job.tx.0 == n) es) ≤ k - (e.job.serial + 1)) → length (filter (λ d. d.job.tx.0 == n) es) ≤ k - b
     → length (cond t (e ∷ filter (λ d. d.job.tx.0 == n) es) (filter (λ d. d.job.tx.0 == n) es)) ≤ k - b
 ended_at n b k e es true is here above rest = let own : e.job.tx.0 ≡ n = eqb-true _ _ is in omega (arith, here own, above own)
 ended_at n b k e es false is here above rest = rest
 
-ended_few : (n b k : ℕ) (es : List EndedJob) → AreRising es → ((d : EndedJob) → In d es → d.job.tx.0 ≡ n → (b ≤ d.job.serial) × (d.job.serial < k)) → length (filter (λ d. d.job.tx.0 == n) es) ≤ k - b
+pub ended_few : (n b k : ℕ) (es : List EndedJob) → AreRising es → ((d : EndedJob) → In d es → d.job.tx.0 ≡ n → (b ≤ d.job.serial) × (d.job.serial < k)) → length (filter (λ d. d.job.tx.0 == n) es) ≤ k - b
 ended_few n b k [] rising h = omega arith
 ended_few n b k (e ∷ es) rising h =
     ended_at n b k e es (e.job.tx.0 == n) refl (h e (inl refl))

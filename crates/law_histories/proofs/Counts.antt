@@ -157,7 +157,7 @@ none_at b [] n = refl
 none_at b (x ∷ xs) zero = refl
 none_at b (x ∷ xs) (suc n) = none_at b xs n
 
-abbrev no_plans : Plans
+abbrev pub no_plans : Plans
 no_plans = record { number = 0; last = 0 }
 
 opening_counted : (set : Set) → Counted set (λ _. false) [] (opening set)

@@ -56,13 +56,11 @@ abbrev pub AllPast : ℕ → List Entry → Type 0
 AllPast t [] = Unit {0}
 AllPast t (e ∷ es) = IsPast t e × AllPast t es
 
-past_later : (t u : ℕ) (e : Entry) → t ≤ u → IsPast t e → IsPast u e
+pub past_later : (t u : ℕ) (e : Entry) → t ≤ u → IsPast t e → IsPast u e
 past_later t u (Step by op outcome over tick) le h = omega arith
-past_later t u (Planned tx tick) le h = tt
-past_later t u (Blocked by op on ceiling tick) le h = tt
-past_later t u (Idle a b) le h = tt
+past_later t u other le h = tt
 
-all_later : (t u : ℕ) (es : List Entry) → t ≤ u → AllPast t es → AllPast u es
+pub all_later : (t u : ℕ) (es : List Entry) → t ≤ u → AllPast t es → AllPast u es
 all_later t u [] le h = tt
 all_later t u (e ∷ es) le h = (past_later t u e le h.0, all_later t u es le h.1)
 
@@ -70,23 +68,21 @@ all_more : (t : ℕ) (es : List Entry) (e : Entry) → AllPast t es → IsPast t
 all_more t [] e h p = (p, tt)
 all_more t (x ∷ es) e h p = (h.0, all_more t es e h.1 p)
 
-abbrev span : ℕ → ℕ → Span
+abbrev pub span : ℕ → ℕ → Span
 span from to = record { from = from; to = to }
 
-and_true : (b c : Bool) → c ≡ true → (b && c) ≡ b
+pub and_true : (b c : Bool) → c ≡ true → (b && c) ≡ b
 and_true true c h = h
 and_true false c h = refl
 
-and_false : (b c : Bool) → c ≡ false → (b && c) ≡ false
+pub and_false : (b c : Bool) → c ≡ false → (b && c) ≡ false
 and_false true c h = h
 and_false false c h = refl
 
 -- up to a tick that all entries precede, the delaying steps are those since the release
-same_in : (set : Set) (job : JobId) (from to : ℕ) (e : Entry) → IsPast to e → delayer_in set job (span from to) e ≡ since_in set job from e
+pub same_in : (set : Set) (job : JobId) (from to : ℕ) (e : Entry) → IsPast to e → delayer_in set job (span from to) e ≡ since_in set job from e
 same_in set job from to (Step by op outcome over tick) h = ap (λ (b : Bool). cond b (Some by) None) (and_true (nat_lt (prio_of set by) (prio_of set job) && nat_le from tick) (nat_lt tick to) (lt-ltb _ _ h))
-same_in set job from to (Planned tx tick) h = refl
-same_in set job from to (Blocked by op on ceiling tick) h = refl
-same_in set job from to (Idle a b) h = refl
+same_in set job from to other h = refl
 
 within_since : (set : Set) (job : JobId) (from to : ℕ) (es : List Entry) → AllPast to es → filter_map (delayer_in set job (span from to)) es ≡ steps_since set es job from
 within_since set job from to [] h = refl
@@ -94,18 +90,16 @@ within_since set job from to (e ∷ es) h =
     ap (λ (o : Option JobId). cons_option o (filter_map (delayer_in set job (span from to)) es)) (same_in set job from to e h.0) ∙ ap (cons_option (since_in set job from e)) (within_since set job from to es h.1)
 
 -- no entry before the release counts
-none_in : (set : Set) (job : JobId) (from : ℕ) (e : Entry) → IsPast from e → since_in set job from e ≡ None
+pub none_in : (set : Set) (job : JobId) (from : ℕ) (e : Entry) → IsPast from e → since_in set job from e ≡ None
 none_in set job from (Step by op outcome over tick) h = ap (λ (b : Bool). cond b (Some by) None) (and_false (nat_lt (prio_of set by) (prio_of set job)) (nat_le from tick) (lt-leb _ _ h))
-none_in set job from (Planned tx tick) h = refl
-none_in set job from (Blocked by op on ceiling tick) h = refl
-none_in set job from (Idle a b) h = refl
+none_in set job from other h = refl
 
-none_since : (set : Set) (job : JobId) (from : ℕ) (es : List Entry) → AllPast from es → steps_since set es job from ≡ []
+pub none_since : (set : Set) (job : JobId) (from : ℕ) (es : List Entry) → AllPast from es → steps_since set es job from ≡ []
 none_since set job from [] h = refl
 none_since set job from (e ∷ es) h = ap (λ (o : Option JobId). cons_option o (steps_since set es job from)) (none_in set job from e h.0) ∙ none_since set job from es h.1
 
 -- a later entry does not count for a job that ended
-late_in : (set : Set) (job : JobId) (from to : ℕ) (by : JobId) (op : Op) (outcome : Outcome) (over : Option End) (tick : ℕ) → to ≤ tick → delayer_in set job (span from to) (Step by op outcome over tick) ≡ None
+pub late_in : (set : Set) (job : JobId) (from to : ℕ) (by : JobId) (op : Op) (outcome : Outcome) (over : Option End) (tick : ℕ) → to ≤ tick → delayer_in set job (span from to) (Step by op outcome over tick) ≡ None
 late_in set job from to by op outcome over tick h = ap (λ (b : Bool). cond b (Some by) None) (and_false (nat_lt (prio_of set by) (prio_of set job) && nat_le from tick) (nat_lt tick to) (le-ltb _ _ h))
 
 pub record IsDone (set : Set) (es : List Entry) (t : ℕ) (e : EndedJob) : Type 0 where
@@ -244,7 +238,7 @@ end_delay set es t s row e items m h =
     let o : IsOne set row.job (steps_since set es row.job row.release) = subst (λ (n : ℕ). IsOne set row.job (steps_since set es row.job n)) m.release (subst (λ (j : JobId). IsOne set j (steps_since set es j m.cur.release)) m.job (h.each m.cur m.here).is_one) in
     ended_delay set es t s row e items r h.past h.done o
 
-later_stop : (s : State) (t : ℕ) (r q : Row) → r.job.tx.0 ≢ q.job.tx.0 → MayStop s q → MayStop (with_late t s r) q
+pub later_stop : (s : State) (t : ℕ) (r q : Row) → r.job.tx.0 ≢ q.job.tx.0 → MayStop s q → MayStop (with_late t s r) q
 unfolding with_end
 later_stop s t r q ne m = record { cur = freed r.job m.cur; here = stays s.rows r.job m.cur m.here (λ e. ne (sym e ∙ ap (λ (k : JobId). k.tx.0) m.job)); job = m.job; release = m.release }
 
@@ -424,11 +418,11 @@ slows_given set es false p h = tt
 at_now : (set : Set) (es : List Entry) (t : ℕ) (s : State) → Delay set es t (arrived set t s) → Delay set es (arrived set t s).now (arrived set t s)
 at_now set es t s h = subst (λ (n : ℕ). Delay set es n (arrived set t s)) (sym (arrived_now set t s)) h
 
-next_later_at : (n u : ℕ) (r : Release) (o : Option ℕ) → n ≤ r.tick → ((v : ℕ) → o ≡ Some v → n ≤ v) → earlier r.tick o ≡ u → n ≤ u
+pub next_later_at : (n u : ℕ) (r : Release) (o : Option ℕ) → n ≤ r.tick → ((v : ℕ) → o ≡ Some v → n ≤ v) → earlier r.tick o ≡ u → n ≤ u
 next_later_at n u r None a b h = omega arith
 next_later_at n u r (Some v) a b h = let c : n ≤ v = b v refl in omega arith
 
-next_later : (rs : List Release) (n u : ℕ) → next_tick rs ≡ Some u → ((r : Release) → In r rs → n ≤ r.tick) → n ≤ u
+pub next_later : (rs : List Release) (n u : ℕ) → next_tick rs ≡ Some u → ((r : Release) → In r rs → n ≤ r.tick) → n ≤ u
 next_later [] n u e f = absurd cc
 next_later (r ∷ rs) n u e f = let w : earlier r.tick (next_tick rs) ≡ u = cc in next_later_at n u r (next_tick rs) (f r (inl refl)) (λ v is. next_later rs n v is (λ q i. f q (inr i))) w
 

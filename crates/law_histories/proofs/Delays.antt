@@ -13,7 +13,7 @@ use Rattle.rt_base.specs.declared.operation.Op.{Op}
 use Rattle.rt_base.specs.declared.operation.Outcome.{Outcome}
 use Rattle.rt_base.specs.declared.operation.End.{End}
 use Rattle.step_journal.specs.declared.entry.Entry.{Entry}
-use Rattle.step_journal.specs.declared.entry.Entry.TheVariants.{Planned, Step, Blocked, Idle}
+use Rattle.step_journal.specs.declared.entry.Entry.TheVariants.{Step}
 use Rattle.txn_set.specs.Set.{Set, no_txn, txn_of, may_read, may_write}
 use Rattle.txn_set.specs.Ceilings.{write_ceiling, absolute_ceiling}
 use Rattle.step_journal.specs.State.{State, Row, prio, prio_of}
@@ -28,9 +28,7 @@ use Rattle.law_histories.proofs.Lists.{in_any, any_in}
 -- the job of a step entry from a tick on, where it is lower
 abbrev pub since_in : Set → JobId → ℕ → Entry → Option JobId
 since_in set job from (Step by op outcome over tick) = cond (nat_lt (prio_of set by) (prio_of set job) && nat_le from tick) (Some by) None
-since_in set job from (Planned tx tick) = None
-since_in set job from (Blocked by op on ceiling tick) = None
-since_in set job from (Idle a b) = None
+since_in set job from other = None
 
 abbrev pub steps_since : Set → List Entry → JobId → ℕ → List JobId
 steps_since set es job from = filter_map (since_in set job from) es

@@ -15,7 +15,7 @@ use Rattle.law_histories.proofs.Invariant.{IsPending, is_any, IsHolder, Blocks, 
 abbrev pub rows_without : List (Option Row) → JobId → List (Option Row)
 rows_without rows job = map (option_map (freed job)) (with_item rows job.tx.0 None)
 
-self_same : (j : JobId) → same_job j j ≡ true
+pub self_same : (j : JobId) → same_job j j ≡ true
 self_same j = and_from _ _ (eq-eqb j.tx.0 j.tx.0 refl) (eq-eqb j.serial j.serial refl)
 
 -- a row that is left
@@ -69,7 +69,7 @@ freed_other : (job k : JobId) (b : Bool) → same_job k job ≡ b → b ≡ fals
 freed_other job k true e h = absurd cc
 freed_other job k false e h = refl
 
-freed_keeps : (job k : JobId) (o : Option JobId) → o ≡ Some k → same_job k job ≡ false → freed_from job o ≡ Some k
+pub freed_keeps : (job k : JobId) (o : Option JobId) → o ≡ Some k → same_job k job ≡ false → freed_from job o ≡ Some k
 freed_keeps job k None h e = absurd cc
 freed_keeps job k (Some on) h e =
     let s : on ≡ k = cc in

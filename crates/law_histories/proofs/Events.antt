@@ -132,7 +132,7 @@ no_wait : (set : Set) (rows : List (Option Row)) (refused : JobId → Bool) (b :
 no_wait set rows refused b inv here holds None e = refl
 no_wait set rows refused b inv here holds (Some j) e = absurd (let t = inv.waiter_holds_nothing b j here e in cc (t.0))
 
-false_from : (b : Bool) → (b ≡ true → ⊥) → b ≡ false
+pub false_from : (b : Bool) → (b ≡ true → ⊥) → b ≡ false
 false_from true h = absurd (h refl)
 false_from false h = refl
 

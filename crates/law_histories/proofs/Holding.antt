@@ -8,7 +8,7 @@ use Rattle.std.specs.Option.{option_map, option_and_then}
 use Rattle.rt_base.specs.declared.ids.ItemId.{ItemId}
 use Rattle.txn_set.specs.declared.decl.TxnDecl.{TxnDecl}
 use Rattle.rt_base.specs.declared.operation.Op.{Op}
-use Rattle.rt_base.specs.declared.operation.Op.TheVariants.{Read, Write, Compute, Commit, Quit}
+use Rattle.rt_base.specs.declared.operation.Op.TheVariants.{Read, Write}
 use Rattle.txn_set.specs.Set.{Set, may_read, may_write}
 use Rattle.txn_set.specs.Ceilings.{greatest, write_ceiling, absolute_ceiling}
 use Rattle.item_model.specs.Work.{Work, has_read, has_written, with_read, with_write, work_after, stored_of}
@@ -31,7 +31,7 @@ in_map f x [] h = absurd h
 in_map f x (y ∷ ys) (inl e) = inl (ap f e)
 in_map f x (y ∷ ys) (inr h) = inr (in_map f x ys h)
 
-map_in : {A B : Type 0} (f : A → B) (y : B) (xs : List A) → In y (map f xs) → (x : A) × In x xs × (y ≡ f x)
+pub map_in : {A B : Type 0} (f : A → B) (y : B) (xs : List A) → In y (map f xs) → (x : A) × In x xs × (y ≡ f x)
 map_in f y [] h = absurd h
 map_in f y (x ∷ xs) (inl e) = (x, inl refl, e)
 map_in f y (x ∷ xs) (inr h) = let r = map_in f y xs h in (r.0, inr r.1, r.2)
@@ -67,7 +67,7 @@ pub find_in : {A : Type 0} (p : A → Bool) (xs : List A) → is_some (find p xs
 find_in p [] h = absurd cc
 find_in p (y ∷ ys) h = find_at p y ys (p y) refl (find_in p ys) h
 
-greatest_least : {A : Type 0} (f : A → ℕ) (xs : List A) (c : ℕ) → ((x : A) → In x xs → f x ≤ c) → greatest (map f xs) ≤ c
+pub greatest_least : {A : Type 0} (f : A → ℕ) (xs : List A) (c : ℕ) → ((x : A) → In x xs → f x ≤ c) → greatest (map f xs) ≤ c
 greatest_least f [] c h = omega arith
 greatest_least f (y ∷ ys) c h = let a : f y ≤ c = h y (inl refl) in let b : greatest (map f ys) ≤ c = greatest_least f ys c (λ x i. h x (inr i)) in omega arith
 
@@ -156,9 +156,7 @@ read_grows items work item false = record { reads = λ i h. reads_kept work.read
 pub work_grows : (items : List Stored) (work : Work) (op : Op) → Grows work (work_after items work op)
 work_grows items work (Read item) = read_grows items work item (has_written work item.0)
 work_grows items work (Write item value) = record { reads = λ i h. h; writes = λ i h. written_kept work.writes item value i h }
-work_grows items work Compute = record { reads = λ i h. h; writes = λ i h. h }
-work_grows items work Commit = record { reads = λ i h. h; writes = λ i h. h }
-work_grows items work Quit = record { reads = λ i h. h; writes = λ i h. h }
+work_grows items work other = record { reads = λ i h. h; writes = λ i h. h }
 
 -- ceilings
 
@@ -221,9 +219,7 @@ grown_some old new i g h =
 pub no_new_lock : (items : List Stored) (work : Work) (op : Op) → needs_lock work op ≡ false → is_any (locks (work_after items work op)) ≡ is_any (locks work)
 no_new_lock items work (Read item) h = grown_some work (work_after items work (Read item)) item.0 (work_grows items work (Read item)) (not_false _ h)
 no_new_lock items work (Write item value) h = grown_some work (work_after items work (Write item value)) item.0 (work_grows items work (Write item value)) (or_right _ _ (not_false _ h))
-no_new_lock items work Compute h = refl
-no_new_lock items work Commit h = refl
-no_new_lock items work Quit h = refl
+no_new_lock items work other h = refl
 
 -- what a grant tells
 

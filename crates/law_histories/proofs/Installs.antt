@@ -37,11 +37,7 @@ installed_count set w release (v ∷ vs) items = installed_count set w release v
 
 pub after_count : (set : Set) (w : Work) (release : ℕ) (e : End) (items : List Stored) → length (items_after set.items w release e items) ≡ length items
 after_count set w release end.Committed items = installed_count set w release w.writes items
-after_count set w release end.Overrun items = refl
-after_count set w release end.Late items = refl
-after_count set w release (end.Stale item stamp) items = refl
-after_count set w release end.Quit items = refl
-after_count set w release (end.Apart a b) items = refl
+after_count set w release other items = refl
 
 installed_stamp : (set : Set) (w : Work) (release : ℕ) (ws : List OwnWrite) (items : List Stored) (i : ℕ) → i < length items → ((stored_of items i).stamp ≡ stamp_for set.items w release i) ⊎ ((v : OwnWrite) × In v ws × (v.item.0 ≡ i))
     → (stored_of (fold (write_installed set.items w release) items ws) i).stamp ≡ stamp_for set.items w release i

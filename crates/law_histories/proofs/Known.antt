@@ -47,9 +47,7 @@ abbrev pub IsByCommit : End → Type 0
 IsByCommit end.Committed = Unit {0}
 IsByCommit (end.Stale item stamp) = Unit {0}
 IsByCommit (end.Apart a b) = Unit {0}
-IsByCommit end.Overrun = ⊥
-IsByCommit end.Late = ⊥
-IsByCommit end.Quit = ⊥
+IsByCommit other = ⊥
 
 -- what stood at the commit of a job, after these jobs had ended
 pub record Judged (set : Set) (reads : JobId → List OutsideRead) (before : List EndedJob) (e : EndedJob) : Type 0 where

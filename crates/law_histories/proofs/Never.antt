@@ -27,9 +27,7 @@ use Rattle.law_histories.proofs.Histories.{step_sound, refusal_sound, idle_sound
 -- who was refused, after one more entry
 abbrev pub refused_after : (JobId → Bool) → Entry → JobId → Bool
 refused_after refused (Blocked job op by ceiling tick) = refused_too refused job
-refused_after refused (Planned tx tick) = refused
-refused_after refused (Step job op outcome over tick) = refused
-refused_after refused (Idle from to) = refused
+refused_after refused other = refused
 
 -- a refusal is the first of its job, which holds no lock
 abbrev pub IsFirst : (JobId → Bool) → State → Entry → Type 0
@@ -218,15 +216,7 @@ legal_parts set s (x ∷ es) e h = let r = legal_parts set (state_after set s x)
 
 after_is : (refused : JobId → Bool) (e : Entry) (j : JobId) → refused_after refused e j ≡ (refused j || is_refusal_of j e)
 after_is refused (Blocked job op by ceiling tick) j = refl
-after_is refused (Planned tx tick) j = or_none (refused j) where
-  or_none : (b : Bool) → b ≡ (b || false)
-  or_none true = refl
-  or_none false = refl
-after_is refused (Step job op outcome over tick) j = or_none (refused j) where
-  or_none : (b : Bool) → b ≡ (b || false)
-  or_none true = refl
-  or_none false = refl
-after_is refused (Idle from to) j = or_none (refused j) where
+after_is refused other j = or_none (refused j) where
   or_none : (b : Bool) → b ≡ (b || false)
   or_none true = refl
   or_none false = refl

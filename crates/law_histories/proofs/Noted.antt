@@ -7,7 +7,7 @@ use Rattle.std.specs.List.{cons_option}
 use Rattle.rt_base.specs.declared.ids.JobId.{JobId}
 use Rattle.rt_base.specs.declared.ids.ItemId.{ItemId}
 use Rattle.rt_base.specs.declared.operation.Op.{Op}
-use Rattle.rt_base.specs.declared.operation.Op.TheVariants.{Read, Write, Compute, Commit, Quit}
+use Rattle.rt_base.specs.declared.operation.Op.TheVariants.{Read, Write}
 use Rattle.rt_base.specs.declared.operation.Outcome.{Outcome}
 use Rattle.step_journal.specs.declared.entry.Entry.{Entry}
 use Rattle.step_journal.specs.declared.entry.Entry.TheVariants.{Planned, Step, Blocked, Idle}
@@ -107,9 +107,7 @@ noted_read items w item None h = record {
 noted_op : (items : List Stored) (w : Work) (op : Op) → AreCurrent items w.reads → IsNoted items w (work_after items w op) (outside_read op (outcome_of items w op))
 noted_op items w (Read item) h = noted_read items w item (write_of w item.0) h
 noted_op items w (Write item value) h = record { current = h; old = λ r i. i; new = λ r e. absurd cc; only = λ r i. inl i }
-noted_op items w Compute h = noted_same items w h
-noted_op items w Commit h = noted_same items w h
-noted_op items w Quit h = noted_same items w h
+noted_op items w other h = noted_same items w h
 
 -- all operations alone
 pub record AreNoted (items : List Stored) (w w' : Work) (rs : List OutsideRead) : Type 0 where

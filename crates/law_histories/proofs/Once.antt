@@ -12,7 +12,7 @@ use Rattle.step_journal.specs.Step.{Event, step}
 use Rattle.step_journal.specs.History.{IsLegalFrom, state_of, states_after, state_after, event_of, entry_given}
 use Rattle.law_histories.specs.Sim.{Workload, IsSim, IsFixed, OneSim, plans, next_event, event_for, event_in}
 
-some_same : {A : Type 0} (a b : A) → Some a ≡ Some b → a ≡ b
+pub some_same : {A : Type 0} (a b : A) → Some a ≡ Some b → a ≡ b
 some_same a b e = cc
 
 -- the state after a history and more entries
@@ -25,7 +25,7 @@ legal_rest w s [] ys h = h
 legal_rest w s (x ∷ xs) ys h = legal_rest w (state_after w.set s x) xs ys h.1
 
 -- with nothing pending and nothing planned no event is fixed
-none_runs : (set : Set) (rows : List (Option Row)) → pending rows ≡ [] → running set rows ≡ None
+pub none_runs : (set : Set) (rows : List (Option Row)) → pending rows ≡ [] → running set rows ≡ None
 unfolding running highest
 none_runs set rows h = ap (λ (l : List Row). option_and_then (λ (r : Row). followed rows (length rows) r r.waits_on) (slice_get (in_falling_priority set l) 0)) h
 

@@ -1,19 +1,16 @@
 -- One more legal entry: the history with it is legal, and its state is the one that the step gives.
-use Rattle.std.proofs.Common.{◌≡◌, ℕ, ◌+◌, ◌<◌, ◌==◌, Bool, true, false, cond, List, [], ◌∷◌, ◌++◌, Option, None, Some, set as with_item, refl, ap, sym, ◌∙◌, arith}
-use Rattle.std.proofs.lemmas.Bool.{ne_eqb}
+use Rattle.std.proofs.Common.{◌≡◌, ◌+◌, List, [], ◌∷◌, ◌++◌, Option, None, Some, refl, ap, sym, ◌∙◌}
 use Rattle.step_journal.specs.declared.entry.Entry.{Entry}
-use Rattle.step_journal.specs.declared.entry.Entry.TheVariants.{Planned}
 use Rattle.txn_set.specs.Set.{Set}
 use Rattle.step_journal.specs.State.{State, opening}
-use Rattle.step_journal.specs.Instant.{with_row}
-use Rattle.step_journal.specs.Step.{plan, given, plans_of, next_job, may_plan, with_plan, step}
+use Rattle.step_journal.specs.Step.{step}
 use Rattle.step_journal.specs.History.{event_of, state_given, entry_given, state_after, states_after, IsLegalEntry, IsLegalFrom, IsLegal, state_of}
 
 legal_more : (set : Set) (s : State) (es : List Entry) (e : Entry) → IsLegalFrom set s es → IsLegalEntry set (states_after set s es) e → IsLegalFrom set s (es ++ e ∷ [])
 legal_more set s [] e h l = (l, tt)
 legal_more set s (x ∷ es) e h l = (h.0, legal_more set (state_after set s x) es e h.1 l)
 
-state_more : (set : Set) (s : State) (es : List Entry) (e : Entry) → states_after set s (es ++ e ∷ []) ≡ state_after set (states_after set s es) e
+pub state_more : (set : Set) (s : State) (es : List Entry) (e : Entry) → states_after set s (es ++ e ∷ []) ≡ state_after set (states_after set s es) e
 state_more set s [] e = refl
 state_more set s (x ∷ es) e = state_more set (state_after set s x) es e
 
@@ -39,24 +36,3 @@ last_from set s (x ∷ es) e h = last_from set (state_after set s x) es e h.1
 -- the last entry of a legal history is that of the step, and the state after it the step's
 pub last_step : (set : Set) (es : List Entry) (e : Entry) → IsLegal set (es ++ e ∷ []) → step set (state_of set es) (event_of e) ≡ Some (e, state_of set (es ++ e ∷ []))
 last_step set es e legal = last_from set (opening set) es e legal
-
-pub plan_later_is : (set : Set) (s : State) (tx tick : ℕ) → may_plan set s tx tick ≡ true → s.now < tick
-    → step set s (plan tx tick) ≡ Some (
-      Planned (record { 0 = tx }) tick,
-      record s {
-        plans = with_item s.plans tx (record { number = (plans_of s tx).number + 1; last = tick });
-        planned = s.planned ++ record { job = next_job s tx; tick = tick } ∷ [];
-      },
-    )
-unfolding step with_plan
-plan_later_is set s tx tick may later =
-    let e : (tick == s.now) ≡ false = ne_eqb tick s.now (λ q. omega arith) in
-    ap (λ (b : Bool). given b (Planned (record { 0 = tx }) tick, with_plan s tx tick)) may
-    ∙ ap (λ (b : Bool). Some (
-      Planned (record { 0 = tx }) tick,
-      record s {
-        plans = with_item s.plans tx (record { number = (plans_of s tx).number + 1; last = tick });
-        planned = cond b s.planned (s.planned ++ record { job = next_job s tx; tick = tick } ∷ []);
-        rows = cond b (with_row tick s.rows (next_job s tx)) s.rows;
-      },
-    )) e

@@ -34,7 +34,7 @@ use Rattle.std.specs.Prelude.{slice_get}
 
 -- a plan
 
-abbrev noted : State → ℕ → ℕ → Plans
+abbrev pub noted : State → ℕ → ℕ → Plans
 noted s tx tick = record { number = (plans_of s tx).number + 1; last = tick }
 
 abbrev planned_state : State → ℕ → ℕ → List Release → List (Option Row) → State

@@ -60,9 +60,6 @@ pub record Serial (set : Set) (es : List Entry) (s : State) : Type 0 where
   pub items : s.items ≡ serial_items set es (opening set).items s.ended
   pub outcomes : map (λ e. outcomes_of es e.job) s.ended ≡ serial_outcomes set es (opening set).items s.ended
 
-pub is_serial : (set : Set) (es : List Entry) (s : State) → Serial set es s → (map (λ e. outcomes_of es e.job) s.ended ≡ serial_outcomes set es (opening set).items s.ended) × (s.items ≡ serial_items set es (opening set).items s.ended)
-is_serial set es s h = (h.outcomes, h.items)
-
 -- one more entry that is no step
 pub quiet_entry : (set : Set) (es : List Entry) (e : Entry) (s : State) → ((j : JobId) → op_in j e ≡ None) → ((j : JobId) → outcome_in j e ≡ None) → Serial set es s → Serial set (es ++ e ∷ []) s
 quiet_entry set es e s noop noout h =

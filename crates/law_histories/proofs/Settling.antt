@@ -8,7 +8,7 @@ use Rattle.std.specs.Prelude.{IsTrue}
 use Rattle.std.specs.List.{filter_map, cons_option}
 use Rattle.rt_base.specs.declared.ids.JobId.{JobId}
 use Rattle.rt_base.specs.declared.operation.Op.{Op}
-use Rattle.rt_base.specs.declared.operation.Op.TheVariants.{Read, Write, Compute, Commit, Quit}
+use Rattle.rt_base.specs.declared.operation.Op.TheVariants.{Commit, Quit}
 use Rattle.rt_base.specs.declared.operation.Outcome.{Outcome}
 use Rattle.rt_base.specs.declared.operation.End.{End}
 use Rattle.rt_base.specs.declared.operation.End.TheVariants as end
@@ -61,11 +61,9 @@ steps_not_at true e h c = (let s : end.Overrun ≡ e = cc in subst IsByCommit (s
 steps_not_at false e h c = cc
 
 pub by_commit : (set : Set) (row : Row) (t : ℕ) (op : Op) (e : End) → end_by set row t op ≡ Some e → IsByCommit e → op ≡ Commit
-by_commit set row t (Read item) e h c = absurd (steps_not_at (row.used == (txn_of set row.job.tx.0).steps) e h c)
-by_commit set row t (Write item value) e h c = absurd (steps_not_at (row.used == (txn_of set row.job.tx.0).steps) e h c)
-by_commit set row t Compute e h c = absurd (steps_not_at (row.used == (txn_of set row.job.tx.0).steps) e h c)
 by_commit set row t Commit e h c = refl
 by_commit set row t Quit e h c = absurd (let s : end.Quit ≡ e = cc in subst IsByCommit (sym s) c)
+by_commit set row t other e h c = absurd (steps_not_at (row.used == (txn_of set row.job.tx.0).steps) e h c)
 
 some_is : (a b : End) → Some a ≡ Some b → a ≡ b
 some_is a b h = cc

@@ -1,11 +1,11 @@
 -- A commit that ends exactly at the deadline counts, and stands before the next release of its instant.
-use Rattle.std.specs.Prelude.{◌≡◌, List, [], ◌∷◌, None, Some}
+use Rattle.std.specs.Prelude.{◌≡◌, List, [], ◌∷◌, take, None, Some}
 use Rattle.rt_base.specs.declared.operation.Op.TheVariants.{Compute, Commit}
 use Rattle.rt_base.specs.declared.operation.Outcome.TheVariants.{Computed, Closed}
 use Rattle.rt_base.specs.declared.operation.End.TheVariants.{Committed, Late}
 use Rattle.step_journal.specs.declared.entry.Entry.{Entry}
 use Rattle.step_journal.specs.declared.entry.Entry.TheVariants.{Planned, Step}
-use Rattle.txn_set.specs.Set.{Set, IsCompiled}
+use Rattle.txn_set.specs.Set.{Set, IsCompiled, declared}
 use Rattle.step_journal.specs.History.{IsLegal, IsLegalEntry, state_of}
 use Rattle.law_histories.specs.Ids.{tx, job}
 
@@ -13,7 +13,7 @@ unfoldable pub back_to_back : Set
 back_to_back = record {
   items = [];
   txns =
-      record { prio = 1; period = 4; offset = 0; deadline = 4; steps = 4; quiet = 0; reads = []; writes = [] }
+      declared 1 4 4 [] []
       ∷ [];
   together = [];
 }
@@ -33,13 +33,7 @@ back_to_back_entries =
     ∷ []
 
 unfoldable pub late_before_effect_before : List Entry
-late_before_effect_before =
-    (Planned (tx 0) 0)
-    ∷ (Planned (tx 0) 4)
-    ∷ (Step (job 0 0) Compute Computed None 0)
-    ∷ (Step (job 0 0) Compute Computed None 1)
-    ∷ (Step (job 0 0) Compute Computed None 2)
-    ∷ []
+late_before_effect_before = take 5 back_to_back_entries
 
 -- a job is cancelled before the effect of the step that ends at its deadline
 abbrev pub late_before_effect : Entry

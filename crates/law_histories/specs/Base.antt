@@ -1,12 +1,12 @@
 -- A sampler, a controller and a logger over a sensor and a state item: all ways to be granted, refused and resumed.
-use Rattle.std.specs.Prelude.{◌≡◌, List, [], ◌∷◌, None, Some, pos}
+use Rattle.std.specs.Prelude.{◌≡◌, List, [], ◌∷◌, take, None, Some, pos}
 use Rattle.item_model.specs.declared.decl.ItemKind.TheVariants.{Sensor, State}
 use Rattle.rt_base.specs.declared.operation.Op.TheVariants.{Read, Write, Compute, Commit}
 use Rattle.rt_base.specs.declared.operation.Outcome.TheVariants.{Got, Put, Computed, Closed}
 use Rattle.rt_base.specs.declared.operation.End.TheVariants.{Committed}
 use Rattle.step_journal.specs.declared.entry.Entry.{Entry}
 use Rattle.step_journal.specs.declared.entry.Entry.TheVariants.{Planned, Step, Blocked, Idle}
-use Rattle.txn_set.specs.Set.{Set, IsCompiled}
+use Rattle.txn_set.specs.Set.{Set, IsCompiled, declared}
 use Rattle.step_journal.specs.History.{IsLegal, IsLegalEntry, state_of}
 use Rattle.law_histories.specs.Ids.{tx, item, job}
 
@@ -14,9 +14,9 @@ unfoldable pub base : Set
 base = record {
   items = record { kind = Sensor 20; initial = pos 0 } ∷ record { kind = State; initial = pos 0 } ∷ [];
   txns =
-      record { prio = 3; period = 10; offset = 0; deadline = 10; steps = 2; quiet = 0; reads = []; writes = item 0 ∷ [] }
-      ∷ record { prio = 2; period = 20; offset = 0; deadline = 20; steps = 4; quiet = 0; reads = item 0 ∷ []; writes = item 1 ∷ [] }
-      ∷ record { prio = 1; period = 40; offset = 0; deadline = 40; steps = 6; quiet = 0; reads = item 0 ∷ item 1 ∷ []; writes = [] }
+      declared 3 10 2 [] (item 0 ∷ [])
+      ∷ declared 2 20 4 (item 0 ∷ []) (item 1 ∷ [])
+      ∷ declared 1 40 6 (item 0 ∷ item 1 ∷ []) []
       ∷ [];
   together = [];
 }
@@ -58,51 +58,14 @@ base_entries =
     ∷ []
 
 unfoldable pub equal_ceiling_granted_before : List Entry
-equal_ceiling_granted_before =
-    (Planned (tx 0) 0)
-    ∷ (Planned (tx 0) 10)
-    ∷ (Planned (tx 0) 20)
-    ∷ (Planned (tx 0) 30)
-    ∷ (Planned (tx 1) 0)
-    ∷ (Planned (tx 1) 20)
-    ∷ (Planned (tx 2) 0)
-    ∷ (Step (job 0 0) (Write (item 0) (pos 5)) Put None 0)
-    ∷ (Step (job 0 0) Commit Closed (Some Committed) 1)
-    ∷ (Step (job 1 0) (Read (item 0)) (Got (pos 5) (Some 0)) None 2)
-    ∷ (Step (job 1 0) Compute Computed None 3)
-    ∷ (Step (job 1 0) (Write (item 1) (pos 105)) Put None 4)
-    ∷ (Step (job 1 0) Commit Closed (Some Committed) 5)
-    ∷ (Step (job 2 0) (Read (item 0)) (Got (pos 5) (Some 0)) None 6)
-    ∷ (Step (job 2 0) (Read (item 1)) (Got (pos 105) (Some 0)) None 7)
-    ∷ (Step (job 2 0) Compute Computed None 8)
-    ∷ (Step (job 2 0) Compute Computed None 9)
-    ∷ []
+equal_ceiling_granted_before = take 17 base_entries
 
 -- a writer passes a reader's lock of an equal ceiling
 abbrev pub equal_ceiling_granted : Entry
 equal_ceiling_granted = Step (job 0 1) (Write (item 0) (pos 7)) Put None 10
 
 unfoldable pub blocker_passed_before : List Entry
-blocker_passed_before =
-    (Planned (tx 0) 0)
-    ∷ (Planned (tx 0) 10)
-    ∷ (Planned (tx 0) 20)
-    ∷ (Planned (tx 0) 30)
-    ∷ (Planned (tx 1) 0)
-    ∷ (Planned (tx 1) 20)
-    ∷ (Planned (tx 2) 0)
-    ∷ (Step (job 0 0) (Write (item 0) (pos 5)) Put None 0)
-    ∷ (Step (job 0 0) Commit Closed (Some Committed) 1)
-    ∷ (Step (job 1 0) (Read (item 0)) (Got (pos 5) (Some 0)) None 2)
-    ∷ (Step (job 1 0) Compute Computed None 3)
-    ∷ (Step (job 1 0) (Write (item 1) (pos 105)) Put None 4)
-    ∷ (Step (job 1 0) Commit Closed (Some Committed) 5)
-    ∷ (Step (job 2 0) (Read (item 0)) (Got (pos 5) (Some 0)) None 6)
-    ∷ (Step (job 2 0) (Read (item 1)) (Got (pos 105) (Some 0)) None 7)
-    ∷ (Step (job 2 0) Compute Computed None 8)
-    ∷ (Step (job 2 0) Compute Computed None 9)
-    ∷ (Blocked (job 0 1) (Write (item 0) (pos 7)) (job 2 0) 3 10)
-    ∷ []
+blocker_passed_before = take 18 base_entries
 
 -- the refused job runs on
 abbrev pub blocker_passed : Entry

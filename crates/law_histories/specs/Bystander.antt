@@ -1,12 +1,12 @@
 -- A blocker inherits the priority of the job that waits on it, so a job between the two waits as well.
-use Rattle.std.specs.Prelude.{◌≡◌, List, [], ◌∷◌, None, Some, pos}
+use Rattle.std.specs.Prelude.{◌≡◌, List, [], ◌∷◌, take, None, Some, pos}
 use Rattle.item_model.specs.declared.decl.ItemKind.TheVariants.{State}
 use Rattle.rt_base.specs.declared.operation.Op.TheVariants.{Read, Write, Compute, Commit}
 use Rattle.rt_base.specs.declared.operation.Outcome.TheVariants.{Got, Put, Computed, Closed}
 use Rattle.rt_base.specs.declared.operation.End.TheVariants.{Committed}
 use Rattle.step_journal.specs.declared.entry.Entry.{Entry}
 use Rattle.step_journal.specs.declared.entry.Entry.TheVariants.{Planned, Step, Blocked}
-use Rattle.txn_set.specs.Set.{Set, IsCompiled}
+use Rattle.txn_set.specs.Set.{Set, IsCompiled, declared}
 use Rattle.step_journal.specs.History.{IsLegal, IsLegalEntry, state_of}
 use Rattle.law_histories.specs.Ids.{tx, item, job}
 
@@ -14,9 +14,9 @@ unfoldable pub bystander : Set
 bystander = record {
   items = record { kind = State; initial = pos 0 } ∷ [];
   txns =
-      record { prio = 3; period = 20; offset = 0; deadline = 20; steps = 2; quiet = 0; reads = item 0 ∷ []; writes = [] }
-      ∷ record { prio = 2; period = 20; offset = 0; deadline = 20; steps = 2; quiet = 0; reads = []; writes = [] }
-      ∷ record { prio = 1; period = 40; offset = 0; deadline = 40; steps = 4; quiet = 0; reads = []; writes = item 0 ∷ [] }
+      declared 3 20 2 (item 0 ∷ []) []
+      ∷ declared 2 20 2 [] []
+      ∷ declared 1 40 4 [] (item 0 ∷ [])
       ∷ [];
   together = [];
 }
@@ -38,14 +38,7 @@ bystander_entries =
     ∷ []
 
 unfoldable pub no_inheritance_before : List Entry
-no_inheritance_before =
-    (Planned (tx 0) 1)
-    ∷ (Planned (tx 1) 2)
-    ∷ (Planned (tx 2) 0)
-    ∷ (Step (job 2 0) (Write (item 0) (pos 9)) Put None 0)
-    ∷ (Blocked (job 0 0) (Read (item 0)) (job 2 0) 3 1)
-    ∷ (Step (job 2 0) Compute Computed None 1)
-    ∷ []
+no_inheritance_before = take 6 bystander_entries
 
 -- the job between runs before the blocker
 abbrev pub no_inheritance : Entry

@@ -6,7 +6,7 @@ use Rattle.rt_base.specs.declared.ids.JobId.{JobId}
 use Rattle.rt_base.specs.declared.ids.TogetherDecl.{TogetherDecl}
 use Rattle.rt_base.specs.declared.operation.End.TheVariants as end
 use Rattle.step_journal.specs.declared.entry.Entry.{Entry}
-use Rattle.step_journal.specs.declared.entry.Entry.TheVariants.{Planned, Step, Blocked, Idle}
+use Rattle.step_journal.specs.declared.entry.Entry.TheVariants.{Step}
 use Rattle.txn_set.specs.Set.{Set, names_item, IsTheWriter, IsCompiled}
 use Rattle.item_model.specs.Kinds.{validity_of, is_dated}
 use Rattle.item_model.specs.Work.{stamp_for}
@@ -60,9 +60,7 @@ pub record TimedRead : Type 0 where
 abbrev pub timed_in : JobId → Entry → Option TimedRead
 timed_in job (Step by op outcome over tick) =
     if same_job by job then option_map (λ r. record { read = r; tick = tick }) (outside_read op outcome) else None
-timed_in job (Planned tx tick) = None
-timed_in job (Blocked by op on ceiling tick) = None
-timed_in job (Idle from to) = None
+timed_in job other = None
 
 abbrev pub timed_reads_of : List Entry → JobId → List TimedRead
 timed_reads_of entries job = filter_map (timed_in job) entries

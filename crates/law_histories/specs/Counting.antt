@@ -5,7 +5,7 @@ use Rattle.rt_base.specs.declared.ids.JobId.{JobId}
 use Rattle.rt_base.specs.declared.release.Release.{Release}
 use Rattle.txn_set.specs.declared.decl.TxnDecl.{TxnDecl}
 use Rattle.step_journal.specs.declared.entry.Entry.{Entry}
-use Rattle.step_journal.specs.declared.entry.Entry.TheVariants.{Planned, Step, Blocked, Idle}
+use Rattle.step_journal.specs.declared.entry.Entry.TheVariants.{Planned, Blocked, Idle}
 use Rattle.txn_set.specs.Set.{Set, txn_of, IsCompiled}
 use Rattle.txn_set.specs.Ceilings.{greatest}
 use Rattle.step_journal.specs.State.{State, same_job, pending, new_row, opening}
@@ -17,9 +17,7 @@ use Rattle.step_journal.specs.Serial.{ops_of}
 -- the entries that the job of a plan may have: its plan, its steps, one refusal, and the idling before its release
 abbrev pub room_in : Set → Entry → ℕ
 room_in set (Planned tx tick) = (txn_of set tx.0).steps + 3
-room_in set (Step job op outcome over tick) = 0
-room_in set (Blocked job op on ceiling tick) = 0
-room_in set (Idle from to) = 0
+room_in set other = 0
 
 abbrev pub planned_room : Set → List Entry → ℕ
 planned_room set [] = 0
@@ -28,9 +26,7 @@ planned_room set (e ∷ es) = room_in set e + planned_room set es
 -- how many jobs of a transaction were planned
 abbrev pub plans_in : ℕ → Entry → ℕ
 plans_in n (Planned tx tick) = if n == tx.0 then 1 else 0
-plans_in n (Step job op outcome over tick) = 0
-plans_in n (Blocked job op on ceiling tick) = 0
-plans_in n (Idle from to) = 0
+plans_in n other = 0
 
 abbrev pub plan_count : List Entry → ℕ → ℕ
 plan_count [] n = 0
@@ -39,9 +35,7 @@ plan_count (e ∷ es) n = plans_in n e + plan_count es n
 -- how often a job was planned: a plan is of the next job of its transaction
 abbrev pub planned_by : JobId → State → Entry → ℕ
 planned_by job s (Planned tx tick) = if same_job job (next_job s tx.0) then 1 else 0
-planned_by job s (Step by op outcome over tick) = 0
-planned_by job s (Blocked by op on ceiling tick) = 0
-planned_by job s (Idle from to) = 0
+planned_by job s other = 0
 
 abbrev pub planned_times : Set → State → List Entry → JobId → ℕ
 planned_times set s [] job = 0
@@ -55,9 +49,7 @@ room_of_jobs (t ∷ ts) jobs = jobs 0 * (t.steps + 3) + room_of_jobs ts (λ n. j
 -- how often a job was refused
 abbrev pub refusals_in : JobId → Entry → ℕ
 refusals_in job (Blocked by op on ceiling tick) = if same_job job by then 1 else 0
-refusals_in job (Planned tx tick) = 0
-refusals_in job (Step by op outcome over tick) = 0
-refusals_in job (Idle from to) = 0
+refusals_in job other = 0
 
 abbrev pub refusal_count : List Entry → JobId → ℕ
 refusal_count [] job = 0
@@ -66,9 +58,7 @@ refusal_count (e ∷ es) job = refusals_in job e + refusal_count es job
 -- the tick of a plan, and the greatest of all plans
 abbrev pub tick_in : Entry → ℕ
 tick_in (Planned tx tick) = tick
-tick_in (Step job op outcome over tick) = 0
-tick_in (Blocked job op on ceiling tick) = 0
-tick_in (Idle from to) = 0
+tick_in other = 0
 
 abbrev pub greatest_planned : List Entry → ℕ
 greatest_planned entries = greatest (map tick_in entries)

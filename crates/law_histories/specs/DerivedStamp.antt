@@ -1,13 +1,13 @@
 -- A derived item is stamped as the oldest value that it is derived from, a state item with the release, and a job reads its
 -- own write.
-use Rattle.std.specs.Prelude.{◌≡◌, List, [], ◌∷◌, None, Some, pos}
+use Rattle.std.specs.Prelude.{◌≡◌, List, [], ◌∷◌, take, None, Some, pos}
 use Rattle.item_model.specs.declared.decl.ItemKind.TheVariants.{Sensor, Derived, State}
 use Rattle.rt_base.specs.declared.operation.Op.TheVariants.{Read, Write, Commit}
 use Rattle.rt_base.specs.declared.operation.Outcome.TheVariants.{Got, Put, Closed}
 use Rattle.rt_base.specs.declared.operation.End.TheVariants.{Committed}
 use Rattle.step_journal.specs.declared.entry.Entry.{Entry}
 use Rattle.step_journal.specs.declared.entry.Entry.TheVariants.{Planned, Step, Idle}
-use Rattle.txn_set.specs.Set.{Set, IsCompiled}
+use Rattle.txn_set.specs.Set.{Set, IsCompiled, declared, released_from}
 use Rattle.step_journal.specs.History.{IsLegal, IsLegalEntry, state_of}
 use Rattle.law_histories.specs.Ids.{tx, item, job}
 
@@ -15,8 +15,8 @@ unfoldable pub derived_stamp : Set
 derived_stamp = record {
   items = record { kind = Sensor 20; initial = pos 0 } ∷ record { kind = Derived 50; initial = pos 0 } ∷ record { kind = State; initial = pos 0 } ∷ [];
   txns =
-      record { prio = 2; period = 10; offset = 0; deadline = 10; steps = 2; quiet = 0; reads = []; writes = item 0 ∷ [] }
-      ∷ record { prio = 1; period = 20; offset = 5; deadline = 20; steps = 5; quiet = 0; reads = item 0 ∷ item 2 ∷ []; writes = item 1 ∷ item 2 ∷ [] }
+      declared 2 10 2 [] (item 0 ∷ [])
+      ∷ released_from 5 (declared 1 20 5 (item 0 ∷ item 2 ∷ []) (item 1 ∷ item 2 ∷ []))
       ∷ [];
   together = [];
 }
@@ -36,16 +36,7 @@ derived_stamp_entries =
     ∷ []
 
 unfoldable pub own_read_stamped_before : List Entry
-own_read_stamped_before =
-    (Planned (tx 0) 0)
-    ∷ (Planned (tx 1) 5)
-    ∷ (Step (job 0 0) (Write (item 0) (pos 5)) Put None 0)
-    ∷ (Step (job 0 0) Commit Closed (Some Committed) 1)
-    ∷ (Idle 2 5)
-    ∷ (Step (job 1 0) (Read (item 0)) (Got (pos 5) (Some 0)) None 5)
-    ∷ (Step (job 1 0) (Write (item 1) (pos 105)) Put None 6)
-    ∷ (Step (job 1 0) (Write (item 2) (pos 7)) Put None 7)
-    ∷ []
+own_read_stamped_before = take 8 derived_stamp_entries
 
 -- the own write has a stamp
 abbrev pub own_read_stamped : Entry

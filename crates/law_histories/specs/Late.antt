@@ -1,12 +1,12 @@
 -- A job that is pending at its deadline ends Late, and leaves nothing.
-use Rattle.std.specs.Prelude.{◌≡◌, List, [], ◌∷◌, None, Some, pos}
+use Rattle.std.specs.Prelude.{◌≡◌, List, [], ◌∷◌, take, None, Some, pos}
 use Rattle.item_model.specs.declared.decl.ItemKind.TheVariants.{State}
 use Rattle.rt_base.specs.declared.operation.Op.TheVariants.{Write, Compute}
 use Rattle.rt_base.specs.declared.operation.Outcome.TheVariants.{Put, Computed}
 use Rattle.rt_base.specs.declared.operation.End.TheVariants.{Late}
 use Rattle.step_journal.specs.declared.entry.Entry.{Entry}
 use Rattle.step_journal.specs.declared.entry.Entry.TheVariants.{Planned, Step}
-use Rattle.txn_set.specs.Set.{Set, IsCompiled}
+use Rattle.txn_set.specs.Set.{Set, IsCompiled, declared}
 use Rattle.step_journal.specs.History.{IsLegal, IsLegalEntry, state_of}
 use Rattle.law_histories.specs.Ids.{tx, item, job}
 
@@ -14,7 +14,7 @@ unfoldable pub late : Set
 late = record {
   items = record { kind = State; initial = pos 0 } ∷ [];
   txns =
-      record { prio = 1; period = 4; offset = 0; deadline = 4; steps = 5; quiet = 0; reads = []; writes = item 0 ∷ [] }
+      declared 1 4 5 [] (item 0 ∷ [])
       ∷ [];
   together = [];
 }
@@ -34,27 +34,14 @@ late_entries =
     ∷ []
 
 unfoldable pub never_late_before : List Entry
-never_late_before =
-    (Planned (tx 0) 0)
-    ∷ (Planned (tx 0) 4)
-    ∷ (Step (job 0 0) (Write (item 0) (pos 1)) Put None 0)
-    ∷ (Step (job 0 0) Compute Computed None 1)
-    ∷ (Step (job 0 0) Compute Computed None 2)
-    ∷ []
+never_late_before = take 5 late_entries
 
 -- no job is cancelled
 abbrev pub never_late : Entry
 never_late = Step (job 0 0) Compute Computed None 3
 
 unfoldable pub release_before_late_before : List Entry
-release_before_late_before =
-    (Planned (tx 0) 0)
-    ∷ (Planned (tx 0) 4)
-    ∷ (Step (job 0 0) (Write (item 0) (pos 1)) Put None 0)
-    ∷ (Step (job 0 0) Compute Computed None 1)
-    ∷ (Step (job 0 0) Compute Computed None 2)
-    ∷ (Step (job 0 0) Compute Computed (Some Late) 3)
-    ∷ []
+release_before_late_before = take 6 late_entries
 
 -- the next release comes before the cancellation, and the job goes on
 abbrev pub release_before_late : Entry

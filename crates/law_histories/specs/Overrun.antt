@@ -1,11 +1,11 @@
 -- A job that used its steps without a commit ends Overrun.
-use Rattle.std.specs.Prelude.{◌≡◌, List, [], ◌∷◌, None, Some}
+use Rattle.std.specs.Prelude.{◌≡◌, List, [], ◌∷◌, take, None, Some}
 use Rattle.rt_base.specs.declared.operation.Op.TheVariants.{Compute}
 use Rattle.rt_base.specs.declared.operation.Outcome.TheVariants.{Computed}
 use Rattle.rt_base.specs.declared.operation.End.TheVariants.{Overrun}
 use Rattle.step_journal.specs.declared.entry.Entry.{Entry}
 use Rattle.step_journal.specs.declared.entry.Entry.TheVariants.{Planned, Step}
-use Rattle.txn_set.specs.Set.{Set, IsCompiled}
+use Rattle.txn_set.specs.Set.{Set, IsCompiled, declared}
 use Rattle.step_journal.specs.History.{IsLegal, IsLegalEntry, state_of}
 use Rattle.law_histories.specs.Ids.{tx, job}
 
@@ -13,7 +13,7 @@ unfoldable pub overrun : Set
 overrun = record {
   items = [];
   txns =
-      record { prio = 1; period = 10; offset = 0; deadline = 10; steps = 3; quiet = 0; reads = []; writes = [] }
+      declared 1 10 3 [] []
       ∷ [];
   together = [];
 }
@@ -27,11 +27,7 @@ overrun_entries =
     ∷ []
 
 unfoldable pub never_overrun_before : List Entry
-never_overrun_before =
-    (Planned (tx 0) 0)
-    ∷ (Step (job 0 0) Compute Computed None 0)
-    ∷ (Step (job 0 0) Compute Computed None 1)
-    ∷ []
+never_overrun_before = take 3 overrun_entries
 
 -- the steps are not counted
 abbrev pub never_overrun : Entry

@@ -4,7 +4,7 @@ use Rattle.std.specs.List.{list_any}
 use Rattle.rt_base.specs.declared.ids.JobId.{JobId}
 use Rattle.rt_base.specs.declared.operation.Op.{Op}
 use Rattle.step_journal.specs.declared.entry.Entry.{Entry}
-use Rattle.step_journal.specs.declared.entry.Entry.TheVariants.{Planned, Step, Blocked, Idle}
+use Rattle.step_journal.specs.declared.entry.Entry.TheVariants.{Blocked}
 use Rattle.step_journal.specs.declared.entry.EndedJob.{EndedJob}
 use Rattle.txn_set.specs.Set.{Set, IsCompiled}
 use Rattle.step_journal.specs.State.{State, Row, pending, prio_of, same_job}
@@ -19,9 +19,7 @@ use Rattle.item_model.specs.Work.{no_work, has_read, has_written}
 -- whether an entry refuses this job
 abbrev pub is_refusal_of : JobId → Entry → Bool
 is_refusal_of job (Blocked by op on ceiling tick) = same_job job by
-is_refusal_of job (Planned tx tick) = false
-is_refusal_of job (Step by op outcome over tick) = false
-is_refusal_of job (Idle from to) = false
+is_refusal_of job other = false
 
 abbrev pub was_refused : List Entry → JobId → Bool
 was_refused entries job = list_any (is_refusal_of job) entries

@@ -1,11 +1,11 @@
 -- A job reads only after its quiet steps.
-use Rattle.std.specs.Prelude.{◌≡◌, List, [], ◌∷◌, None, Some, pos}
+use Rattle.std.specs.Prelude.{◌≡◌, List, [], ◌∷◌, take, None, Some, pos}
 use Rattle.item_model.specs.declared.decl.ItemKind.TheVariants.{Sensor}
 use Rattle.rt_base.specs.declared.operation.Op.TheVariants.{Read, Compute}
 use Rattle.rt_base.specs.declared.operation.Outcome.TheVariants.{Got, Computed}
 use Rattle.step_journal.specs.declared.entry.Entry.{Entry}
 use Rattle.step_journal.specs.declared.entry.Entry.TheVariants.{Planned, Step}
-use Rattle.txn_set.specs.Set.{Set, IsCompiled}
+use Rattle.txn_set.specs.Set.{Set, IsCompiled, declared}
 use Rattle.step_journal.specs.History.{IsLegal, IsLegalEntry, state_of}
 use Rattle.law_histories.specs.Ids.{tx, item, job}
 
@@ -13,8 +13,8 @@ unfoldable pub quiet : Set
 quiet = record {
   items = record { kind = Sensor 20; initial = pos 0 } ∷ [];
   txns =
-      record { prio = 2; period = 10; offset = 0; deadline = 10; steps = 2; quiet = 0; reads = []; writes = item 0 ∷ [] }
-      ∷ record { prio = 1; period = 40; offset = 0; deadline = 40; steps = 6; quiet = 3; reads = item 0 ∷ []; writes = [] }
+      declared 2 10 2 [] (item 0 ∷ [])
+      ∷ record (declared 1 40 6 (item 0 ∷ []) []) { quiet = 3 }
       ∷ [];
   together = [];
 }
@@ -29,11 +29,7 @@ quiet_entries =
     ∷ []
 
 unfoldable pub too_early_before : List Entry
-too_early_before =
-    (Planned (tx 1) 0)
-    ∷ (Step (job 1 0) Compute Computed None 0)
-    ∷ (Step (job 1 0) Compute Computed None 1)
-    ∷ []
+too_early_before = take 3 quiet_entries
 
 -- a read comes among the quiet steps
 abbrev pub too_early : Entry

@@ -1,12 +1,12 @@
 -- Two readers share an item whose writer is lower than both.
-use Rattle.std.specs.Prelude.{◌≡◌, List, [], ◌∷◌, None, Some, pos}
+use Rattle.std.specs.Prelude.{◌≡◌, List, [], ◌∷◌, take, None, Some, pos}
 use Rattle.item_model.specs.declared.decl.ItemKind.TheVariants.{State}
 use Rattle.rt_base.specs.declared.operation.Op.TheVariants.{Read, Compute, Commit}
 use Rattle.rt_base.specs.declared.operation.Outcome.TheVariants.{Got, Computed, Closed}
 use Rattle.rt_base.specs.declared.operation.End.TheVariants.{Committed}
 use Rattle.step_journal.specs.declared.entry.Entry.{Entry}
 use Rattle.step_journal.specs.declared.entry.Entry.TheVariants.{Planned, Step, Blocked}
-use Rattle.txn_set.specs.Set.{Set, IsCompiled}
+use Rattle.txn_set.specs.Set.{Set, IsCompiled, declared}
 use Rattle.step_journal.specs.History.{IsLegal, IsLegalEntry, state_of}
 use Rattle.law_histories.specs.Ids.{tx, item, job}
 
@@ -14,9 +14,9 @@ unfoldable pub shared_readers : Set
 shared_readers = record {
   items = record { kind = State; initial = pos 0 } ∷ [];
   txns =
-      record { prio = 3; period = 20; offset = 0; deadline = 20; steps = 2; quiet = 0; reads = item 0 ∷ []; writes = [] }
-      ∷ record { prio = 2; period = 20; offset = 0; deadline = 20; steps = 4; quiet = 0; reads = item 0 ∷ []; writes = [] }
-      ∷ record { prio = 1; period = 40; offset = 0; deadline = 40; steps = 2; quiet = 0; reads = []; writes = item 0 ∷ [] }
+      declared 3 20 2 (item 0 ∷ []) []
+      ∷ declared 2 20 4 (item 0 ∷ []) []
+      ∷ declared 1 40 2 [] (item 0 ∷ [])
       ∷ [];
   together = [];
 }
@@ -34,11 +34,7 @@ shared_readers_entries =
     ∷ []
 
 unfoldable pub shared_reader_refused_before : List Entry
-shared_reader_refused_before =
-    (Planned (tx 0) 1)
-    ∷ (Planned (tx 1) 0)
-    ∷ (Step (job 1 0) (Read (item 0)) (Got (pos 0) (Some 0)) None 0)
-    ∷ []
+shared_reader_refused_before = take 3 shared_readers_entries
 
 -- a read lock has the write ceiling alone
 abbrev pub shared_reader_refused : Entry

@@ -1,12 +1,12 @@
 -- A commit after a read that is past its validity ends Stale, and installs nothing.
-use Rattle.std.specs.Prelude.{◌≡◌, List, [], ◌∷◌, None, Some, pos}
+use Rattle.std.specs.Prelude.{◌≡◌, List, [], ◌∷◌, take, None, Some, pos}
 use Rattle.item_model.specs.declared.decl.ItemKind.TheVariants.{Sensor, State}
 use Rattle.rt_base.specs.declared.operation.Op.TheVariants.{Read, Write, Compute, Commit}
 use Rattle.rt_base.specs.declared.operation.Outcome.TheVariants.{Got, Put, Computed, Closed}
 use Rattle.rt_base.specs.declared.operation.End.TheVariants.{Committed, Stale}
 use Rattle.step_journal.specs.declared.entry.Entry.{Entry}
 use Rattle.step_journal.specs.declared.entry.Entry.TheVariants.{Planned, Step, Idle}
-use Rattle.txn_set.specs.Set.{Set, IsCompiled}
+use Rattle.txn_set.specs.Set.{Set, IsCompiled, declared}
 use Rattle.step_journal.specs.History.{IsLegal, IsLegalEntry, state_of}
 use Rattle.law_histories.specs.Ids.{tx, item, job}
 
@@ -14,9 +14,9 @@ unfoldable pub stale : Set
 stale = record {
   items = record { kind = Sensor 20; initial = pos 0 } ∷ record { kind = State; initial = pos 0 } ∷ [];
   txns =
-      record { prio = 3; period = 10; offset = 0; deadline = 10; steps = 2; quiet = 0; reads = []; writes = item 0 ∷ [] }
-      ∷ record { prio = 2; period = 20; offset = 0; deadline = 20; steps = 4; quiet = 0; reads = item 0 ∷ []; writes = item 1 ∷ [] }
-      ∷ record { prio = 1; period = 40; offset = 0; deadline = 40; steps = 6; quiet = 0; reads = item 0 ∷ item 1 ∷ []; writes = [] }
+      declared 3 10 2 [] (item 0 ∷ [])
+      ∷ declared 2 20 4 (item 0 ∷ []) (item 1 ∷ [])
+      ∷ declared 1 40 6 (item 0 ∷ item 1 ∷ []) []
       ∷ [];
   together = [];
 }
@@ -39,17 +39,7 @@ stale_entries =
     ∷ []
 
 unfoldable pub expired_committed_before : List Entry
-expired_committed_before =
-    (Planned (tx 0) 0)
-    ∷ (Planned (tx 0) 30)
-    ∷ (Planned (tx 1) 20)
-    ∷ (Step (job 0 0) (Write (item 0) (pos 5)) Put None 0)
-    ∷ (Step (job 0 0) Commit Closed (Some Committed) 1)
-    ∷ (Idle 2 20)
-    ∷ (Step (job 1 0) (Read (item 0)) (Got (pos 5) (Some 0)) None 20)
-    ∷ (Step (job 1 0) Compute Computed None 21)
-    ∷ (Step (job 1 0) (Write (item 1) (pos 105)) Put None 22)
-    ∷ []
+expired_committed_before = take 9 stale_entries
 
 -- an expired value is committed
 abbrev pub expired_committed : Entry

@@ -1,12 +1,12 @@
 -- A commit after two reads whose stamps lie further apart than their relative set allows ends Apart.
-use Rattle.std.specs.Prelude.{◌≡◌, List, [], ◌∷◌, None, Some, pos}
+use Rattle.std.specs.Prelude.{◌≡◌, List, [], ◌∷◌, take, None, Some, pos}
 use Rattle.item_model.specs.declared.decl.ItemKind.TheVariants.{Sensor}
 use Rattle.rt_base.specs.declared.operation.Op.TheVariants.{Read, Write, Commit}
 use Rattle.rt_base.specs.declared.operation.Outcome.TheVariants.{Got, Put, Closed}
 use Rattle.rt_base.specs.declared.operation.End.TheVariants.{Committed, Apart}
 use Rattle.step_journal.specs.declared.entry.Entry.{Entry}
 use Rattle.step_journal.specs.declared.entry.Entry.TheVariants.{Planned, Step, Idle}
-use Rattle.txn_set.specs.Set.{Set, IsCompiled}
+use Rattle.txn_set.specs.Set.{Set, IsCompiled, declared}
 use Rattle.step_journal.specs.History.{IsLegal, IsLegalEntry, state_of}
 use Rattle.law_histories.specs.Ids.{tx, item, job}
 
@@ -14,9 +14,9 @@ unfoldable pub together : Set
 together = record {
   items = record { kind = Sensor 100; initial = pos 0 } ∷ record { kind = Sensor 100; initial = pos 0 } ∷ [];
   txns =
-      record { prio = 3; period = 10; offset = 0; deadline = 10; steps = 2; quiet = 0; reads = []; writes = item 0 ∷ [] }
-      ∷ record { prio = 2; period = 40; offset = 0; deadline = 40; steps = 2; quiet = 0; reads = []; writes = item 1 ∷ [] }
-      ∷ record { prio = 1; period = 40; offset = 0; deadline = 40; steps = 3; quiet = 0; reads = item 0 ∷ item 1 ∷ []; writes = [] }
+      declared 3 10 2 [] (item 0 ∷ [])
+      ∷ declared 2 40 2 [] (item 1 ∷ [])
+      ∷ declared 1 40 3 (item 0 ∷ item 1 ∷ []) []
       ∷ [];
   together = record { items = item 0 ∷ item 1 ∷ []; within = 20 } ∷ [];
 }
@@ -48,29 +48,7 @@ together_entries =
     ∷ []
 
 unfoldable pub apart_committed_before : List Entry
-apart_committed_before =
-    (Planned (tx 0) 0)
-    ∷ (Planned (tx 0) 10)
-    ∷ (Planned (tx 0) 20)
-    ∷ (Planned (tx 0) 30)
-    ∷ (Planned (tx 1) 0)
-    ∷ (Planned (tx 2) 30)
-    ∷ (Step (job 0 0) (Write (item 0) (pos 1)) Put None 0)
-    ∷ (Step (job 0 0) Commit Closed (Some Committed) 1)
-    ∷ (Step (job 1 0) (Write (item 1) (pos 1)) Put None 2)
-    ∷ (Step (job 1 0) Commit Closed (Some Committed) 3)
-    ∷ (Idle 4 10)
-    ∷ (Step (job 0 1) (Write (item 0) (pos 1)) Put None 10)
-    ∷ (Step (job 0 1) Commit Closed (Some Committed) 11)
-    ∷ (Idle 12 20)
-    ∷ (Step (job 0 2) (Write (item 0) (pos 1)) Put None 20)
-    ∷ (Step (job 0 2) Commit Closed (Some Committed) 21)
-    ∷ (Idle 22 30)
-    ∷ (Step (job 0 3) (Write (item 0) (pos 1)) Put None 30)
-    ∷ (Step (job 0 3) Commit Closed (Some Committed) 31)
-    ∷ (Step (job 2 0) (Read (item 0)) (Got (pos 1) (Some 30)) None 32)
-    ∷ (Step (job 2 0) (Read (item 1)) (Got (pos 1) (Some 0)) None 33)
-    ∷ []
+apart_committed_before = take 21 together_entries
 
 -- values too far apart are committed
 abbrev pub apart_committed : Entry

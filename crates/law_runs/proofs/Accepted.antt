@@ -9,7 +9,7 @@ use Rattle.std.proofs.lemmas.List.Sums.{sum_by-cons}
 use Rattle.rt_base.specs.declared.release.PlanRefused.{PlanRefused}
 use Rattle.rt_base.specs.declared.release.PlanRefused.TheVariants.{TooSoon, TooFar}
 use Rattle.txn_set.specs.declared.decl.TxnDecl.{TxnDecl}
-use Rattle.txn_set.specs.Set.{no_txn, txn_of}
+use Rattle.txn_set.specs.Set.{no_txn, periodic_release, txn_of}
 use Rattle.law_histories.specs.Counting.{room_of_jobs}
 use Rattle.sim_run.specs.Workloads.{AreSpaced, AreAccepted}
 use Rattle.sim_run.specs.Workloads as runs
@@ -54,7 +54,7 @@ one_each (t ∷ ts) (r ∷ rs) same = omega (arith, one_each ts rs (omega (arith
 
 few : (t : TxnDecl) (r : Releases) → length (ticks_of t r) ≤ jobs_of r
 few t (At ticks) = omega arith
-few t (Jobs n) = omega (arith, length-map-range_with_len (λ k. t.offset + k * t.period) 0 n)
+few t (Jobs n) = omega (arith, length-map-range_with_len (λ k. periodic_release t k) 0 n)
 few t (Eager n) = omega arith
 
 few_all : (ts : List TxnDecl) (rs : List Releases) → sum (map (λ l. length l) (fixed_ticks ts rs)) ≤ total_jobs rs

@@ -1,6 +1,6 @@
 -- Where no transaction plans jobs itself, each entry after the plans is that of the event that the state fixes, and the other
 -- way round: no state fixes a plan.
-use Rattle.std.proofs.Common.{◌≡◌, ℕ, Bool, true, false, cond, List, [], ◌∷◌, ◌++◌, length, Option, None, Some, slice_get, refl, ap, sym, ◌∙◌, subst, arith, append_assoc, append-nil}
+use Rattle.std.proofs.Common.{◌≡◌, ℕ, Bool, true, false, cond, List, [], ◌∷◌, ◌++◌, Option, None, Some, refl, ap, sym, ◌∙◌, subst, arith, append_assoc, append-nil}
 use Rattle.std.specs.Option.{option_map, option_and_then}
 use Rattle.rt_base.specs.declared.ids.JobId.{JobId}
 use Rattle.rt_base.specs.declared.operation.Op.{Op}
@@ -9,15 +9,16 @@ use Rattle.txn_set.specs.Set.{Set}
 use Rattle.step_journal.specs.declared.entry.Entry.{Entry}
 use Rattle.step_journal.specs.declared.entry.Entry.TheVariants.{Planned, Step, Blocked, Idle}
 use Rattle.step_journal.specs.State.{State, Row, same_job, opening, pending}
-use Rattle.step_journal.specs.LockRule.{in_falling_priority, highest}
-use Rattle.step_journal.specs.Running.{running, followed, of_job}
+use Rattle.step_journal.specs.Running.{running, of_job}
 use Rattle.step_journal.specs.Instant.{arrived}
 use Rattle.step_journal.specs.Step.{plan, ask, idle, asked, idled, next_tick, step}
 use Rattle.step_journal.specs.History.{event_of, entry_given, IsLegalEntry, IsLegalFrom, IsLegal, state_of}
 use Rattle.law_histories.proofs.Invariant.{same_job_is}
-use Rattle.law_histories.specs.Counting.{plan_count, plans_in}
+use Rattle.law_histories.specs.Counting.{plan_count}
 use Rattle.law_histories.specs.Sim.{Workload, IsAsked, IsFixed, plans, next_event, event_for, event_in, op_asked}
 use Rattle.sim_run.proofs.Histories.{legal_split, state_next}
+use Rattle.law_histories.proofs.Once.{none_runs}
+use Rattle.sim_run.proofs.Runs.{count_fixed}
 use Rattle.law_runs.specs.Histories.{IsLater, IsRunSoFar}
 use Rattle.law_runs.specs.Laws.{FixedIsSim, FixedIsUnderWay, SimIsRun}
 use Rattle.law_runs.proofs.Counts.{count_append, count_plans}
@@ -72,10 +73,6 @@ legal_idles : (set : Set) (s : State) (e : Entry) → entry_given (step set s id
 unfolding step
 legal_idles set s e h = idled_rows set s e (pending s.rows) refl h
 
-none_runs : (set : Set) (rows : List (Option Row)) → pending rows ≡ [] → running set rows ≡ None
-unfolding running highest
-none_runs set rows h = ap (λ (l : List Row). option_and_then (λ (r : Row). followed rows (length rows) r r.waits_on) (slice_get (in_falling_priority set l) 0)) h
-
 idle_fixed : (w : Workload) (before : List Entry) → Idles (state_of w.set before) → next_event w before ≡ Some idle
 idle_fixed w before i =
     ap (event_for w before (state_of w.set before)) (none_runs w.set (state_of w.set before).rows i.none) ∙ ap event_in i.some
@@ -111,9 +108,7 @@ all_fixed w before (e ∷ rest) legal each =
 -- with no jobs of its own no transaction has a later plan
 no_later : (w : Workload) (own : ℕ → ℕ) (more : List Entry) (e : Entry) → ((tx : ℕ) → own tx ≡ 0) → IsLater w own more e → IsNoPlan e
 no_later w own more (Planned tx tick) none h = absurd (let left = h.left in omega (arith, left, none tx.0))
-no_later w own more (Step job op outcome over tick) none h = tt
-no_later w own more (Blocked job op by ceiling tick) none h = tt
-no_later w own more (Idle from to) none h = tt
+no_later w own more other none h = tt
 
 rest_fixed : (w : Workload) (own : ℕ → ℕ) (history : List Entry) → ((tx : ℕ) → own tx ≡ 0) → (r : IsRunSoFar w own history) → IsFixed w (plans w) r.rest
 rest_fixed w own history none r =
@@ -151,9 +146,7 @@ none_for w before s None tx tick h = none_in tx tick s.planned h
 
 fixed_no_plan : (w : Workload) (before : List Entry) (e : Entry) → next_event w before ≡ Some (event_of e) → IsNoPlan e
 fixed_no_plan w before (Planned tx tick) h = none_for w before (state_of w.set before) (running w.set (state_of w.set before).rows) tx.0 tick h
-fixed_no_plan w before (Step job op outcome over tick) h = tt
-fixed_no_plan w before (Blocked job op by ceiling tick) h = tt
-fixed_no_plan w before (Idle from to) h = tt
+fixed_no_plan w before other h = tt
 
 no_plan_at : (w : Workload) (before more after : List Entry) (e : Entry) → IsFixed w before (more ++ e ∷ after) → IsNoPlan e
 no_plan_at w before [] after e f = fixed_no_plan w before e f.0
@@ -161,19 +154,7 @@ no_plan_at w before (x ∷ more) after e f = no_plan_at w (before ++ x ∷ []) m
 
 no_plan_later : (w : Workload) (own : ℕ → ℕ) (more : List Entry) (e : Entry) → IsNoPlan e → IsLater w own more e
 no_plan_later w own more (Planned tx tick) no_plan = absurd no_plan
-no_plan_later w own more (Step job op outcome over tick) no_plan = tt
-no_plan_later w own more (Blocked job op by ceiling tick) no_plan = tt
-no_plan_later w own more (Idle from to) no_plan = tt
-
-no_plan_counts : (e : Entry) (n : ℕ) → IsNoPlan e → plans_in n e ≡ 0
-no_plan_counts (Planned tx tick) n no_plan = absurd no_plan
-no_plan_counts (Step job op outcome over tick) n no_plan = refl
-no_plan_counts (Blocked job op by ceiling tick) n no_plan = refl
-no_plan_counts (Idle from to) n no_plan = refl
-
-count_fixed : (w : Workload) (before rest : List Entry) (n : ℕ) → IsFixed w before rest → plan_count rest n ≡ 0
-count_fixed w before [] n f = refl
-count_fixed w before (e ∷ rest) n f = omega (arith, no_plan_counts e n (fixed_no_plan w before e f.0), count_fixed w (before ++ e ∷ []) rest n f.1)
+no_plan_later w own more other no_plan = tt
 
 pub sim_is_run : SimIsRun
 sim_is_run = λ w own history none s.

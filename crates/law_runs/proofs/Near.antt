@@ -1,14 +1,13 @@
 -- The jobs that eager transactions plan themselves come at most the greatest period of all after one another: by
 -- induction on the entries that come after the plans of all releases.
-use Rattle.std.proofs.Common.{◌≡◌, ◌≢◌, ℕ, ◌+◌, ◌*◌, ◌<◌, ◌≤◌, ◌==◌, Bool, true, false, cond, List, [], ◌∷◌, ◌++◌, length, Some, refl, ap, sym, ◌∙◌, subst, inl, inr, arith, append_assoc, append-nil, add-mul}
+use Rattle.std.proofs.Common.{◌≡◌, ◌≢◌, ℕ, ◌+◌, ◌*◌, ◌<◌, ◌≤◌, Bool, true, false, cond, List, [], ◌∷◌, ◌++◌, length, Some, refl, ap, sym, ◌∙◌, subst, inl, inr, arith, append_assoc, append-nil, add-mul}
 use Rattle.std.proofs.lemmas.Bool.{cases_eq, eq-eqb, ne_eqb}
 use Rattle.rt_base.specs.declared.ids.TxId.{TxId}
-use Rattle.rt_base.specs.declared.release.Plans.{Plans}
-use Rattle.txn_set.specs.Set.{Set, txn_of, IsCompiled}
+use Rattle.txn_set.specs.Set.{Set, IsCompiled}
 use Rattle.step_journal.specs.declared.entry.Entry.{Entry}
 use Rattle.step_journal.specs.declared.entry.Entry.TheVariants.{Planned, Step, Blocked, Idle}
 use Rattle.step_journal.specs.State.{State}
-use Rattle.step_journal.specs.Step.{given, plans_of, earliest, may_plan, with_plan, step}
+use Rattle.step_journal.specs.Step.{given, plans_of, may_plan, with_plan, step}
 use Rattle.step_journal.specs.History.{entry_given, IsLegalEntry, IsLegal, state_of}
 use Rattle.law_histories.proofs.Histories.{MayPlan, may_plan_is}
 use Rattle.board.specs.Answers.{next_tick_for}
@@ -20,6 +19,7 @@ use Rattle.law_histories.proofs.CountingAll.{time_bounded}
 use Rattle.law_histories.specs.Sim.{Workload, plans}
 use Rattle.sim_run.proofs.Histories.{legal_parts, state_next}
 use Rattle.txn_threads.specs.Plans.{plan_number}
+use Rattle.sim_run.proofs.Planning.{earliest_le}
 use Rattle.law_runs.specs.Histories.{IsLater, IsRunSoFar}
 use Rattle.law_runs.proofs.Waiting.{entry_planned, few_planned}
 
@@ -105,9 +105,6 @@ plan_may set s tx tick legal = may_plan_is set s tx.0 tick (given_may (may_plan 
 earliest_at : (last period : ℕ) (b : Bool) → cond b 0 (last + period) ≤ last + period
 earliest_at last period true = omega arith
 earliest_at last period false = omega arith
-
-earliest_le : (set : Set) (tx : ℕ) (p : Plans) → earliest set tx p ≤ p.last + (txn_of set tx).period
-earliest_le set tx p = earliest_at p.last (txn_of set tx).period (p.number == 0)
 
 -- the tick of plan_next is at most the greatest period after all plans
 pub next_near : (set : Set) (es : List Entry) (tx : ℕ) → IsTimed set es → tx < length set.txns

@@ -5,7 +5,7 @@ use Rattle.std.specs.Prelude.{nat_lt, nat_le, is_some}
 use Rattle.rt_base.specs.declared.ids.JobId.{JobId}
 use Rattle.rt_base.specs.declared.ids.ItemId.{ItemId}
 use Rattle.rt_base.specs.declared.operation.Op.{Op}
-use Rattle.rt_base.specs.declared.operation.Op.TheVariants.{Read, Write, Compute, Commit, Quit}
+use Rattle.rt_base.specs.declared.operation.Op.TheVariants.{Read, Write, Commit}
 use Rattle.rt_base.specs.declared.operation.Outcome.{Outcome}
 use Rattle.txn_set.specs.declared.decl.TxnDecl.{TxnDecl}
 use Rattle.txn_set.specs.Set.{Set, txn_of, may_read, may_write}
@@ -62,11 +62,10 @@ checked_fine set row (Write item value) rest may fine =
     let txn : TxnDecl = txn_of set row.job.tx.0 in
     let parts = and_parts (may_write txn item.0) (nat_le txn.quiet row.used) may in
     declared_fine (may_write txn item.0) (early_or txn row rest) item parts.0 (quiet_fine txn row rest parts.1 fine)
-checked_fine set row Compute rest may fine = fine
 checked_fine set row Commit rest may fine =
     let txn : TxnDecl = txn_of set row.job.tx.0 in
     unwritten_fine (unwritten set txn.writes row.work) rest (sym (complete_is set txn.writes row.work) ∙ may) fine
-checked_fine set row Quit rest may fine = fine
+checked_fine set row other rest may fine = fine
 
 lock_fine : (set : Set) (s : State) (row : Row) (op : Op) (o : Option Above) → IsFine (lock_reply set s row op o)
 lock_fine set s row op None = λ h. h

@@ -5,6 +5,7 @@ use Rattle.std.proofs.lemmas.List.FromFn.{length-map-range_with_len}
 use Rattle.std.specs.List.{list_any}
 use Rattle.rt_base.specs.declared.ids.TxId.{TxId}
 use Rattle.txn_set.specs.declared.decl.TxnDecl.{TxnDecl}
+use Rattle.txn_set.specs.Set.{periodic_release}
 use Rattle.txn_set.specs.Ceilings.{greatest}
 use Rattle.step_journal.specs.declared.entry.Entry.{Entry}
 use Rattle.step_journal.specs.declared.entry.Entry.TheVariants.{Planned}
@@ -24,7 +25,7 @@ use Rattle.law_runs.proofs.Plans.{own_sum}
 
 jobs_are : (t : TxnDecl) (r : Releases) → length (ticks_of t r) + eager_of r ≡ jobs_of r
 jobs_are t (At ticks) = omega arith
-jobs_are t (Jobs n) = omega (arith, length-map-range_with_len (λ k. t.offset + k * t.period) 0 n)
+jobs_are t (Jobs n) = omega (arith, length-map-range_with_len (λ k. periodic_release t k) 0 n)
 jobs_are t (Eager n) = omega arith
 
 all_jobs : (k : ℕ) (ts : List TxnDecl) (rs : List Releases) → length rs ≡ length ts → length (plans_from k (fixed_ticks ts rs)) + eager_jobs rs ≡ total_jobs rs
@@ -103,9 +104,8 @@ pub jobs_of_each : AllJobsAre
 jobs_of_each = λ s tx is. jobs_there s.txns s.releases tx is.released
 
 none_at : (r : Releases) (rest : Bool) → (is_eager r || rest) ≡ false → (eager_of r ≡ 0) × (rest ≡ false)
-none_at (At ticks) rest h = (refl, h)
-none_at (Jobs n) rest h = (refl, h)
 none_at (Eager n) rest h = absurd cc
+none_at other rest h = (refl, h)
 
 none : (rs : List Releases) (tx : ℕ) → list_any is_eager rs ≡ false → eager_of (get_or rs tx (At [])) ≡ 0
 none [] tx h = refl

@@ -8,7 +8,7 @@ use Rattle.rt_base.specs.declared.ids.JobId.{JobId}
 use Rattle.rt_base.specs.declared.operation.Op.{Op}
 use Rattle.txn_set.specs.Set.{Set}
 use Rattle.step_journal.specs.declared.entry.Entry.{Entry}
-use Rattle.step_journal.specs.declared.entry.Entry.TheVariants.{Planned, Step, Blocked, Idle}
+use Rattle.step_journal.specs.declared.entry.Entry.TheVariants.{Planned, Step, Blocked}
 use Rattle.step_journal.specs.History.{IsLegal, state_of}
 use Rattle.step_journal.specs.Serial.{outcomes_of}
 use Rattle.board.specs.Answers.{next_tick_for}
@@ -45,10 +45,9 @@ own_op w before tx past job op told h =
 
 asked_in : (w : Workload) (before : List Entry) (tx : TxId) (past : List (ℕ × Entry)) (e : Entry) → ((j : JobId) → j.tx ≡ tx → outcomes_of before j ≡ own_outcomes past j)
     → IsAsked (w.bodies tx.0) tx past e → IsAskedIn w before e
-asked_in w before tx past (Planned by tick) told h = tt
 asked_in w before tx past (Step job op outcome over tick) told h = own_op w before tx past job op told h
 asked_in w before tx past (Blocked job op by ceiling tick) told h = own_op w before tx past job op told h
-asked_in w before tx past (Idle from to) told h = tt
+asked_in w before tx past other told h = tt
 
 -- the seat that made an entry, and its entries before it
 record Made (w : Workload) (own : ℕ → ℕ) (seats : List SeatFacts) (story before : List Entry) (e : Entry) : Type 0 where
@@ -127,9 +126,7 @@ module _ (w : Workload) (own : ℕ → ℕ) (seats : List SeatFacts) (story : Li
       subst (λ (t : TxId). IsOwnPlan w own more t tick) (sym n.own)
       (next_later more after (Planned by tick) tx tick seen eager jobs planned parts seen_begins own_is count
       (subst (λ (t : TxId). IsNextPlan w.set seen tx eager jobs planned (length (plans w ++ more)) t tick) n.own n))
-  planned_later more after (Step job op outcome over tick) tx seen eager jobs planned parts seen_begins own_is count n = tt
-  planned_later more after (Blocked job op by ceiling tick) tx seen eager jobs planned parts seen_begins own_is count n = tt
-  planned_later more after (Idle from to) tx seen eager jobs planned parts seen_begins own_is count n = tt
+  planned_later more after other tx seen eager jobs planned parts seen_begins own_is count n = tt
 
   story_later : (more after : List Entry) (e : Entry) → f.begins.0 ≡ more ++ e ∷ after → IsLater w own more e
   story_later more after e is =

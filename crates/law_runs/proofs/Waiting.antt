@@ -16,6 +16,7 @@ use Rattle.step_journal.specs.Instant.{with_end, with_late, is_due, with_cancell
 use Rattle.step_journal.specs.Step.{step, given, may_plan, with_plan, next_job, lock_refusal, row_after, end_by, settled, after_effect, with_step, with_wait, answered, asked, may_ask, idled, next_tick}
 use Rattle.step_journal.specs.History.{state_of, states_after, state_after, state_given}
 use Rattle.txn_threads.specs.Plans.{plan_number}
+use Rattle.sim_run.proofs.Planning.{after_few as plan_planned}
 
 late_planned : (t : ℕ) (rows : List Row) (s : State) → (fold (with_late t) s rows).planned ≡ s.planned
 unfolding with_end
@@ -68,10 +69,6 @@ one_more : (s : State) (tx tick : ℕ) (b : Bool)
     → length (cond b s.planned (s.planned ++ record { job = next_job s tx; tick = tick } ∷ [])) ≤ length s.planned + 1
 one_more s tx tick true = omega arith
 one_more s tx tick false = omega (arith, length-append s.planned (record { job = next_job s tx; tick = tick } ∷ []))
-
-plan_planned : (s : State) (tx tick : ℕ) → length (with_plan s tx tick).planned ≤ length s.planned + 1
-unfolding with_plan
-plan_planned s tx tick = one_more s tx tick (tick == s.now)
 
 pub entry_planned : (set : Set) (s : State) (e : Entry) → length (state_after set s e).planned ≤ length s.planned + plan_number e
 unfolding step

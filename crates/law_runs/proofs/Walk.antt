@@ -11,7 +11,7 @@ use Rattle.rt_base.specs.declared.operation.Op.{Op}
 use Rattle.rt_base.specs.declared.operation.Outcome.{Outcome}
 use Rattle.txn_set.specs.Set.{Set}
 use Rattle.step_journal.specs.declared.entry.Entry.{Entry}
-use Rattle.step_journal.specs.declared.entry.Entry.TheVariants.{Planned, Step, Blocked, Idle}
+use Rattle.step_journal.specs.declared.entry.Entry.TheVariants.{Planned}
 use Rattle.step_journal.specs.Serial.{outcome_in, outcomes_of}
 use Rattle.law_histories.specs.Counting.{plans_in, plan_count}
 use Rattle.law_histories.proofs.Rooms.{count_more}
@@ -51,9 +51,7 @@ planned_at set seen tx eager jobs n (x ∷ xs) p ys h =
 -- a plan of one's own is counted once
 own_plan : (set : Set) (seen : List Entry) (tx : TxId) (eager : Bool) (jobs n place : ℕ) (e : Entry) → IsPlanned set seen tx eager jobs n place e → plans_in tx.0 e ≡ plan_number e
 own_plan set seen tx eager jobs n place (Planned by tick) h = ap {B = ℕ} (λ (b : Bool). cond b 1 0) (eq-eqb tx.0 by.0 (sym (ap (λ (t : TxId). t.0) h.own)))
-own_plan set seen tx eager jobs n place (Step job op outcome over tick) h = refl
-own_plan set seen tx eager jobs n place (Blocked job op by ceiling tick) h = refl
-own_plan set seen tx eager jobs n place (Idle from to) h = refl
+own_plan set seen tx eager jobs n place other h = refl
 
 -- no job took a step in the plans
 no_outcomes : (w : Workload) (job : JobId) → outcomes_of (plans w) job ≡ []

@@ -1,22 +1,19 @@
 -- Where of each transaction all jobs have ended, nothing is pending and nothing planned.
-use Rattle.std.proofs.Common.{◌≡◌, ℕ, ◌+◌, ◌-◌, ◌<◌, ◌≤◌, ◌==◌, Bool, true, false, cond, List, [], ◌∷◌, ◌++◌, length, Some, refl, ap, sym, ◌∙◌, subst, inl, inr, arith, append_assoc, append-nil}
+use Rattle.std.proofs.Common.{◌≡◌, ℕ, ◌+◌, ◌-◌, ◌<◌, ◌≤◌, Bool, cond, List, [], ◌∷◌, ◌++◌, length, Some, refl, ap, sym, ◌∙◌, subst, inl, inr, arith, append_assoc, append-nil}
 use mathlib.Core.Option.{some}
 use lib.ListN.{get_elem?}
-use Rattle.std.proofs.lemmas.Bool.{cases_eq, eqb-true, eq-eqb, ne_eqb}
-use Rattle.std.specs.List.{filter}
+use Rattle.std.proofs.lemmas.Bool.{cases_eq, eq-eqb, ne_eqb}
 use Rattle.rt_base.specs.declared.release.Release.{Release}
 use Rattle.txn_set.specs.Set.{Set, IsCompiled}
 use Rattle.step_journal.specs.declared.entry.Entry.{Entry}
 use Rattle.step_journal.specs.declared.entry.Entry.TheVariants.{Planned, Step, Blocked, Idle}
-use Rattle.step_journal.specs.declared.entry.EndedJob.{EndedJob}
 use Rattle.step_journal.specs.State.{Row, row_of, pending}
 use Rattle.step_journal.specs.History.{IsLegal, state_of}
 use Rattle.board.specs.Stories.{ended_of}
 use Rattle.law_histories.specs.Counting.{plans_in, plan_count}
 use Rattle.law_histories.proofs.Rooms.{count_more}
-use Rattle.law_histories.proofs.CountingAll.{entries_few, time_bounded}
+use Rattle.law_histories.proofs.CountingAll.{entries_few, time_bounded, ended_few}
 use Rattle.law_histories.proofs.Members.{In, pending_in}
-use Rattle.law_histories.proofs.Serials.{AreRising}
 use Rattle.law_histories.proofs.SerialAll.{legal_serial}
 use Rattle.law_histories.proofs.Invariant.{IsPending, in_range}
 use Rattle.law_histories.proofs.Never.{legal_sound}
@@ -32,19 +29,6 @@ use Rattle.law_runs.proofs.Owners.{Lies, lies}
 use Rattle.law_runs.proofs.SoFar.{story_so_far}
 
 -- of some jobs whose serials rise and lie from b below k there are at most k - b
-
-ended_at : (n b k : ℕ) (e : EndedJob) (es : List EndedJob) (t : Bool) → (e.job.tx.0 == n) ≡ t → (e.job.tx.0 ≡ n → (b ≤ e.job.serial) × (e.job.serial < k))
-    → (e.job.tx.0 ≡ n → length (filter (λ d. d.job.tx.0 == n) es) ≤ k - (e.job.serial + 1)) → length (filter (λ d. d.job.tx.0 == n) es) ≤ k - b
-    → length (cond t (e ∷ filter (λ d. d.job.tx.0 == n) es) (filter (λ d. d.job.tx.0 == n) es)) ≤ k - b
-ended_at n b k e es true is here above rest = let own : e.job.tx.0 ≡ n = eqb-true _ _ is in omega (arith, here own, above own)
-ended_at n b k e es false is here above rest = rest
-
-ended_few : (n b k : ℕ) (es : List EndedJob) → AreRising es → ((d : EndedJob) → In d es → d.job.tx.0 ≡ n → (b ≤ d.job.serial) × (d.job.serial < k)) → length (filter (λ d. d.job.tx.0 == n) es) ≤ k - b
-ended_few n b k [] rising h = omega arith
-ended_few n b k (e ∷ es) rising h =
-    ended_at n b k e es (e.job.tx.0 == n) refl (h e (inl refl))
-    (λ own. ended_few n (e.job.serial + 1) k es rising.1 (λ d i same. let r = rising.0 d i (own ∙ sym same) in (omega (arith, r), (h d (inr i) same).1)))
-    (ended_few n b k es rising.1 (λ d i. h d (inr i)))
 
 -- a job that is pending or planned is one more than those that have ended
 

@@ -13,7 +13,7 @@ use Rattle.step_journal.specs.History.{state_after, state_of, IsLegal}
 use Rattle.law_histories.specs.Protocol.{is_refusal_of}
 use Rattle.law_histories.proofs.Members.{In, in_at, in_pending}
 use Rattle.law_histories.proofs.Invariant.{IsPending}
-use Rattle.law_histories.proofs.Holding.{in_map, in_right}
+use Rattle.law_histories.proofs.Holding.{in_map, in_right, map_in, greatest_least}
 use Rattle.law_histories.proofs.Never.{opening_sound, refused_once}
 use Rattle.law_histories.proofs.Lists.{in_filter_map, filter_map_in, in_any}
 use Rattle.law_histories.proofs.DelayAll.{legal_delay}
@@ -23,14 +23,18 @@ use Rattle.schedule_marks.specs.declared.part.Part.{Part}
 use Rattle.schedule_marks.specs.declared.mark.Mark.{Mark}
 use Rattle.schedule_marks.specs.declared.mark.Mark.TheVariants as mark
 use Rattle.schedule_marks.specs.Marks.{until, until_of, instant_to, last_instant, present, pending_in, wait_in, lock_until, locks_of, ceiling_in, ceiling_by}
+use Rattle.job_rows.proofs.Bounding.{clash}
+use Rattle.schedule_marks.proofs.Along.{lock_most}
+use Rattle.sim_run.proofs.Histories.{states_append}
+use Rattle.job_rows.proofs.Fronts.{front_legal as legal_front}
 use Rattle.law_texts.specs.Ceilings.{Drawn, ticks_from, rows_in, held_ceiling, ShowsCeiling}
 use Rattle.law_texts.specs.Drawn.{HeldLock, held_by, held_locks, Waiting, waiting_on, waits_of, jobs_of, lock_shown, wait_shown, job_shown, IsWithin, ShowsExactly, DrawnLocksAreHeld, NoLockIsDrawnLater, DrawnWaitsGoOn, NoWaitIsDrawnLater, DrawnJobsArePending, NoJobIsDrawnLater}
-use Rattle.law_texts.proofs.Lists.{map_in, flat_map_in, in_flat_map, greatest_least, tick_in, empty_of, about, AreApart, apart_picked, shows_exactly}
+use Rattle.law_texts.proofs.Lists.{flat_map_in, in_flat_map, tick_in, empty_of, about, AreApart, apart_picked, shows_exactly}
 use Rattle.law_texts.proofs.Shown.{picked, drawn_are, drawn_at, shown_then, shows_then, locks_are, waits_are, jobs_are}
 use Rattle.law_texts.proofs.Goes.{IsUpTo, passes}
 use Rattle.law_texts.proofs.Steps.{same_as_self}
-use Rattle.law_texts.proofs.Taken.{clash, mark_at, held_as, lock_is, lock_most, drawn_apart}
-use Rattle.law_texts.proofs.PicturePieces.{states_append, legal_front, until_below, is_present, row_cases, rows_apart}
+use Rattle.law_texts.proofs.Taken.{mark_at, held_as, lock_is, drawn_apart}
+use Rattle.law_texts.proofs.PicturePieces.{until_below, is_present, row_cases, rows_apart}
 use Rattle.law_texts.proofs.Held.{cut, wait_is, mark_holds, held_is_drawn, pends_then, drawn_is_held, drawn_job_pends, pending_job_is_drawn, drawn_wait_goes_on, wait_is_drawn}
 
 -- ---- the ceilings that marks show

@@ -1,5 +1,5 @@
 -- A step ends its job as stale or apart only where it commits.
-use Rattle.std.proofs.Common.{◌≡◌, ℕ, ◌+◌, Bool, true, false, List, [], ◌∷◌, ◌++◌, Option, Some, None, refl, sym, ap, ◌∙◌, subst, inl, inr}
+use Rattle.std.proofs.Common.{◌≡◌, ℕ, ◌+◌, Bool, true, false, List, [], ◌∷◌, ◌++◌, Option, refl, sym, ap, ◌∙◌, subst, inl, inr}
 use Rattle.rt_base.specs.declared.operation.Op.{Op}
 use Rattle.rt_base.specs.declared.operation.Op.TheVariants.{Read, Write, Compute, Commit, Quit}
 use Rattle.rt_base.specs.declared.operation.End.{End}
@@ -20,22 +20,7 @@ use Rattle.law_texts.specs.Lines.{NamesItems, OnlyCommitsNameItems}
 
 -- an end that names no item
 abbrev pub IsPlain : Option End → Type 0
-IsPlain None = Unit {0}
-IsPlain (Some end.Committed) = Unit {0}
-IsPlain (Some end.Overrun) = Unit {0}
-IsPlain (Some end.Late) = Unit {0}
-IsPlain (Some (end.Stale item stamp)) = ⊥
-IsPlain (Some (end.Apart a b)) = ⊥
-IsPlain (Some end.Quit) = Unit {0}
-
-no_items : (over : Option End) → IsPlain over → NamesItems over → ⊥
-no_items None plain names = names
-no_items (Some end.Committed) plain names = names
-no_items (Some end.Overrun) plain names = names
-no_items (Some end.Late) plain names = names
-no_items (Some (end.Stale item stamp)) plain names = plain
-no_items (Some (end.Apart a b)) plain names = plain
-no_items (Some end.Quit) plain names = names
+IsPlain over = NamesItems over → ⊥
 
 abbrev pub EndsBy : Op → Option End → Type 0
 EndsBy (Read item) over = IsPlain over
@@ -51,35 +36,28 @@ EndsWell (Blocked job op by ceiling tick) = Unit {0}
 EndsWell (Idle from to) = Unit {0}
 
 plain_steps : (test due : Bool) → IsPlain (over_of (given test end.Overrun) due)
-plain_steps true due = tt
-plain_steps false true = tt
-plain_steps false false = tt
+plain_steps true due = λ named. named
+plain_steps false true = λ named. named
+plain_steps false false = λ named. named
 
 ends_by : (set : Set) (x : Row) (tick : ℕ) (op : Op) (due : Bool) → EndsBy op (over_of (end_by set x tick op) due)
-ends_by set x tick (Read item) due = plain_steps _ due
-ends_by set x tick (Write item value) due = plain_steps _ due
-ends_by set x tick Compute due = plain_steps _ due
 ends_by set x tick Commit due = tt
 ends_by set x tick Quit due = tt
+ends_by set x tick other due = plain_steps _ due
 
 ends_well : (set : Set) (es : List Entry) (e : Entry) → IsCompiled set → IsLegal set es
     → IsLegalEntry set (state_of set es) e → EndsWell e
-ends_well set es (Planned tx tick) ok legal next = tt
 ends_well set es (Step job op outcome over tick) ok legal next =
     let m = moves set (state_of set es) (Step job op outcome over tick) next in
     let now : ℕ = (state_of set es).now + 1 in
     let after : over_of (end_by set (row_after (state_of set es) m.row op) now op) (is_due set now m.row) ≡ over =
     over_after set es m.row op ok legal m.runs ∙ (ap (λ s. end_of s m.row.job) (sym m.next_is) ∙ sym m.over_is) in
     subst (EndsBy op) after (ends_by set (row_after (state_of set es) m.row op) now op (is_due set now m.row))
-ends_well set es (Blocked job op by ceiling tick) ok legal next = tt
-ends_well set es (Idle from to) ok legal next = tt
+ends_well set es other ok legal next = tt
 
 commits : (op : Op) (over : Option End) → EndsBy op over → NamesItems over → op ≡ Commit
-commits (Read item) over plain names = absurd (no_items over plain names)
-commits (Write item value) over plain names = absurd (no_items over plain names)
-commits Compute over plain names = absurd (no_items over plain names)
 commits Commit over plain names = refl
-commits Quit over plain names = absurd (no_items over plain names)
+commits other over plain names = absurd (plain names)
 
 pub only_commits : OnlyCommitsNameItems
 only_commits set entries job op outcome over tick ok legal names =

@@ -15,7 +15,7 @@ use Rattle.step_journal.specs.declared.entry.Entry.{Entry}
 use Rattle.step_journal.specs.declared.entry.Entry.TheVariants.{Planned, Step, Blocked, Idle}
 use Rattle.step_journal.specs.History.{IsLegal}
 use Rattle.law_histories.proofs.Lists.{all_from}
-use Rattle.journal_text.proofs.IdLaws.{short_length, signed_length}
+use Rattle.journal_text.proofs.IdLaws.{short_length, signed_length, unsigned_length}
 use Rattle.journal_text.specs.Lines.{op_text, outcome_text, end_text, over_text, IsOutcome}
 use Rattle.report_text.specs.Texts.{is_second, whole_entry_line}
 use Rattle.run_report.specs.Types.{HasValue}
@@ -23,7 +23,7 @@ use Rattle.run_report.proofs.Every.{every_in}
 use Rattle.run_report.proofs.Fits.{EndFits}
 use Rattle.run_report.proofs.Steps.{OverFits, EntryFits, HistoryFits}
 use Rattle.law_texts.specs.Lines.{IsShort}
-use Rattle.law_texts.proofs.Lengths.{name_length, unsigned_length}
+use Rattle.law_texts.proofs.Lengths.{name_length}
 use Rattle.law_texts.proofs.Ends.{IsPlain, EndsWell, each_ends_well}
 
 -- ---- parts of a line
@@ -57,8 +57,8 @@ plain_length names None plain = omega arith
 plain_length names (Some end.Committed) plain = omega arith
 plain_length names (Some end.Overrun) plain = omega arith
 plain_length names (Some end.Late) plain = omega arith
-plain_length names (Some (end.Stale item stamp)) plain = absurd plain
-plain_length names (Some (end.Apart a b)) plain = absurd plain
+plain_length names (Some (end.Stale item stamp)) plain = absurd (plain tt)
+plain_length names (Some (end.Apart a b)) plain = absurd (plain tt)
 plain_length names (Some end.Quit) plain = omega arith
 
 op_length : (names : Names) (op : Op) → AreNames names.items → HasValue op → length (op_text names op) ≤ 60

@@ -3,7 +3,7 @@ use Rattle.std.proofs.Common.{◌≡◌, ℕ, zero, suc, ◌<◌, ◌≤◌, Lis
 use Rattle.std.proofs.lemmas.Bool.{and_parts, ltb-true}
 use Rattle.rt_base.specs.declared.ids.ItemId.{ItemId}
 use Rattle.step_script.specs.declared.expr.BinOp.{BinOp}
-use Rattle.step_script.specs.declared.expr.BinOp.TheVariants.{Add, Sub, Mul, Div, Min, Max}
+use Rattle.step_script.specs.declared.expr.BinOp.TheVariants.{Add}
 use Rattle.step_script.specs.Values.{Tree, leaf_const, leaf_sample, leaf_serial, leaf_last, node}
 use Rattle.step_script.specs.Scripts.{depth, reads_below}
 use Rattle.serde_json.specs.Data.{Data, array, item, no_items}
@@ -25,11 +25,7 @@ item_back places names placed i lt = ap (λ (o : Option ℕ). option_map item_id
 node_shape : (op : BinOp) (a b : Data) → shape_of (one (op_word op) (array (item a (item b no_items)))) ≡ Some
     (bin op a b)
 node_shape Add a b = refl
-node_shape Sub a b = refl
-node_shape Mul a b = refl
-node_shape Div a b = refl
-node_shape Min a b = refl
-node_shape Max a b = refl
+node_shape other a b = refl
 
 module _ (places : Places) (names : List (List ℕ)) (placed : ArePlaced places names) where
   at_level : (n : ℕ) (d : Data) (f : Form) → shape_of d ≡ Some f

@@ -19,7 +19,7 @@ use Rattle.step_journal.specs.declared.entry.EndedJob.{EndedJob}
 use Rattle.step_journal.specs.LockRule.{Above, in_falling_priority}
 use Rattle.step_journal.specs.Running.{running, of_job}
 use Rattle.step_journal.specs.Instant.{freed, with_end, with_late, with_row, is_due, with_cancellations, with_releases, arrived}
-use Rattle.step_journal.specs.Step.{Event, plan, ask, idle, given, plans_of, next_job, may_plan, with_plan, may_ask, lock_refusal, row_after, end_by, settled, after_effect, with_step, with_wait, answered, asked, earlier, next_tick, idled, step}
+use Rattle.step_journal.specs.Step.{Event, plan, ask, idle, given, plans_of, next_job, may_plan, with_plan, may_ask, lock_refusal, row_after, end_by, settled, after_effect, with_step, with_wait, answered, asked, next_tick, idled, step}
 use Rattle.step_journal.specs.History.{event_of, state_given, entry_given, state_after, states_after, IsLegalEntry, IsLegalFrom}
 use Rattle.law_histories.proofs.Members.{In, filter_in, pending_in}
 use Rattle.law_histories.proofs.Invariant.{IsPending, Runs, in_range, same_row, written_here, written_other, running_is}
@@ -28,6 +28,7 @@ use Rattle.law_histories.proofs.Ends.{left, stays}
 use Rattle.law_histories.proofs.Calendar.{Sound, deadline_of, period_of, deadline_le, named_from, sorted_in, late_rows, after_cancelled, due, nobody_there}
 use Rattle.law_histories.proofs.Histories.{settled_sound, arrived_now, wait_now, plan_now, idle_early, MayPlan, may_plan_is}
 use Rattle.law_histories.proofs.Never.{entry_goes, step_goes, refused_after}
+use Rattle.law_histories.proofs.DelayAll.{next_later}
 
 -- a job is pending in a state, or has ended in it, with this release
 
@@ -254,14 +255,6 @@ moves_given : (set : Set) (s : State) (b : Bool) (p : Entry × State) → (b ≡
 moves_given set s true p h = h refl
 moves_given set s false p h = tt
 
-next_later_at : (n u : ℕ) (r : Release) (o : Option ℕ) → n ≤ r.tick → ((v : ℕ) → o ≡ Some v → n ≤ v) → earlier r.tick o ≡ u → n ≤ u
-next_later_at n u r None a b h = omega arith
-next_later_at n u r (Some v) a b h = let c : n ≤ v = b v refl in omega arith
-
-next_later : (rs : List Release) (n u : ℕ) → next_tick rs ≡ Some u → ((r : Release) → In r rs → n ≤ r.tick) → n ≤ u
-next_later [] n u e f = absurd cc
-next_later (r ∷ rs) n u e f = let w : earlier r.tick (next_tick rs) ≡ u = cc in next_later_at n u r (next_tick rs) (f r (inl refl)) (λ v is. next_later rs n v is (λ q i. f q (inr i))) w
-
 module _ (set : Set) (ok : IsCompiled set) (refused : JobId → Bool) (s : State) (sound : Sound set refused (s.now + 1) s) where
   answered_moves : (x : Row) (op : Op) (o : Option Above) → Runs set s.rows refused x → may_ask set x op ≡ true → lock_refusal set s x op ≡ o → MovesTo set s (Some (answered set s x op o))
   unfolding with_step after_effect
@@ -343,10 +336,9 @@ IsUpTo n (Blocked job op by ceiling tick) = tick ≤ n
 IsUpTo n (Idle from to) = to ≤ n
 
 since_earlier : (n m : ℕ) (e : Entry) → n ≤ m → IsSince m e → IsSince n e
-since_earlier n m (Planned tx tick) le h = tt
 since_earlier n m (Step job op outcome over tick) le h = omega (arith, le, h)
 since_earlier n m (Blocked job op by ceiling tick) le h = omega (arith, le, h)
-since_earlier n m (Idle from to) le h = tt
+since_earlier n m other le h = tt
 
 up_to_later : (n m : ℕ) (e : Entry) → n ≤ m → IsUpTo n e → IsUpTo m e
 up_to_later n m (Planned tx tick) le h = tt
@@ -355,10 +347,9 @@ up_to_later n m (Blocked job op by ceiling tick) le h = omega (arith, le, h)
 up_to_later n m (Idle from to) le h = omega (arith, le, h)
 
 since_at : (set : Set) (s next : State) (e : Entry) → IsAt set s next e → IsSince s.now e
-since_at set s next (Planned tx tick) h = tt
 since_at set s next (Step job op outcome over tick) h = omega (arith, h.1)
 since_at set s next (Blocked job op by ceiling tick) h = omega (arith, h.0)
-since_at set s next (Idle from to) h = tt
+since_at set s next other h = tt
 
 up_to_at : (set : Set) (s next : State) (e : Entry) → IsAt set s next e → IsUpTo next.now e
 up_to_at set s next (Planned tx tick) h = tt
@@ -374,7 +365,6 @@ IsKnown s (Blocked job op by ceiling tick) = Unit {0}
 IsKnown s (Idle from to) = Unit {0}
 
 known_still : (n : ℕ) (s next : State) (e : Entry) → Goes n s next → IsKnown s e → IsKnown next e
-known_still n s next (Planned tx tick) g h = tt
 known_still n s next (Step job op outcome over tick) g h = (h.0, still h.1) where
   still : Pends s job h.0 ⊎ Over s job h.0 → Pends next job h.0 ⊎ Over next job h.0
   still (inl p) = elim (g.goes_on p.row p.here) [
@@ -382,14 +372,11 @@ known_still n s next (Step job op outcome over tick) g h = (h.0, still h.1) wher
     | inr o ↦ inr (record { ended = o.ended; here = o.here; job_is = o.job_is ∙ p.job_is; release_is = o.release_is ∙ p.release_is })
   ]
   still (inr o) = inr (record { ended = o.ended; here = g.kept o.ended o.here; job_is = o.job_is; release_is = o.release_is })
-known_still n s next (Blocked job op by ceiling tick) g h = tt
-known_still n s next (Idle from to) g h = tt
+known_still n s next other g h = tt
 
 known_at : (set : Set) (s next : State) (e : Entry) → IsAt set s next e → IsKnown s e
-known_at set s next (Planned tx tick) h = tt
 known_at set s next (Step job op outcome over tick) h = (h.0.row.release, inl (record { row = h.0.row; here = h.0.here; job_is = h.0.job_is; release_is = refl }))
-known_at set s next (Blocked job op by ceiling tick) h = tt
-known_at set s next (Idle from to) h = tt
+known_at set s next other h = tt
 
 -- what a list of legal entries does from a state to the last
 pub record Passes (s last : State) (es : List Entry) : Type 0 where

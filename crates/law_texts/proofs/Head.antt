@@ -17,7 +17,7 @@ use Rattle.law_times.specs.Deadlines.{ResponseIsFound}
 use Rattle.set_admission.specs.Bounds.{response_of, age_of}
 use Rattle.journal_text.specs.Cuts.{field}
 use Rattle.journal_text.specs.Ids.{name_at}
-use Rattle.journal_text.proofs.IdLaws.{signed_length}
+use Rattle.journal_text.proofs.IdLaws.{signed_length, unsigned_length}
 use Rattle.report_text.specs.Rows.{numbered}
 use Rattle.report_text.specs.Texts.{item_name, more_name, list_text, kind_text, item_line, quiet_text, txn_line, together_line, is_second, first_line, mode_line, declarations, ceilings_line, ceilings_of, final_line, finals_text}
 use Rattle.report_text.specs.Laws.{IsKind, IsItemDecl}
@@ -27,7 +27,7 @@ use Rattle.run_report.proofs.Every.{Every, every_all}
 use Rattle.run_report.proofs.Forms.{FitsStored}
 use Rattle.run_report.proofs.Steps.{write_most, absolute_most}
 use Rattle.run_report.proofs.Ages.{response_fits, age_fits}
-use Rattle.law_texts.proofs.Lengths.{name_length, unsigned_length, steps_length, numbered_length}
+use Rattle.law_texts.proofs.Lengths.{name_length, steps_length, numbered_length}
 use Rattle.law_texts.proofs.JobLines.{blocking_most, every_weaker}
 
 -- ---- lists of items

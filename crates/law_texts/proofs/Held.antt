@@ -22,7 +22,7 @@ use Rattle.step_journal.specs.Step.{row_after, step}
 use Rattle.step_journal.specs.History.{event_of, state_after, state_of, IsLegalFrom, IsLegal}
 use Rattle.law_histories.proofs.Members.{In, in_pending, le_greatest}
 use Rattle.law_histories.proofs.Invariant.{IsPending, in_range, same_row, same_job_is, written, written_here, written_other}
-use Rattle.law_histories.proofs.Holding.{in_left, in_right, append_in, in_map, write_held, read_held, locks_tell, lock_le, write_le, read_le}
+use Rattle.law_histories.proofs.Holding.{in_left, in_right, append_in, in_map, write_held, read_held, locks_tell, lock_le, map_in, greatest_least}
 use Rattle.law_histories.proofs.Calendar.{Sound, Frame}
 use Rattle.law_histories.proofs.Histories.{frame_set}
 use Rattle.law_histories.proofs.Never.{entry_goes, step_goes, refused_after, refused_all, legal_sound, opening_sound, nothing_at}
@@ -36,15 +36,20 @@ use Rattle.schedule_marks.specs.declared.part.Part.{Part}
 use Rattle.schedule_marks.specs.declared.mark.Mark.{Mark}
 use Rattle.schedule_marks.specs.declared.mark.Mark.TheVariants as mark
 use Rattle.schedule_marks.specs.Marks.{until, until_of, instant_to, last_instant, present, pending_in as job_mark, wait_in, lock_by, is_lock_on, shows_lock, until_write, lock_until, locks_along, locks_of, ceiling_in, ceiling_by}
+use Rattle.law_histories.proofs.Events.{false_from as not_true}
+use Rattle.job_rows.proofs.Bounding.{clash}
+use Rattle.schedule_marks.proofs.Along.{lock_most}
+use Rattle.sim_run.proofs.Histories.{states_append}
+use Rattle.job_rows.proofs.Fronts.{front_legal as legal_front}
 use Rattle.law_texts.specs.Ceilings.{rows_in, with_work, held_ceiling}
 use Rattle.law_texts.specs.Drawn.{Waiting, waiting_on, waits_of, jobs_of, wait_shown, job_shown}
-use Rattle.law_texts.proofs.Lists.{map_in, greatest_least, first_that}
+use Rattle.law_texts.proofs.Lists.{first_that}
 use Rattle.law_texts.proofs.Shown.{shown_then, shows_then}
 use Rattle.law_texts.proofs.Goes.{Pends, Goes, goes_further, StepOf, IsAt, Moves, entry_moves, IsSince, IsUpTo, IsKnown, Passes, passes}
 use Rattle.law_texts.proofs.Turns.{Waits, Ended, GoesOn, WasOrCame, Turns, turns_weaker, turns_further, IsRefusal, IsWaiting, entry_turns, HasRefusal, Turned, turned}
 use Rattle.law_texts.proofs.Steps.{noted, IsTaking, takes_noted, noted_new, noted_still, taken_by, some_took}
-use Rattle.law_texts.proofs.Taken.{shows_what, step_shows, as_strong, clash, until_late, until_written, lock_most, mark_at, IsLockOf, lock_is, lock_there}
-use Rattle.law_texts.proofs.PicturePieces.{states_append, legal_front, legal_rest, until_above, until_below, is_present, comes_present, row_cases, ended_in_rows, pending_in_rows, one_of_rising, is_pending}
+use Rattle.law_texts.proofs.Taken.{shows_what, step_shows, as_strong, until_late, until_written, mark_at, IsLockOf, lock_is, lock_there}
+use Rattle.law_texts.proofs.PicturePieces.{legal_rest, until_above, until_below, is_present, comes_present, row_cases, ended_in_rows, pending_in_rows, one_of_rising, is_pending}
 
 -- ---- ceilings of items
 
@@ -79,10 +84,6 @@ at_most_item set item b = at b (nat_lt item.0 (length set.items)) where
   at true true = omega arith
   at false true = omega arith
   at b false = omega arith
-
-noted_le : (set : Set) (x : Row) (i : ℕ) (b : Bool) → noted x.work i b ≡ true → by_item set i b ≤ ceiling_of set x
-noted_le set x i true h = write_le set x i h
-noted_le set x i false h = read_le set x i h
 
 -- each lock of a job's work is one that it noted
 lock_noted : (set : Set) (x : Row) (l : Lock) → In l (locks x.work) → (noted x.work l.item l.is_write ≡ true) × (lock_ceiling set l ≡ by_item set l.item l.is_write)
@@ -134,11 +135,9 @@ pub record DrawnLock (set : Set) (tick : ℕ) (job : JobId) (l : Lock) (marks : 
   pub write_is : lock.1 ≡ l.is_write
 
 taking_shows : (job : JobId) (item : ItemId) (w b : Bool) (e : Entry) → IsTaking job item.0 w e → (w || not b) ≡ true → shows_lock job item b e ≡ true
-taking_shows job item w b (Planned tx t) takes h = absurd takes
 taking_shows job item w b (Step by op outcome over t) takes h =
     step_shows job item b by op outcome over t takes.1.lock takes.0 takes.1.by takes.1.item_is (ap (λ (c : Bool). c || not b) takes.1.write_is ∙ h)
-taking_shows job item w b (Blocked by op on c t) takes h = absurd takes
-taking_shows job item w b (Idle from to) takes h = absurd takes
+taking_shows job item w b other takes h = absurd takes
 
 must_write : (b : Bool) → (b || not true) ≡ true → b ≡ true
 must_write true h = refl
@@ -148,10 +147,6 @@ shows_write : (job : JobId) (item : ItemId) (e : Entry) → shows_lock job item 
 shows_write job item e h =
     let r = shows_what job item true e h in
     subst (IsTaking job item.0 true) (sym r.entry_is) (r.job_is, record { lock = r.lock; by = r.locks; item_is = r.item_is; write_is = must_write r.lock.1 r.strong })
-
-not_true : (b : Bool) → (b ≡ true → ⊥) → b ≡ false
-not_true true h = absurd (h refl)
-not_true false h = refl
 
 in_locks : (work : Work) (i : ℕ) (b : Bool) → noted work i b ≡ true → (b ≡ false → has_written work i ≡ false) → In (record { item = i; is_write = b }) (locks work)
 in_locks work i true n free = write_held work i n
@@ -199,10 +194,8 @@ pub record IsBlocked (job by : JobId) (e : Entry) : Type 0 where
   pub is : e ≡ Blocked job op by ceiling tick
 
 blocked_is : (e : Entry) (job by : JobId) → IsRefusal e job by → IsBlocked job by e
-blocked_is (Planned tx t) job by h = absurd h
-blocked_is (Step j op outcome over t) job by h = absurd h
 blocked_is (Blocked j op on c t) job by h = record { op = op; ceiling = c; tick = t; is = ap (λ (k : JobId). Blocked k op on c t) h.0 ∙ ap (λ (k : JobId). Blocked job op k c t) h.1 }
-blocked_is (Idle from to) job by h = absurd h
+blocked_is other job by h = absurd h
 
 waits_some : (job : JobId) (o : Option JobId) (w : Waiting) → option_map (waiting_on job) o ≡ Some w → (j : JobId) × (o ≡ Some j) × (w ≡ waiting_on job j)
 waits_some job None w h = absurd cc
@@ -376,7 +369,6 @@ module _ (set : Set) (ok : IsCompiled set) (part : Part) (before after : List En
   rows_of_step job op outcome over t h = ap (with_work now_state op) (found now_state.rows h.row job h.here h.job_is)
 
   in_tick_at : (e : Entry) → IsAt set now_state next_state e → (x : Row) → IsPending now_state.rows x → InTick (rows_in now_state e) x
-  in_tick_at (Planned tx t) h x here = record { row = x; here = here; job_is = refl; grows = λ i b n. n }
   in_tick_at (Step job op outcome over t) h x here =
       let r = h.0.row in
       subst (λ (rows : List (Option Row)). InTick rows x) (sym (rows_of_step job op outcome over t h.0))
@@ -390,8 +382,7 @@ module _ (set : Set) (ok : IsCompiled set) (part : Part) (before after : List En
             })
         | inr ne ↦ record { row = x; here = written_other now_state.rows r.job.tx.0 (row_after now_state r op) x ne here; job_is = refl; grows = λ i b n. n }
       ])
-  in_tick_at (Blocked job op by c t) h x here = record { row = x; here = here; job_is = refl; grows = λ i b n. n }
-  in_tick_at (Idle from to) h x here = record { row = x; here = here; job_is = refl; grows = λ i b n. n }
+  in_tick_at other h x here = record { row = x; here = here; job_is = refl; grows = λ i b n. n }
 
   same_from : (e : Entry) (y : Row) → IsPending now_state.rows y → FromTick set now_state e y
   same_from e y here = record { row = y; here = here; job_is = refl; noted_then = λ i b n. inl n; declared = (legal_serial set before ok legal_before).declared y here }
@@ -418,10 +409,8 @@ module _ (set : Set) (ok : IsCompiled set) (part : Part) (before after : List En
   from_tick_at (Idle from to) h y here = same_from (Idle from to) y here
 
   frame_at : (e : Entry) → IsAt set now_state next_state e → Frame set (rows_in now_state e)
-  frame_at (Planned tx t) h = sound.frame
   frame_at (Step job op outcome over t) h = subst (Frame set) (sym (rows_of_step job op outcome over t h.0)) (frame_set set now_state.rows h.0.row (row_after now_state h.0.row op) sound.frame h.0.here refl)
-  frame_at (Blocked job op by c t) h = sound.frame
-  frame_at (Idle from to) h = sound.frame
+  frame_at other h = sound.frame
 
   -- ---- the locks that the jobs of the tick's rows have noted
 
@@ -450,10 +439,8 @@ module _ (set : Set) (ok : IsCompiled set) (part : Part) (before after : List En
   up_to_tick n m (Idle from to) le h = omega (arith, le, h)
 
   entry_early : (e : Entry) (job : JobId) (i : ℕ) (b : Bool) → IsTaking job i b e → IsAt set now_state next_state e → IsUpTo (tick + 1) e
-  entry_early (Planned tx t) job i b takes h = absurd takes
   entry_early (Step by op outcome over t) job i b takes h = omega (arith, h.1, since)
-  entry_early (Blocked by op on c t) job i b takes h = absurd takes
-  entry_early (Idle from to) job i b takes h = absurd takes
+  entry_early other job i b takes h = absurd takes
 
   step_early : (e : Entry) (job : JobId) (op : Op) (outcome : Outcome) (over : Option End) (t : ℕ) → IsBy e → e ≡ Step job op outcome over t → t ≤ tick
   step_early e job op outcome over t (inl old) is = let u : t < now_state.now = subst (IsUpTo now_state.now) is (passed_before.up_to e old) in omega (arith, u, since)
@@ -478,7 +465,6 @@ module _ (set : Set) (ok : IsCompiled set) (part : Part) (before after : List En
   by_before (Idle from to) job i b k takes lt known = absurd takes
 
   by_entry : (e : Entry) (job : JobId) (i : ℕ) (b : Bool) → e ≡ entry → IsTaking job i b e → IsAt set now_state next_state e → HasNoted rows_then job i b
-  by_entry (Planned tx t) job i b is takes h = absurd takes
   by_entry (Step by op outcome over t) job i b is takes h =
       let r = h.0.row in
       let n : noted (row_after now_state r op).work i b ≡ true = takes_noted now_state.items r.work op outcome i b h.0.outcome_is takes.1 in
@@ -486,8 +472,7 @@ module _ (set : Set) (ok : IsCompiled set) (part : Part) (before after : List En
       subst (λ (rows : List (Option Row)). IsPending rows (row_after now_state r op)) (sym (rows_of_step by op outcome over t h.0))
       (written_here now_state.rows r.job.tx.0 (row_after now_state r op) (in_range now_state.rows _ r h.0.here) refl) in
       record { row = row_after now_state r op; here = subst (λ (q : Entry). IsPending (rows_in now_state q) (row_after now_state r op)) is at; job_is = h.0.job_is ∙ takes.0; has = n }
-  by_entry (Blocked by op on c t) job i b is takes h = absurd takes
-  by_entry (Idle from to) job i b is takes h = absurd takes
+  by_entry other job i b is takes h = absurd takes
 
   taken_is_noted : (e : Entry) (job : JobId) (i : ℕ) (b : Bool) → IsBy e → IsTaking job i b e → tick < until_of stop shown job → HasNoted rows_then job i b
   taken_is_noted e job i b (inl old) takes lt = by_before e job i b old takes lt (passed_before.known e old)
@@ -599,10 +584,9 @@ module _ (set : Set) (ok : IsCompiled set) (part : Part) (before after : List En
     | inr new ↦ later e (passed_after.since e new)
   ]) where
     later : (e : Entry) → IsSince next_state.now e → IsSince (tick + 1) e
-    later (Planned tx t) h = tt
     later (Step job op outcome over t) h = omega (arith, h, ends)
     later (Blocked job op by c t) h = omega (arith, h, ends)
-    later (Idle from to) h = tt
+    later other h = tt
 
   pub held_is_drawn : (y : Row) (l : Lock) → IsPending rows_then y → In l (locks y.work) → DrawnLock set tick y.job l drawn_locks
   held_is_drawn y l here i =

@@ -1,9 +1,8 @@
 -- Each job ends at its deadline at the latest.
-use Rattle.std.proofs.Common.{◌≡◌, ℕ, ◌+◌, ◌≤◌, List, [], ◌∷◌, ◌++◌, map, Option, Some, None, refl, sym, subst, inl, inr, arith}
+use Rattle.std.proofs.Common.{◌≡◌, ℕ, ◌+◌, ◌≤◌, List, [], ◌∷◌, ◌++◌, map, Option, Some, None, sym, subst, inl, inr, arith}
 use Rattle.std.specs.List.{filter}
 use Rattle.std.proofs.lemmas.Bool.{eqb-true}
 use Rattle.rt_base.specs.declared.operation.End.{End}
-use Rattle.rt_base.specs.declared.operation.End.TheVariants.{Late}
 use Rattle.rt_base.specs.declared.operation.Op.{Op}
 use Rattle.txn_set.specs.Set.{Set, IsCompiled, txn_of}
 use Rattle.step_journal.specs.declared.entry.Entry.{Entry}
@@ -15,19 +14,14 @@ use Rattle.step_journal.specs.Step.{row_after, end_by, settled, after_effect, wi
 use Rattle.step_journal.specs.History.{state_after, states_after, IsLegalFrom, IsLegal, state_of}
 use Rattle.law_histories.proofs.Members.{In, filter_in}
 use Rattle.law_histories.proofs.Invariant.{IsPending}
-use Rattle.law_histories.proofs.Holding.{append_in}
+use Rattle.law_histories.proofs.Holding.{append_in, map_in}
 use Rattle.law_histories.proofs.Calendar.{sorted_in}
 use Rattle.law_histories.proofs.Never.{legal_sound}
 use Rattle.law_histories.proofs.DelayAll.{legal_delay}
 use Rattle.sim_run.proofs.Histories.{state_next, legal_next}
 use Rattle.board.proofs.Asks.{running_here}
-use Rattle.board.proofs.Overs.{gone_at, arrived_ended}
+use Rattle.board.proofs.Overs.{gone_at, arrived_ended, late_of as late_job}
 use Rattle.job_rows.proofs.Moved.{Moves, moves}
-
-map_in : {A B : Type 0} (f : A → B) (y : B) (xs : List A) → In y (map f xs) → (x : A) × In x xs × (y ≡ f x)
-map_in f y [] i = absurd i
-map_in f y (x ∷ xs) (inl e) = (x, inl refl, e)
-map_in f y (x ∷ xs) (inr i) = let r = map_in f y xs i in (r.0, inr r.1, r.2)
 
 -- a job ended between its release and its deadline
 pub record IsInTime (set : Set) (e : EndedJob) : Type 0 where
@@ -49,9 +43,6 @@ late_at : (set : Set) (t : ℕ) (rows : List (Option Row)) (r : Row) → In r (g
     → r.release + (txn_of set r.job.tx.0).deadline ≡ t
 late_at set t rows r i =
     eqb-true _ _ (filter_in (is_due set t) r (pending rows) (sorted_in set r (filter (is_due set t) (pending rows)) i)).1
-
-late_job : ℕ → Row → EndedJob
-late_job t r = record { job = r.job; release = r.release; end = Late; tick = t }
 
 late_in_time : (set : Set) (t : ℕ) (rows : List (Option Row)) (r : Row) → In r (gone_at set t rows)
     → IsInTime set (late_job t r)

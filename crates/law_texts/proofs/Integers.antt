@@ -39,6 +39,8 @@ use Rattle.scenario_reader.specs.Reading.{data_of, scenario_from, scenario_of, s
 use Rattle.name_table.specs.Places.{place_in}
 use Rattle.scenario_forms.proofs.FreshNames.{Holds, through, holds_ok, item_form}
 use Rattle.scenario_writer.specs.Integers.{IsI64, HasConstants, OpHasConstants, ProgramHasIntegers, HasIntegers}
+use Rattle.scenario_reader.proofs.Ranges.{needed_holds}
+use Rattle.scenario_reader.proofs.Meets.{formed_ok}
 use Rattle.law_texts.specs.Texts.{ReadHasIntegers}
 use Rattle.law_texts.proofs.Numbers.{IfI64, HasI64, ItemsHaveI64, MembersHaveI64, if_mapped, if_then, read_has}
 
@@ -88,10 +90,6 @@ integer_has : Forms IsI64 integer
 integer_has d h = if_then IfI64 IsI64 as_i64 (as_number d) (number_has d h) (λ n k. k)
 
 -- Members.
-
-needed_holds : {A : Type 0} (P : A → Type 0) (place : Place) (o : Option A) → IfSome o P → Holds P (needed place o)
-needed_holds P place None h = tt
-needed_holds P place (Some x) h = h
 
 optional_holds : {A : Type 0} (P : A → Type 0) (default : A) (place : Place) (form : Data → Option A) (o : Option Data)
     → P default → Forms P form → IfSome o HasI64 → Holds P (optional default place form o)
@@ -422,10 +420,6 @@ pub thus : {A B : Type 0} (P : B → Type 0) (r : Result A ScenarioError) (f : A
     → ((a : A) → r ≡ Ok a → IfOk (f a) P) → IfOk (refusals.◌>>=◌ r f) P
 thus P (Ok a) f h = h a refl
 thus P (Err e) f h = tt
-
-pub formed_ok : (r : Result Formed FormError) (f : Formed) → formed r ≡ Ok f → r ≡ Ok f
-formed_ok (Ok g) f is = cc
-formed_ok (Err e) f is = absurd cc
 
 program_has : (items : ℕ) (t : Txn) → TxnHas t → ProgramHasIntegers (program_from items t)
 program_has items t h = record {

@@ -31,20 +31,17 @@ new_back p name plain new =
 only_members : (name : List ℕ) (kind : ItemKind) (initial : ℤ)
     → no_others is_item_member (item_data name (record { kind = kind; initial = initial })) ≡ true
 only_members name (Sensor validity) initial = refl
-only_members name (Derived validity) initial = refl
-only_members name State initial = refl
+only_members name other initial = refl
 
 gets_name : (name : List ℕ) (kind : ItemKind) (initial : ℤ)
     → get (codes "name") (item_data name (record { kind = kind; initial = initial })) ≡ Some (word name)
 gets_name name (Sensor validity) initial = refl
-gets_name name (Derived validity) initial = refl
-gets_name name State initial = refl
+gets_name name other initial = refl
 
 gets_value : (name : List ℕ) (kind : ItemKind) (initial : ℤ)
     → get (codes "value") (item_data name (record { kind = kind; initial = initial })) ≡ Some (written.integer initial)
 gets_value name (Sensor validity) initial = refl
-gets_value name (Derived validity) initial = refl
-gets_value name State initial = refl
+gets_value name other initial = refl
 
 -- the kind with its validity, before what comes after it
 kind_part : (i : ℕ) (name : List ℕ) (kind : ItemKind) (initial : ℤ) → HasValidity kind

@@ -7,7 +7,7 @@ use Rattle.rt_base.specs.declared.ids.JobId.{JobId}
 use Rattle.rt_base.specs.declared.name.Names.{Names}
 use Rattle.rt_base.specs.declared.operation.End.{End}
 use Rattle.txn_set.specs.declared.decl.TxnDecl.{TxnDecl}
-use Rattle.txn_set.specs.Set.{Set, IsCompiled, txn_of, no_txn}
+use Rattle.txn_set.specs.Set.{Set, IsCompiled}
 use Rattle.txn_set.specs.Ceilings.{greatest, may_block, blocking}
 use Rattle.step_journal.specs.declared.entry.Entry.{Entry}
 use Rattle.step_journal.specs.declared.entry.Entry.TheVariants.{Planned, Step, Blocked, Idle}
@@ -31,9 +31,10 @@ use Rattle.job_rows.specs.declared.row.JobRow.{JobRow}
 use Rattle.job_rows.specs.Rows.{delay_of, with_delay, ended_row, pending_row, job_rows}
 use Rattle.job_rows.proofs.Moved.{moves}
 use Rattle.report_text.specs.Texts.{is_second, by_text, close_text, job_line}
-use Rattle.run_report.proofs.Every.{Every, every_in, every_all, every_append, every_map, every_mapped, every_filter, every_greatest, every_or}
+use Rattle.run_report.proofs.Every.{Every, every_in, every_all, every_append, every_map, every_mapped, every_filter, every_greatest}
 use Rattle.run_report.proofs.Fits.{EndFits, EndedFits}
 use Rattle.run_report.proofs.Steps.{HistoryFits}
+use Rattle.run_report.proofs.Ages.{deadline_most}
 use Rattle.law_texts.proofs.Lengths.{name_length, tick_length, time_length, steps_length, job_length}
 use Rattle.law_texts.proofs.Ends.{split, legal_at}
 use Rattle.law_texts.proofs.EntryLines.{end_length}
@@ -106,11 +107,6 @@ blocking_most set prio ok =
     (every_filter (λ (t : TxnDecl). t.steps - t.quiet - 1 ≤ 9999) (λ t. nat_lt t.prio prio && may_block set prio t) set.txns steps)) in
     omega (arith, least)
 
-deadline_most : (set : Set) (tx : ℕ) → IsCompiled set → (txn_of set tx).deadline ≤ 2 ^ 30
-deadline_most set tx ok =
-    every_or (λ (t : TxnDecl). t.deadline ≤ 2 ^ 30) set.txns tx no_txn
-    (every_all (λ (t : TxnDecl). t.deadline ≤ 2 ^ 30) set.txns (λ k d lt. omega (arith, (ok.times k d lt).deadline.1, (ok.times k d lt).period.1))) (omega arith)
-
 -- the job of a step
 abbrev IsStepOf : JobId → Entry → Type 0
 IsStepOf job (Planned tx tick) = ⊥
@@ -132,7 +128,6 @@ delayer_steps set job by span (Idle from to) h = absurd cc
 -- a serial is below the number of its transaction's plans
 serial_at : (set : Set) (es : List Entry) (e : Entry) (job : JobId) → IsCompiled set → IsLegal set es
     → IsLegalEntry set (state_of set es) e → IsStepOf job e → job.serial < plan_count es job.tx.0
-serial_at set es (Planned tx tick) job ok legal next of = absurd of
 serial_at set es (Step by op outcome over tick) job ok legal next of =
     let m = moves set (state_of set es) (Step by op outcome over tick) next in
     let here : IsPending (state_of set es).rows m.row = running_here set es ok legal m.row m.runs in
@@ -140,8 +135,7 @@ serial_at set es (Step by op outcome over tick) job ok legal next of =
     omega (arith, ((legal_sound set es ok legal).calendar.released m.row here).1, (time_bounded set es ok legal).plans m.row.job.tx.0) in
     subst (λ (j : JobId). j.serial < plan_count es j.tx.0) of
     (subst (λ (j : JobId). j.serial < plan_count es j.tx.0) m.job_is lt)
-serial_at set es (Blocked by op on ceiling tick) job ok legal next of = absurd of
-serial_at set es (Idle from to) job ok legal next of = absurd of
+serial_at set es other job ok legal next of = absurd of
 
 count_whole : (before after : List Entry) (e : Entry) (n : ℕ) → plan_count before n ≤ plan_count (before ++ e ∷ after) n
 count_whole before after e n = omega (arith, count_append before (e ∷ after) n)

@@ -86,16 +86,7 @@ same_ops [] = refl
 same_ops (op ∷ ops) = ap (λ (os : List Operation). op ∷ os) (same_ops ops)
 
 abbrev with_items : TxnDecl → List ItemId → List ItemId → TxnDecl
-with_items t reads writes = record {
-  prio = t.prio;
-  period = t.period;
-  offset = t.offset;
-  deadline = t.deadline;
-  steps = t.steps;
-  quiet = t.quiet;
-  reads = reads;
-  writes = writes;
-}
+with_items t reads writes = record t { reads = reads; writes = writes }
 
 abbrev InOrder : ℕ → List ItemId → Type 0
 InOrder n ids = AllPairs (λ x y. x.0 < y.0) ids × All (λ i. i.0 < n) ids

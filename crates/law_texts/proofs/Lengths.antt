@@ -29,9 +29,6 @@ name_length names i good = elim (cases_lt i (length names)) [
 
 -- ---- numbers
 
-pub unsigned_length : (n : ℕ) → n < 2 ^ 64 → length (decimal n) ≤ 20
-unsigned_length n lt = length-decimal-le 20 n (omega arith) (omega arith) lt
-
 -- a tick
 pub tick_length : (n : ℕ) → n ≤ 2 ^ 40 + 2 ^ 30 → length (decimal n) ≤ 13
 tick_length n le = length-decimal-le 13 n (omega arith) (omega arith) (omega arith)

@@ -1,18 +1,13 @@
 -- Members of lists, the first that passes a test, and lists that have each element once.
-use Rattle.std.proofs.Common.{◌≡◌, ◌⊎◌, ℕ, zero, suc, ◌+◌, ◌<◌, ◌≤◌, ◌||◌, Bool, true, false, List, [], ◌∷◌, ◌++◌, map, length, slice_get, get_or, Option, None, Some, refl, ap, sym, ◌∙◌, subst, inl, inr, arith}
+use Rattle.std.proofs.Common.{◌≡◌, ◌⊎◌, ℕ, zero, suc, ◌+◌, ◌<◌, ◌≤◌, ◌||◌, Bool, true, false, List, [], ◌∷◌, ◌++◌, map, slice_get, Option, None, Some, refl, ap, sym, ◌∙◌, subst, inl, inr, arith}
 use Rattle.std.specs.List.{filter_map, flat_map, cons_option, list_any, Contains}
-use Rattle.txn_set.specs.Ceilings.{greatest}
 use Rattle.law_histories.proofs.Members.{In, in_at}
 use Rattle.law_histories.proofs.Holding.{in_left, in_right, append_in}
+use Rattle.job_rows.proofs.Releasing.{contains_in}
 use Rattle.law_texts.specs.Ceilings.{ticks_from}
 use Rattle.law_texts.specs.Drawn.{ShowsExactly}
 
 -- ---- members
-
-pub map_in : {A B : Type 0} (f : A → B) (y : B) (xs : List A) → In y (map f xs) → (x : A) × In x xs × (y ≡ f x)
-map_in f y [] h = absurd h
-map_in f y (x ∷ xs) (inl e) = (x, inl refl, e)
-map_in f y (x ∷ xs) (inr h) = let r = map_in f y xs h in (r.0, inr r.1, r.2)
 
 pub flat_map_in : {A B : Type 0} (f : A → List B) (y : B) (xs : List A) → In y (flat_map f xs) → (x : A) × In x xs × In y (f x)
 flat_map_in f y [] h = absurd h
@@ -39,19 +34,10 @@ pub cons_option_later : {A : Type 0} (x : A) (o : Option A) (xs : List A) → In
 cons_option_later x None xs h = h
 cons_option_later x (Some y) xs h = inr h
 
-pub greatest_least : {A : Type 0} (f : A → ℕ) (xs : List A) (c : ℕ) → ((x : A) → In x xs → f x ≤ c) → greatest (map f xs) ≤ c
-greatest_least f [] c h = omega arith
-greatest_least f (y ∷ ys) c h = let a : f y ≤ c = h y (inl refl) in let b : greatest (map f ys) ≤ c = greatest_least f ys c (λ x i. h x (inr i)) in omega arith
-
 pub tick_in : (t a n : ℕ) → In t (ticks_from a n) → (a ≤ t) × (t < a + n)
 tick_in t a zero h = absurd h
 tick_in t a (suc n) (inl e) = (omega (arith, e), omega (arith, e))
 tick_in t a (suc n) (inr h) = let r = tick_in t (a + 1) n h in (omega (arith, r.0), omega (arith, r.1))
-
-contains_in : {A : Type 0} (xs : List A) (k : ℕ) (x : A) → k < length xs → get_or xs k x ≡ x → In x xs
-contains_in [] k x lt e = absurd (omega arith)
-contains_in (y ∷ ys) zero x lt e = inl (sym e)
-contains_in (y ∷ ys) (suc k) x lt e = inr (contains_in ys k x (omega (arith, lt)) e)
 
 pub from_contains : {A : Type 0} (xs : List A) (x : A) → Contains xs x → In x xs
 from_contains xs x h = contains_in xs h.0 x h.1 h.2

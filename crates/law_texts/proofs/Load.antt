@@ -11,14 +11,11 @@ use Rattle.txn_set.specs.Ceilings.{greatest, may_block, blocking}
 use Rattle.law_times.specs.Response.{part_of, higher_demand, demand, HoldsDemand}
 use Rattle.scenario_writer.specs.Generated.{each, dated_item, state_item, txn_decl, period_of}
 use Rattle.scenario_writer.proofs.GeneratedSet as generated
+use Rattle.law_times.proofs.Standing.{loud as left}
 
 -- the set of a generated scenario
 abbrev pub plain_set : ℕ → Set
 plain_set n = record { items = each (dated_item n) n ++ state_item ∷ []; txns = each (txn_decl n) n; together = [] }
-
--- a lower job takes three steps at most after the one that took its lock
-abbrev left : TxnDecl → ℕ
-left t = t.steps - t.quiet - 1
 
 kept_left : (b : Bool) (t : TxnDecl) (ts : List TxnDecl) → left t ≤ 3 → greatest (map left ts) ≤ 3
     → greatest (map left (cond b (t ∷ ts) ts)) ≤ 3

@@ -11,7 +11,7 @@ use Rattle.step_journal.specs.LockRule.{placed, in_falling_priority}
 use Rattle.step_journal.specs.History.{state_after, states_after, state_of, IsLegalFrom, IsLegal}
 use Rattle.law_histories.proofs.Members.{In, in_pending, pending_in}
 use Rattle.law_histories.proofs.Invariant.{IsPending, same_job_is}
-use Rattle.law_histories.proofs.Holding.{in_left, in_right, append_in, in_map}
+use Rattle.law_histories.proofs.Holding.{in_left, in_right, append_in, in_map, map_in}
 use Rattle.law_histories.proofs.Calendar.{Frame, placed_in, sorted_in, in_sorted}
 use Rattle.law_histories.proofs.Never.{legal_sound}
 use Rattle.law_histories.proofs.Lists.{in_filter_map, filter_map_in}
@@ -22,17 +22,9 @@ use Rattle.job_rows.specs.Rows.{ended_row, pending_row, job_rows}
 use Rattle.schedule_marks.specs.declared.part.Part.{Part}
 use Rattle.schedule_marks.specs.Marks.{until, until_of, present_in, present}
 use Rattle.law_texts.specs.Drawn.{GoesThroughEachTick}
-use Rattle.law_texts.proofs.Lists.{map_in, AreApart, apart_append}
+use Rattle.law_texts.proofs.Lists.{AreApart, apart_append}
 
 -- ---- histories in two parts
-
-pub states_append : (set : Set) (s : State) (xs ys : List Entry) → states_after set s (xs ++ ys) ≡ states_after set (states_after set s xs) ys
-states_append set s [] ys = refl
-states_append set s (x ∷ xs) ys = states_append set (state_after set s x) xs ys
-
-pub legal_front : (set : Set) (s : State) (xs ys : List Entry) → IsLegalFrom set s (xs ++ ys) → IsLegalFrom set s xs
-legal_front set s [] ys h = tt
-legal_front set s (x ∷ xs) ys h = (h.0, legal_front set (state_after set s x) xs ys h.1)
 
 pub legal_rest : (set : Set) (s : State) (xs ys : List Entry) → IsLegalFrom set s (xs ++ ys) → IsLegalFrom set (states_after set s xs) ys
 legal_rest set s [] ys h = h

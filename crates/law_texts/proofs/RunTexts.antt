@@ -71,7 +71,6 @@ body_fits (p ∷ ps) (suc tx) serial outcomes h lt fits = body_fits ps tx serial
 
 pub run_values : (s : Shown) (entries : List Entry) → HasIntegers s → IsScriptRun (workload_of s) entries
     → Values (set_of s) entries
-run_values s entries integers run before after (Planned tx tick) whole serial fits = tt
 run_values s entries integers run before after (Step job op outcome over tick) whole serial fits =
     subst HasValue (sym (run before after (Step job op outcome over tick) whole))
     (body_fits s.programs job.tx.0 job.serial (outcomes_of before job) (every_all ProgramHasIntegers s.programs integers.programs) serial
@@ -80,4 +79,4 @@ run_values s entries integers run before after (Blocked job op by ceiling tick) 
     subst HasValue (sym (run before after (Blocked job op by ceiling tick) whole))
     (body_fits s.programs job.tx.0 job.serial (outcomes_of before job) (every_all ProgramHasIntegers s.programs integers.programs) serial
     (outcomes_told (is_second (set_of s)) job before fits))
-run_values s entries integers run before after (Idle from to) whole serial fits = tt
+run_values s entries integers run before after other whole serial fits = tt

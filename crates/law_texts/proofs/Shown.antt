@@ -109,10 +109,8 @@ module _ {X : Type 0} (p : Mark → Option X) (set : Set) (part : Part) (stop : 
     at false = none_if p (meets part tick (lock_until job l.0 l.1 to after)) _ (none job l.0 l.1 _ tick (lock_until job l.0 l.1 to after))
 
   lock_none : (before after : List Entry) (entry : Entry) → option_and_then p (lock_in set part stop shown before after entry) ≡ None
-  lock_none before after (Planned tx tick) = refl
   lock_none before after (Step job op outcome over tick) = lock_from_none (until_of stop shown job) before after job tick (lock_by op outcome)
-  lock_none before after (Blocked job op by ceiling tick) = refl
-  lock_none before after (Idle from to) = refl
+  lock_none before after other = refl
 
   locks_none : (before es : List Entry) → filter_map p (locks_along set part stop shown before es) ≡ []
   locks_none before [] = refl
@@ -184,16 +182,12 @@ if_both p false m x e = refl
 
 module _ (set : Set) (part : Part) (rows : List JobRow) (entries : List Entry) where
   steps_at : (entry : Entry) → option_and_then granted_of (step_in part entry) ≡ kept (λ s. has_tick part s.tick) (granted_by entry)
-  steps_at (Planned tx tick) = refl
   steps_at (Step job op outcome over tick) = if_both granted_of (has_tick part tick) _ _ refl
-  steps_at (Blocked job op by ceiling tick) = refl
-  steps_at (Idle from to) = refl
+  steps_at other = refl
 
   refusals_at : (entry : Entry) → option_and_then refused_of (refusal_in part entry) ≡ kept (λ r. has_tick part r.tick) (refused_by entry)
-  refusals_at (Planned tx tick) = refl
-  refusals_at (Step job op outcome over tick) = refl
   refusals_at (Blocked job op by ceiling tick) = if_both refused_of (has_tick part tick) _ _ refl
-  refusals_at (Idle from to) = refl
+  refusals_at other = refl
 
   ends_at : (job : JobId) (o : Option (End × ℕ)) → option_and_then ending_of (end_at part job o) ≡ kept (λ e. has_instant part e.tick) (option_map (λ e. record { job = job; end = e.0; tick = e.1 }) o)
   ends_at job None = refl

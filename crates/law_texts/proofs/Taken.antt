@@ -20,6 +20,8 @@ use Rattle.schedule_marks.specs.declared.part.Part.{Part}
 use Rattle.schedule_marks.specs.declared.mark.Mark.{Mark}
 use Rattle.schedule_marks.specs.declared.mark.Mark.TheVariants as mark
 use Rattle.schedule_marks.specs.Marks.{until_of, lock_by, is_lock_on, shows_lock, earlier_write, until_write, lock_until, lock_mark, lock_from, lock_in, locks_along, ceiling_in}
+use Rattle.job_rows.proofs.Bounding.{clash}
+use Rattle.schedule_marks.proofs.Along.{until_most}
 use Rattle.law_texts.specs.Drawn.{HeldLock, held_by, lock_shown}
 use Rattle.law_texts.proofs.Lists.{in_cons_option, cons_option_here, cons_option_later, AreApart}
 use Rattle.law_texts.proofs.Shown.{shown_then}
@@ -70,32 +72,11 @@ pub step_shows : (job : JobId) (item : ItemId) (is_write : Bool) (by : JobId) (o
 step_shows job item is_write by op outcome over tick l j e i s =
     and_from _ _ (same_as_self by job j) (ap (is_lock_on item is_write) e ∙ and_from _ _ (eq-eqb _ _ i) s)
 
-pub clash : (b : Bool) → b ≡ true → b ≡ false → ⊥
-clash b p q = cc
-
 pub as_strong : (b : Bool) → (b || not b) ≡ true
 as_strong true = refl
 as_strong false = refl
 
 -- ---- until when
-
-earlier_most : (job : JobId) (item : ItemId) (to : ℕ) (e : Entry) → earlier_write job item to e ≤ to
-earlier_most job item to (Planned tx tick) = omega arith
-earlier_most job item to (Step by op outcome over tick) = at (shows_lock job item true (Step by op outcome over tick)) where
-  at : (b : Bool) → cond b (min tick to) to ≤ to
-  at true = omega arith
-  at false = omega arith
-earlier_most job item to (Blocked by op on ceiling tick) = omega arith
-earlier_most job item to (Idle from tick) = omega arith
-
-pub until_most : (job : JobId) (item : ItemId) (to : ℕ) (es : List Entry) → until_write job item to es ≤ to
-until_most job item to [] = omega arith
-until_most job item to (e ∷ es) = omega (arith, until_most job item (earlier_write job item to e) es, earlier_most job item to e)
-
--- a lock lasts no longer than its job
-pub lock_most : (job : JobId) (item : ItemId) (is_write : Bool) (to : ℕ) (es : List Entry) → lock_until job item is_write to es ≤ to
-lock_most job item true to es = omega arith
-lock_most job item false to es = until_most job item to es
 
 earlier_here : (job : JobId) (item : ItemId) (to t : ℕ) (e : Entry) → shows_lock job item true e ≡ true → IsUpTo (t + 1) e → earlier_write job item to e ≤ t
 earlier_here job item to t (Planned tx tick) s u = absurd cc
@@ -115,13 +96,11 @@ until_written job item to t (q ∷ qs) e (inl is) s u =
 until_written job item to t (q ∷ qs) e (inr i) s u = until_written job item (earlier_write job item to q) t qs e i s u
 
 earlier_late : (job : JobId) (item : ItemId) (to t : ℕ) (e : Entry) → t < to → (shows_lock job item true e ≡ true → IsSince (t + 1) e) → t < earlier_write job item to e
-earlier_late job item to t (Planned tx tick) lt h = lt
 earlier_late job item to t (Step by op outcome over tick) lt h = at (shows_lock job item true (Step by op outcome over tick)) refl where
   at : (b : Bool) → shows_lock job item true (Step by op outcome over tick) ≡ b → t < cond b (min tick to) to
   at true e = let late = h e in omega (arith, late, lt)
   at false e = lt
-earlier_late job item to t (Blocked by op on ceiling tick) lt h = lt
-earlier_late job item to t (Idle from tick) lt h = lt
+earlier_late job item to t other lt h = lt
 
 -- and not before the first
 pub until_late : (job : JobId) (item : ItemId) (to t : ℕ) (es : List Entry) → t < to → ((e : Entry) → In e es → shows_lock job item true e ≡ true → IsSince (t + 1) e) → t < until_write job item to es

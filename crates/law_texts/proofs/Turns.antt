@@ -22,7 +22,7 @@ use Rattle.step_journal.specs.History.{event_of, state_given, entry_given, state
 use Rattle.law_histories.proofs.Members.{In, filter_in, pending_in}
 use Rattle.law_histories.proofs.Invariant.{IsPending, Runs, in_range, same_row, same_job_is, written, written_here, written_other, running_is}
 use Rattle.law_histories.proofs.Holding.{in_left, in_right, append_in}
-use Rattle.law_histories.proofs.Ends.{left, stays}
+use Rattle.law_histories.proofs.Ends.{left, stays, freed_keeps}
 use Rattle.law_histories.proofs.Calendar.{Sound, named_from, sorted_in, late_rows, after_cancelled, due, after_due, nobody_there}
 use Rattle.law_histories.proofs.Histories.{settled_sound, arrived_now, wait_now, plan_now, idle_early, MayPlan, may_plan_is}
 use Rattle.law_histories.proofs.Never.{entry_goes, step_goes, refused_after}
@@ -123,12 +123,6 @@ freed_some job k (Some on) h = at (same_job on job) h where
 freed_other : (k : JobId) (b : Bool) → b ≡ false → cond b None (Some k) ≡ Some k
 freed_other k true e = absurd cc
 freed_other k false e = refl
-
-freed_keeps : (job k : JobId) (o : Option JobId) → o ≡ Some k → same_job k job ≡ false → freed_from job o ≡ Some k
-freed_keeps job k None h e = absurd cc
-freed_keeps job k (Some on) h e =
-    let s : on ≡ k = cc in
-    subst (λ (q : JobId). freed_from job (Some q) ≡ Some k) (sym s) (freed_other k (same_job k job) e)
 
 module _ (s : State) (r : Row) (e : End) (tick : ℕ) where
   abbrev last_end : EndedJob
@@ -271,10 +265,8 @@ IsWaiting rows ended (Blocked job op by ceiling tick) = GoesOn rows ended job by
 IsWaiting rows ended (Idle from to) = Unit {0}
 
 still_waiting : (N : JobId → JobId → Type 0) (n : ℕ) (b : State) (rows : List (Option Row)) (ended : List EndedJob) (e : Entry) → Turns N n b rows ended → IsWaiting b.rows b.ended e → IsWaiting rows ended e
-still_waiting N n b rows ended (Planned tx tick) g h = tt
-still_waiting N n b rows ended (Step job op outcome over tick) g h = tt
 still_waiting N n b rows ended (Blocked job op by ceiling tick) g h = goes_on N n b rows ended job by g h
-still_waiting N n b rows ended (Idle from to) g h = tt
+still_waiting N n b rows ended other g h = tt
 
 wait_turns : (s : State) (x : Row) (op : Op) (on : JobId) (ceiling tick : ℕ) → IsPending s.rows x → x.waits_on ≡ None → Turns (IsRefusal (Blocked x.job op on ceiling tick)) s.now s (with_wait s x on).rows (with_wait s x on).ended
 unfolding with_wait

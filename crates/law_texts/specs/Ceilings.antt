@@ -5,7 +5,7 @@ use Rattle.rt_base.specs.declared.operation.Op.{Op}
 use Rattle.txn_set.specs.Set.{Set, IsCompiled}
 use Rattle.txn_set.specs.Ceilings.{greatest}
 use Rattle.step_journal.specs.declared.entry.Entry.{Entry}
-use Rattle.step_journal.specs.declared.entry.Entry.TheVariants.{Planned, Step, Blocked, Idle}
+use Rattle.step_journal.specs.declared.entry.Entry.TheVariants.{Step}
 use Rattle.step_journal.specs.State.{State, Row, pending}
 use Rattle.step_journal.specs.LockRule.{ceiling_of}
 use Rattle.step_journal.specs.Running.{job_row}
@@ -27,9 +27,7 @@ with_work s op (Some row) = slice_set s.rows row.job.tx.0 (Some (row_after s row
 -- the rows while an entry goes on from a state: those of the state, with what a step notes for its job
 abbrev pub rows_in : State → Entry → List (Option Row)
 rows_in s (Step job op outcome over tick) = with_work s op (job_row s.rows job)
-rows_in s (Planned tx tick) = s.rows
-rows_in s (Blocked job op by ceiling tick) = s.rows
-rows_in s (Idle from to) = s.rows
+rows_in s other = s.rows
 
 -- the greatest ceiling of the locks that the jobs of these rows hold
 abbrev pub held_ceiling : Set → List (Option Row) → ℕ

@@ -1,5 +1,5 @@
 -- How many bytes the lines of entries and of jobs have. A name has at most 32, and each number as many as its range allows.
-use Rattle.std.specs.Prelude.{◌≡◌, ℕ, ◌^◌, ◌<◌, ◌≤◌, List, [], ◌∷◌, ◌++◌, length, Option, Some, None}
+use Rattle.std.specs.Prelude.{◌≡◌, ℕ, ◌^◌, ◌<◌, ◌≤◌, List, [], ◌∷◌, ◌++◌, length, Option, Some}
 use Rattle.std.specs.List.{All}
 use Rattle.rt_base.specs.Names.{AreNames}
 use Rattle.rt_base.specs.declared.name.Names.{Names}
@@ -38,13 +38,9 @@ EntryLinesAreShort =
 
 -- an end that names items
 abbrev pub NamesItems : Option End → Type 0
-NamesItems None = ⊥
-NamesItems (Some end.Committed) = ⊥
-NamesItems (Some end.Overrun) = ⊥
-NamesItems (Some end.Late) = ⊥
 NamesItems (Some (end.Stale item stamp)) = Unit {0}
 NamesItems (Some (end.Apart a b)) = Unit {0}
-NamesItems (Some end.Quit) = ⊥
+NamesItems other = ⊥
 
 -- A step ends its job so only where it commits, and then its operation names none.
 abbrev pub OnlyCommitsNameItems : Type 0

@@ -5,7 +5,7 @@ use Rattle.std.proofs.lemmas.Bool.{cases_eq, cases_lt, eqb-true}
 use Rattle.std.specs.Option.{option_map, option_and_then}
 use Rattle.rt_base.specs.declared.ids.JobId.{JobId}
 use Rattle.rt_base.specs.declared.operation.Op.{Op}
-use Rattle.rt_base.specs.declared.operation.Op.TheVariants.{Read, Write, Compute, Commit, Quit}
+use Rattle.rt_base.specs.declared.operation.Op.TheVariants.{Commit, Quit}
 use Rattle.rt_base.specs.declared.operation.End.{End}
 use Rattle.rt_base.specs.declared.operation.End.TheVariants as end
 use Rattle.step_journal.specs.declared.entry.Entry.{Entry}
@@ -55,11 +55,9 @@ given_in_time true e h late = let is : end.Overrun ≡ e = cc in cc
 given_in_time false e h late = absurd cc
 
 end_in_time : (set : Set) (x : Row) (t : ℕ) (op : Op) (e : End) → end_by set x t op ≡ Some e → e ≡ end.Late → ⊥
-end_in_time set x t (Read item) e h late = given_in_time (x.used == (txn_of set x.job.tx.0).steps) e h late
-end_in_time set x t (Write item value) e h late = given_in_time (x.used == (txn_of set x.job.tx.0).steps) e h late
-end_in_time set x t Compute e h late = given_in_time (x.used == (txn_of set x.job.tx.0).steps) e h late
 end_in_time set x t Commit e h late = let is : verdict set.items set.together (txn_of set x.job.tx.0).reads x.work t ≡ e = cc in verdict_in_time set x t (is ∙ late)
 end_in_time set x t Quit e h late = let is : end.Quit ≡ e = cc in cc
+end_in_time set x t other e h late = given_in_time (x.used == (txn_of set x.job.tx.0).steps) e h late
 
 -- the effect of a granted step
 

@@ -83,7 +83,7 @@ parted_at rs within q None p e f h = absurd cc
 apart_parted : (w : Work) (g : TogetherDecl) (q : OutsideRead × OutsideRead) → apart_in w g ≡ Some q → AreParted (reads_of w g.items) g.within
 apart_parted w g q h = parted_at (reads_of w g.items) g.within q (oldest (reads_of w g.items)) (newest (reads_of w g.items)) refl refl h
 
-dated_derived_at : (o : Option ℕ) (v : ℕ) → o ≡ Some v → is_some o ≡ true
+pub dated_derived_at : (o : Option ℕ) (v : ℕ) → o ≡ Some v → is_some o ≡ true
 dated_derived_at o v e = ap is_some e
 
 dated_at : (set : Set) (a b : ℕ) → a ≡ b → is_dated set.items b ≡ true → is_dated set.items a ≡ true
@@ -105,11 +105,10 @@ pub record IsGood (set : Set) (bound : ℕ → ℕ) (reads : JobId → List Outs
 
 committed_at : (k : End) (e : End) → e ≡ k → ¬ GaveUp e → e ≢ end.Late → ((item : ItemId) (stamp : ℕ) → e ≢ end.Stale item stamp) → ((a b : ItemId) → e ≢ end.Apart a b) → e ≡ end.Committed
 committed_at end.Committed e is up late stale apart = is
-committed_at end.Overrun e is up late stale apart = absurd (up (subst GaveUp (sym is) tt))
 committed_at end.Late e is up late stale apart = absurd (late is)
 committed_at (end.Stale item stamp) e is up late stale apart = absurd (stale item stamp is)
-committed_at end.Quit e is up late stale apart = absurd (up (subst GaveUp (sym is) tt))
 committed_at (end.Apart a b) e is up late stale apart = absurd (apart a b is)
+committed_at other e is up late stale apart = absurd (up (subst GaveUp (sym is) tt))
 
 -- the age bound is at least the period and the response bound of the writer
 bound_at : (set : Set) (response bound : ℕ → ℕ) (item tx : ℕ) (b : Bool) → is_derived set.items item ≡ b → IsAgeBound set response bound → is_dated set.items item ≡ true → IsTheWriter set item tx → (txn_of set tx).period + response tx ≤ bound item

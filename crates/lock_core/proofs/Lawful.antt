@@ -24,14 +24,9 @@ use Rattle.lock_core.proofs.Stood.{lawful_story}
 
 -- the entry of an answer is that of the step
 asked_steps : (set : Set) (story : List Entry) (job : JobId) (op : Op) (now : ℕ) (r : StepReply) → IsLegal set (noted story (step_entry now job op r)) → IsEvent set story (ask job op) (step_entry now job op r)
-asked_steps set story job op now (reply.NoJob ended last) legal = tt
-asked_steps set story job op now (reply.NotYet running) legal = tt
-asked_steps set story job op now (reply.Undeclared item) legal = tt
-asked_steps set story job op now (reply.TooEarly left) legal = tt
-asked_steps set story job op now (reply.Unwritten item) legal = tt
-asked_steps set story job op now (reply.Full room) legal = tt
 asked_steps set story job op now (reply.Blocked by ceiling) legal = last_step set story (Blocked job op by ceiling now) legal
 asked_steps set story job op now (reply.Done outcome over) legal = last_step set story (Step job op outcome over now) legal
+asked_steps set story job op now other legal = tt
 
 kept_more : (first : ℕ) (kept later story : List Entry) (entry : Option Entry) → kept ≡ drop first story → first + length kept ≡ length story → later ≡ drop first (noted story entry) → later ≡ noted kept entry
 kept_more first kept later story None rest counted more = more ∙ sym rest

@@ -22,11 +22,5 @@ each_refusal set story ok legal before after job on op ceiling tick e =
     refused_once set before job on op ceiling tick ok (legal_until set (opening set) before (Blocked job op on ceiling tick) after (subst (IsLegal set) e legal))
 
 pub first_refusal : (set : Set) (story : List Entry) (job : JobId) (op : Op) (now : ℕ) (r : StepReply) → IsCompiled set → IsLegal set (noted story (step_entry now job op r)) → IfBlocked r (IsFirstRefusal set story job)
-first_refusal set story job op now (reply.NoJob ended last) ok legal = tt
-first_refusal set story job op now (reply.NotYet running) ok legal = tt
-first_refusal set story job op now (reply.Undeclared item) ok legal = tt
-first_refusal set story job op now (reply.TooEarly left) ok legal = tt
-first_refusal set story job op now (reply.Unwritten item) ok legal = tt
-first_refusal set story job op now (reply.Full room) ok legal = tt
 first_refusal set story job op now (reply.Blocked by ceiling) ok legal = refused_once set story job by op ceiling now ok legal
-first_refusal set story job op now (reply.Done outcome over) ok legal = tt
+first_refusal set story job op now other ok legal = tt

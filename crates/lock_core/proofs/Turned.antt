@@ -105,9 +105,6 @@ asks_some core job op asks = record { state = state_of core.set asks.0; are = as
 
 -- a Compute needs no lock, so that the running job gets it
 
-pub computes_free : (set : Set) (s : State) (job : JobId) → IsAsking set s job Compute → IsGranted set s job Compute
-computes_free set s job a = record { row = a.row; runs = a.runs; is = a.is; may = a.may; free = refl }
-
 pub runs_compute : (set : Set) (s : State) (job : JobId) → runs_now (option_map (λ (r : Row). r.job) (running set s.rows)) job ≡ true → IsGranted set s job Compute
 runs_compute set s job e = by_row (running set s.rows) refl e where
   by_row : (o : Option Row) → running set s.rows ≡ o → runs_now (option_map (λ (r : Row). r.job) o) job ≡ true → IsGranted set s job Compute

@@ -31,6 +31,7 @@ use Rattle.schedule_marks.specs.declared.showing.Limits.{Limits}
 use Rattle.schedule_marks.specs.declared.showing.Shown.{Shown}
 use Rattle.schedule_marks.specs.Shown.{shown_of}
 use Rattle.picture_text.specs.Texts.{text_of}
+use Rattle.run_report.proofs.Parts.{document_read, one_document}
 use Rattle.picture_command.specs.Page.{page_text}
 use Rattle.picture_command.specs.Parts.{part_of}
 use Rattle.io_edge.specs.declared.status.Status.{Status}
@@ -56,14 +57,8 @@ is_legal input status text v e = by_status input v.0 v.1 (subst (λ (s : Status)
 
 -- the document of a legal report is the one that is read
 
-abbrev document_read : Document → Result Document DocumentError
-document_read d = Ok d
-
 abbrev not_read : DocumentError → Result Document DocumentError
 not_read e = Err e
-
-one_document : (a b : Document) → document_read a ≡ document_read b → a ≡ b
-one_document a b e = cc
 
 same : (input : List ℕ) (d : Document) (legal : IsVerdict input Legal) → Ok d ≡ document_of input → legal.0 ≡ d
 same input d legal read = one_document legal.0 d (sym legal.1.declares.read ∙ sym read)

@@ -7,7 +7,3 @@ pub more : (f : ℕ → List ℕ) (before out new : List ℕ) (i : ℕ) → new 
     → new ≡ before ++ lines_below f (i + 1)
 more f before out new i is so =
     rw (add-one i) (is ∙ ap (λ (o : List ℕ). o ++ f i) so ∙ append_assoc before (lines_below f i) (f i))
-
--- a text and the one before it
-pub back : (new mid old x y : List ℕ) → new ≡ mid ++ y → mid ≡ old ++ x → new ≡ old ++ (x ++ y)
-back new mid old x y is so = is ∙ ap (λ (t : List ℕ). t ++ y) so ∙ append_assoc old x y

@@ -1,15 +1,16 @@
 -- The effect on the tables is the definition's.
-use Rattle.std.proofs.Common.{◌≡◌, ℕ, zero, suc, ◌+◌, ◌<◌, Bool, true, false, cond, List, [], ◌∷◌, length, map, Option, None, Some, set as with_item, refl, ap, sym, ◌∙◌, arith, get_or-set_same}
+use Rattle.std.proofs.Common.{◌≡◌, ℕ, ◌+◌, Bool, true, false, cond, List, map, Option, None, Some, set as with_item, refl, ap, sym, ◌∙◌, get_or-set_same}
 use Rattle.std.proofs.lemmas.List.{set-set}
 use Rattle.std.specs.Option.{option_map}
 use Rattle.rt_base.specs.declared.operation.Op.{Op}
-use Rattle.rt_base.specs.declared.operation.Op.TheVariants.{Read, Write, Compute, Commit, Quit}
+use Rattle.rt_base.specs.declared.operation.Op.TheVariants.{Commit, Quit}
 use Rattle.rt_base.specs.declared.operation.End.{End}
 use Rattle.item_model.specs.Work.{items_after}
 use Rattle.txn_set.specs.Set.{Set, txn_of}
 use Rattle.step_journal.specs.State.{State, Row, row_of}
 use Rattle.step_journal.specs.Instant.{freed}
 use Rattle.step_journal.specs.Step.{row_after, end_by, given, settled, after_effect}
+use Rattle.law_histories.proofs.Invariant.{in_range as row_in_range}
 use Rattle.plain_core.specs.TablesSeen.{TablesSeen, tables_of}
 use Rattle.plain_core.specs.Arrivals.{ended_tables}
 use Rattle.plain_core.specs.Effects.{end_here, stepped, stepped_tables, installed, settled_by}
@@ -21,16 +22,9 @@ overrun_is false e = refl
 
 pub end_here_is : (set : Set) (s : State) (row : Row) (tick : ℕ) (op : Op)
     → end_here set.items set.together (txn_of set row.job.tx.0) row.work (row.used + 1) tick op ≡ end_by set (row_after s row op) tick op
-end_here_is set s row tick (Read item) = overrun_is _ _
-end_here_is set s row tick (Write item value) = overrun_is _ _
-end_here_is set s row tick Compute = overrun_is _ _
 end_here_is set s row tick Commit = refl
 end_here_is set s row tick Quit = refl
-
-pub row_in_range : (rows : List (Option Row)) (n : ℕ) (x : Row) → row_of rows n ≡ Some x → n < length rows
-row_in_range [] n x h = absurd cc
-row_in_range (r ∷ rs) zero x h = omega arith
-row_in_range (r ∷ rs) (suc n) x h = let k = row_in_range rs n x h in omega arith
+end_here_is set s row tick other = overrun_is _ _
 
 -- the tables after the job's row went on
 abbrev went_on : Set → State → Row → Op → TablesSeen

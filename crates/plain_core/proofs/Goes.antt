@@ -8,7 +8,7 @@ use Rattle.std.specs.List.{list_any}
 use Rattle.rt_base.specs.declared.ids.ItemId.{ItemId}
 use Rattle.rt_base.specs.declared.ids.JobId.{JobId}
 use Rattle.rt_base.specs.declared.operation.Op.{Op}
-use Rattle.rt_base.specs.declared.operation.Op.TheVariants.{Read, Write, Compute, Commit, Quit}
+use Rattle.rt_base.specs.declared.operation.Op.TheVariants.{Read, Write}
 use Rattle.rt_base.specs.declared.operation.End.{End}
 use Rattle.rt_base.specs.declared.operation.Outcome.{Outcome}
 use Rattle.txn_set.specs.Set.{Set, IsCompiled, txn_of, no_txn, names_item}
@@ -118,9 +118,7 @@ low_of set row (Read item) ok lt h =
 low_of set row (Write item value) ok lt h =
     let p = and_parts (names_item (txn_of set row.job.tx.0).writes item.0) _ h in
     omega (arith, any_low (txn_of set row.job.tx.0).writes item.0 (length set.items) (λ k d l. (ok.writes row.job.tx.0 no_txn lt).in_range k d l) p.0, ok.few_items)
-low_of set row Compute ok lt h = tt
-low_of set row Commit ok lt h = tt
-low_of set row Quit ok lt h = tt
+low_of set row other ok lt h = tt
 
 pub go_low : (core now : PlainIs) (job : JobId) (op : Op) (outcome : Outcome) (over : Option End) → core ≡ now → job.tx.0 < length now.set.txns
     → ((story : List Entry) → Stands now story → step_reply now.set (state_of now.set story) (length now.journal.kept) now.journal.room job op ≡ reply.Done outcome over) → IsCore core → IsLow op

@@ -4,7 +4,7 @@ use Rattle.txn_set.specs.Set.{Set, IsCompiled}
 use Rattle.step_journal.specs.State.{opening}
 use Rattle.plain_core.specs.TablesSeen.{TablesSeen, tables_of}
 use Rattle.step_journal.specs.Journal.{JournalSeen}
-use Rattle.plain_core.specs.Stands.{Stands, IsCore}
+use Rattle.plain_core.specs.Stands.{Stands}
 
 pub opens : (set : Set) (journal : JournalSeen) (tables : TablesSeen) (room : ℕ) → IsCompiled set → room ≤ 2 ^ 20 → journal ≡ record { room = room; first = 0; kept = [] } → tables ≡ tables_of set (opening set)
     → Stands (record { set = set; journal = journal; tables = tables }) []
@@ -13,7 +13,3 @@ opens set journal tables room ok small ej et =
       is_story = record { compiled = ok; legal = tt; rest = refl; counted = refl; fits = omega arith; small = small };
       is_state = et;
     })
-
-pub opens_core : (set : Set) (journal : JournalSeen) (tables : TablesSeen) (room : ℕ) → IsCompiled set → room ≤ 2 ^ 20 → journal ≡ record { room = room; first = 0; kept = [] } → tables ≡ tables_of set (opening set)
-    → IsCore (record { set = set; journal = journal; tables = tables })
-opens_core set journal tables room ok small ej et = record { story = []; stands = opens set journal tables room ok small ej et }

@@ -4,7 +4,7 @@ use Rattle.std.specs.Prelude.{nat_le, is_some}
 use Rattle.std.specs.Option.{option_map, option_and_then}
 use Rattle.rt_base.specs.declared.ids.JobId.{JobId}
 use Rattle.rt_base.specs.declared.operation.Op.{Op}
-use Rattle.rt_base.specs.declared.operation.Op.TheVariants.{Read, Write, Compute, Commit, Quit}
+use Rattle.rt_base.specs.declared.operation.Op.TheVariants.{Read}
 use Rattle.step_journal.specs.declared.entry.Entry.{Entry}
 use Rattle.txn_set.specs.Set.{Set, txn_of}
 use Rattle.item_model.specs.Work.{outcome_of}
@@ -39,10 +39,7 @@ use Rattle.plain_core.proofs.Tallies.{tally_says}
 
 checked_is : (set : Set) (row : Row) (op : Op) (rest : StepReply) → checked_by set (txn_of set row.job.tx.0) row.used row.work op rest ≡ checked set row op rest
 checked_is set row (Read item) rest = refl
-checked_is set row (Write item value) rest = refl
-checked_is set row Compute rest = refl
-checked_is set row Commit rest = refl
-checked_is set row Quit rest = refl
+checked_is set row other rest = refl
 
 -- the granted step
 

@@ -28,11 +28,9 @@ abbrev pub overrun_at : TxnDecl → ℕ → Option End
 overrun_at txn used = if used == txn.steps then Some end.Overrun else None
 
 abbrev pub end_here : List ItemDecl → List TogetherDecl → TxnDecl → Work → (used tick : ℕ) → Op → Option End
-end_here decls together txn work used tick (Read item) = overrun_at txn used
-end_here decls together txn work used tick (Write item value) = overrun_at txn used
-end_here decls together txn work used tick Compute = overrun_at txn used
 end_here decls together txn work used tick Commit = Some (verdict decls together txn.reads work tick)
 end_here decls together txn work used tick Quit = Some end.Quit
+end_here decls together txn work used tick other = overrun_at txn used
 
 -- a row after a step
 abbrev pub stepped : List Stored → Op → Option Row → Option Row

@@ -52,10 +52,6 @@ pub fn install(items: &mut Items, decls: &[ItemDecl], work: &Work, release: Tick
 {
     match end {
         End::Committed => install_writes(items, decls, work.reads(), release, work.writes()),
-        End::Overrun => {}
-        End::Late => {}
-        End::Stale { .. } => {}
-        End::Apart { .. } => {}
-        End::Quit => {}
+        _ => {}
     }
 }

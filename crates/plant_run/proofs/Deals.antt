@@ -23,9 +23,6 @@ total_set f [] i y d lt = absurd (omega arith)
 total_set f (x ∷ xs) zero y d lt = omega arith
 total_set f (x ∷ xs) (suc i) y d lt = omega (arith, total_set f xs i y d (omega arith))
 
-pub all_here : {X : Type 0} (P : X → Type 0) (xs : List X) (i : ℕ) (x : X) → i < length xs → x ≡ slice_index_or xs i x → All P xs → P x
-all_here P xs i x lt is all = subst P (sym is) (all i x lt)
-
 abbrev pub Row : Type 0 → Type 0 → Type 0
 Row B Y = Vec (Member B Y) Global
 

@@ -6,6 +6,7 @@ use Rattle.rt_base.specs.declared.name.Names.{Names}
 use Rattle.rt_base.specs.declared.release.PlanRefused.{PlanRefused}
 use Rattle.rt_base.specs.declared.release.PlanRefused.TheVariants as refused
 use Rattle.scenario_forms.specs.declared.error.Place.TheVariants as places
+use Rattle.scenario_forms.specs.declared.error.TxnMember.{TxnMember}
 use Rattle.scenario_forms.specs.declared.error.TxnMember.TheVariants as of_txns
 use Rattle.scenario_reader.specs.declared.error.ScenarioError.{ScenarioError}
 use Rattle.scenario_reader.specs.declared.error.ScenarioError.TheVariants as scenario
@@ -15,7 +16,7 @@ use Rattle.txn_compiler.specs.declared.error.CompileError.{CompileError}
 use Rattle.txn_compiler.specs.declared.error.CompileError.TheVariants as compiling
 use Rattle.set_admission.specs.declared.error.AdmitError.{AdmitError}
 use Rattle.set_admission.specs.declared.error.AdmitError.TheVariants as admitting
-use Rattle.refusal_lines.specs.Places.{place_text}
+use Rattle.refusal_lines.specs.Places.{txn_member, place_text}
 
 -- a blank, and then a word or a number
 abbrev pub word : List ℕ → List ℕ
@@ -51,13 +52,17 @@ scenario_cause names (scenario.RoomTooLarge needed) = codes "RoomTooLarge" ++ nu
 scenario_cause names (scenario.EagerTooFar needed) = codes "EagerTooFar" ++ number needed
 scenario_cause names scenario.OutOfMemory = []
 
+-- the member of a transaction that holds one of its numbers
+abbrev pub member_of : Which → TxnMember
+member_of which.Prio = of_txns.Priority
+member_of which.Steps = of_txns.Steps
+member_of which.Period = of_txns.Period
+member_of which.Deadline = of_txns.Deadline
+member_of which.Offset = of_txns.Offset
+member_of which.Quiet = of_txns.Quiet
+
 abbrev pub which_text : Which → List ℕ
-which_text which.Prio = codes "priority"
-which_text which.Steps = codes "steps"
-which_text which.Period = codes "period"
-which_text which.Deadline = codes "deadline"
-which_text which.Offset = codes "offset"
-which_text which.Quiet = codes "quiet"
+which_text field = txn_member (member_of field)
 
 abbrev pub compile_cause : Names → CompileError → List ℕ
 compile_cause names (compiling.TooManyItems count) = codes "TooManyItems" ++ number count

@@ -1,9 +1,9 @@
 //! Causes.
 ghost use Rattle.std.specs.Prelude.{◌≡◌, ◌++◌, codes, OnOk};
-ghost use Rattle.refusal_lines.specs.Causes.{release_cause, scenario_cause, which_text, compile_cause, admit_cause, word, number, item, txn};
+ghost use Rattle.refusal_lines.specs.Causes.{member_of as member_of_number, release_cause, scenario_cause, which_text, compile_cause, admit_cause, word, number, item, txn};
 ghost use Rattle.refusal_lines.specs.Places.{place_text};
 
-use crate::places::put_place;
+use crate::places::{put_place, txn_member};
 use crate::words::{
     put, put_item, put_number, put_of_item, put_of_txn, put_of_txn_and_number, put_txn, put_word,
 };
@@ -98,17 +98,24 @@ fn script_of(tx: TxId) -> Place
     }
 }
 
+/// The member of a transaction that holds one of its numbers.
+pub fn member_of(which: Which) -> TxnMember
+    ensures { result ≡ member_of_number which }
+{
+    match which {
+        Which::Prio => TxnMember::Priority,
+        Which::Steps => TxnMember::Steps,
+        Which::Period => TxnMember::Period,
+        Which::Deadline => TxnMember::Deadline,
+        Which::Offset => TxnMember::Offset,
+        Which::Quiet => TxnMember::Quiet,
+    }
+}
+
 fn which(which: Which) -> &'static [u8]
     ensures { result.now ≡ which_text which }
 {
-    match which {
-        Which::Prio => b"priority",
-        Which::Steps => b"steps",
-        Which::Period => b"period",
-        Which::Deadline => b"deadline",
-        Which::Offset => b"offset",
-        Which::Quiet => b"quiet",
-    }
+    txn_member(member_of(which))
 }
 
 fn put_two_writers(

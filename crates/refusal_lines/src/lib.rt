@@ -8,7 +8,7 @@ mod places;
 mod rates;
 mod words;
 
-pub use causes::{put_admit_cause, put_compile_cause, put_scenario_cause};
+pub use causes::{member_of, put_admit_cause, put_compile_cause, put_scenario_cause};
 pub use margin::margin_text;
 pub use places::put_place;
 pub use rates::{put_rate_cause, rates_text};

@@ -17,7 +17,8 @@ fn item_member(member: ItemMember) -> &'static [u8]
     }
 }
 
-fn txn_member(member: TxnMember) -> &'static [u8]
+/// The name of a transaction's member.
+pub fn txn_member(member: TxnMember) -> &'static [u8]
     ensures { result.now ≡ txn_member_text member }
 {
     match member {

@@ -2,7 +2,7 @@ mod Firsts
 mod Keeps
 mod Keys
 mod Leasts
-mod Moves
+pub mod Moves
 mod Releases
 mod Splits
 mod Ticks

@@ -6,11 +6,8 @@ use Rattle.std.proofs.lemmas.List.Sums.{sum_by-cons}
 use Rattle.std.specs.List.{remove, sum_by}
 use Rattle.std.specs.List.Sorted.{IsPermutation}
 use Rattle.rt_base.specs.declared.release.Release.{Release}
+use Rattle.rt_base.proofs.Ranks.{one_if}
 use Rattle.release_calendar.specs.Agenda.{same_release, without}
-
-abbrev one_if : Bool → ℕ
-one_if true = 1
-one_if false = 0
 
 -- an equality by a test
 record IsSame {X : Type 0} (same : X → X → Bool) : Type 0 where

@@ -14,18 +14,9 @@ all_left : {X : Type 0} (P : X → Type 0) (xs ys : List X) → All P (xs ++ ys)
 all_left P [] ys a = All-nil P
 all_left P (x ∷ xs) ys a = All-cons P x xs (All-head P x (xs ++ ys) a) (all_left P xs ys (All-tail P x (xs ++ ys) a))
 
-all_right : {X : Type 0} (P : X → Type 0) (xs ys : List X) → All P (xs ++ ys) → All P ys
-all_right P [] ys a = a
-all_right P (x ∷ xs) ys a = all_right P xs ys (All-tail P x (xs ++ ys) a)
-
 pub all_flat : {X : Type 0} (P : X → Type 0) (f : List Planned → List X) (queues : List (List Planned)) → ((k : ℕ) → k < length queues → All P (f (get_or queues k []))) → All P (flat_map f queues)
 all_flat P f [] h = All-nil P
 all_flat P f (q ∷ rest) h = All-append P (f q) (flat_map f rest) (h 0 (omega arith)) (all_flat P f rest (λ k lt. h (suc k) (omega (arith, lt))))
-
-pub flat_all : {X : Type 0} (P : X → Type 0) (f : List Planned → List X) (queues : List (List Planned)) (k : ℕ) → k < length queues → All P (flat_map f queues) → All P (f (get_or queues k []))
-flat_all P f [] k lt a = absurd (omega arith)
-flat_all P f (q ∷ rest) zero lt a = all_left P (f q) (flat_map f rest) a
-flat_all P f (q ∷ rest) (suc k) lt a = flat_all P f rest k (omega arith) (all_right P (f q) (flat_map f rest) a)
 
 past : {X : Type 0} (xs ys zs : List X) → IsPermutation (xs ++ (ys ++ zs)) (ys ++ (xs ++ zs))
 past xs ys zs = rw (← append_assoc xs ys zs, ← append_assoc ys xs zs) (IsPermutation-append_left zs (xs ++ ys) (ys ++ xs) (IsPermutation-append_comm xs ys))

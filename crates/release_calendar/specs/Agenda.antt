@@ -6,7 +6,7 @@ use Rattle.rt_base.specs.declared.ids.JobId.{JobId}
 use Rattle.rt_base.specs.declared.release.Plans.{Plans}
 use Rattle.rt_base.specs.declared.release.Release.{Release}
 use Rattle.rt_base.specs.declared.release.PlanRefused.{PlanRefused}
-use Rattle.rt_base.specs.declared.release.PlanRefused.TheVariants.{Past, TooSoon, TooFar, CalendarFull, NoSerial, Full}
+use Rattle.rt_base.specs.declared.release.PlanRefused.TheVariants.{TooFar, CalendarFull, NoSerial}
 use Rattle.rt_base.specs.Planning.{calendar_refusal}
 use Rattle.release_calendar.specs.declared.planned.Planned.{Planned}
 
@@ -48,12 +48,10 @@ next_for c tx now = max now (earliest c tx)
 
 -- whether the cause may be that of a plan at that tick
 abbrev pub comes_later : PlanRefused → Bool
-comes_later (Past now) = false
-comes_later (TooSoon earliest) = false
 comes_later (TooFar limit) = true
 comes_later (CalendarFull room) = true
 comes_later (NoSerial planned) = true
-comes_later (Full room) = false
+comes_later other = false
 
 abbrev pub next_job : Agenda → ℕ → JobId
 next_job c tx = record { tx = record { 0 = tx }; serial = (plans_of c tx).number }

@@ -1,7 +1,7 @@
 -- What is told of a legal history is within its bounds.
 use Rattle.std.proofs.Common.{◌≡◌, ◌≢◌, ◌⊎◌, inl, inr, ℕ, ◌+◌, ◌-◌, ◌≤◌, Bool, true, false, cond, List, [], ◌∷◌, map, length, Option, None, Some, refl, sym, ap, subst, ◌∙◌, arith}
 use Rattle.std.specs.Prelude.{◌==◌, IsTrue}
-use Rattle.std.proofs.lemmas.Bool.{and_from, eq-eqb, eqb-true}
+use Rattle.std.proofs.lemmas.Bool.{eqb-true}
 use Rattle.std.specs.Option.{option_map}
 use Rattle.rt_base.specs.declared.ids.JobId.{JobId}
 use Rattle.rt_base.specs.declared.operation.End.{End}
@@ -18,7 +18,7 @@ use Rattle.step_journal.specs.LockRule.{in_falling_priority}
 use Rattle.step_journal.specs.History.{IsLegal, state_of}
 use Rattle.step_journal.specs.Timing.{delayers, outside_read, read_in, outside_reads_of}
 use Rattle.law_histories.proofs.Members.{In, filter_in}
-use Rattle.law_histories.proofs.Holding.{append_in}
+use Rattle.law_histories.proofs.Holding.{append_in, map_in}
 use Rattle.law_histories.proofs.Lists.{all_at, filter_map_in, in_filter_map}
 use Rattle.law_histories.proofs.Invariant.{same_job_is}
 use Rattle.law_histories.specs.Protocol.{OneDelay}
@@ -29,6 +29,7 @@ use Rattle.set_admission.specs.Bounds.{response_of, age_of}
 use Rattle.set_admission.specs.Laws.{KeepsBounds as KeepsBoundsOfSet, AdmittedUnlessRefused, AdmittedKeepsBounds}
 use Rattle.job_rows.specs.declared.row.JobRow.{JobRow}
 use Rattle.job_rows.specs.Rows.{ended_row, pending_row, job_rows}
+use Rattle.board.proofs.Overs.{same_self as same_itself}
 use Rattle.report_export.specs.Worsts.{at_least, worst, jobs_of, response_in, responses, delays, commit_tick, commit_of, read_age, age_in, ages}
 use Rattle.report_export.specs.Laws.{IsWithinLimits, IsWithinBounds, WithinBounds}
 
@@ -50,11 +51,6 @@ worst_within : (b : ℕ) (xs : List ℕ) (found : ℕ) → ((x : ℕ) → In x x
 worst_within b xs found h e = subst (AtMost b) e (all_within b xs h)
 
 -- ---- the rows of a history
-
-map_in : {A B : Type 0} (f : A → B) (y : B) (xs : List A) → In y (map f xs) → (x : A) × In x xs × (y ≡ f x)
-map_in f y [] i = absurd i
-map_in f y (x ∷ xs) (inl e) = (x, inl refl, e)
-map_in f y (x ∷ xs) (inr i) = let r = map_in f y xs i in (r.0, inr r.1, r.2)
 
 -- a row is that of an ended job or of a pending one
 abbrev IsRow : Set → List Entry → JobRow → Type 0
@@ -168,9 +164,6 @@ pub record IsAge (set : Set) (entries : List Entry) (item x : ℕ) : Type 0 wher
   pub of_item : read.item.0 ≡ item
   pub at_end : Committed set entries job tick
   pub age : x ≡ tick - read.stamp
-
-same_itself : (job : JobId) → same_job job job ≡ true
-same_itself job = and_from _ _ (eq-eqb job.tx.0 job.tx.0 refl) (eq-eqb job.serial job.serial refl)
 
 tick_age : (set : Set) (entries : List Entry) (item x : ℕ) (job : JobId) (r : OutsideRead) (b : Bool) → (r.item.0 == item) ≡ b
     → In r (outside_reads_of entries job) → (o : Option ℕ) → commit_of (job_rows set entries) job ≡ o

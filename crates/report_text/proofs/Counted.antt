@@ -6,7 +6,7 @@ use Rattle.report_text.specs.declared.read.HeadError.{HeadError}
 use Rattle.report_text.specs.declared.read.HeadError.TheVariants.{BadLine}
 use Rattle.report_text.specs.Head.{Decls, nothing, Told, bad, more, mode, line_of, ended, head, lines_of, version_of, after_version, first_of, head_of}
 
-abbrev Text : Type 0
+abbrev pub Text : Type 0
 Text = List (List ℕ) × List ℕ
 
 longer_count : (b : ℕ) (ps : List (List ℕ)) (last : List ℕ) → length (longer b ps last).0 ≡ length ps
@@ -27,10 +27,10 @@ few_lines (b ∷ bs) = one_byte b (pieces 10 bs) (nat_eq b 10) (length bs) (few_
 abbrev Answer : Type 0
 Answer = Result Head HeadError
 
-err_ok : (e : HeadError) (h : Head) → Err e ≡ Ok h → ⊥
+pub err_ok : (e : HeadError) (h : Head) → Err e ≡ Ok h → ⊥
 err_ok e h same = absurd cc
 
-ended_none : (n : ℕ) (last : List ℕ) (out : Head) → ended n last ≡ Ok out → ⊥
+pub ended_none : (n : ℕ) (last : List ℕ) (out : Head) → ended n last ≡ Ok out → ⊥
 ended_none n [] out e = err_ok _ out e
 ended_none n (b ∷ bs) out e = err_ok _ out e
 

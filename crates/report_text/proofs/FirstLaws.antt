@@ -114,7 +114,7 @@ form_has second names line e is =
     let allowed = bind_some (where_true (may_be second x.0)) _ e x.2 in
     subst (HasLine names) (some_is _ e allowed.2) (entry_takes names line x.0 x.1).0
 
-abbrev front_by : List Entry → Option Entry → List Entry
+abbrev pub front_by : List Entry → Option Entry → List Entry
 front_by rest o = elim o [ None ↦ [] | Some a ↦ a ∷ rest ]
 
 all_more : (P : Entry → Type 0) (e : Entry) (es : List Entry) → P e → All P es → All P (e ∷ es)

@@ -124,8 +124,7 @@ found_good items txns two line f e =
 is_new : (d : Decls) (f : Found) → IsGood d.names d.txn_names f → IsNew d f
 is_new d (found.Item name decl) good = good.0
 is_new d (found.Txn name decl) good = good.0.0
-is_new d (found.Set set) good = tt
-is_new d (found.Mode admitted) good = tt
+is_new d other good = tt
 
 pub found_new : (d : Decls) (two : Bool) (line : List ℕ) (f : Found) → Some f ≡ found_of d.names d.txn_names two line
     → IsNew d f
@@ -221,17 +220,16 @@ with_set d n set h new =
       lines = omega (arith, count, h.lines);
     }
 
-abbrev item_told : Decls → List ℕ → ItemDecl → Part → Told
+abbrev pub item_told : Decls → List ℕ → ItemDecl → Part → Told
 item_told d name decl p =
     elim p [ part.Items ↦ more (record d { names = d.names ++ name ∷ []; items = d.items ++ decl ∷ [] }) | part.Txns ↦ bad | part.Sets ↦ bad ]
 
 item_is_told : (d : Decls) (n : ℕ) (name : List ℕ) (decl : ItemDecl) (p : Part) → IsDeclared d n
     → IsFresh d.names name → IsTold n (item_told d name decl p)
 item_is_told d n name decl part.Items h new = with_item d n name decl h new
-item_is_told d n name decl part.Txns h new = tt
-item_is_told d n name decl part.Sets h new = tt
+item_is_told d n name decl other h new = tt
 
-abbrev txn_told : Decls → List ℕ → TxnDecl → Part → Told
+abbrev pub txn_told : Decls → List ℕ → TxnDecl → Part → Told
 txn_told d name decl p =
     elim p [ part.Items ↦ more (record d { part = part.Txns; txn_names = d.txn_names ++ name ∷ []; txns = d.txns ++ decl ∷ [] }) | part.Txns ↦ more (record d { txn_names = d.txn_names ++ name ∷ []; txns = d.txns ++ decl ∷ [] }) | part.Sets ↦ bad ]
 

@@ -69,7 +69,7 @@ list_good items w ids e = listed_good items ids (bytes_eq w (codes "-")) (all_pi
 
 -- ---- names
 
-at_end : {A : Type 0} (xs : List A) (x d : A) → get_or (xs ++ x ∷ []) (length xs) d ≡ x
+pub at_end : {A : Type 0} (xs : List A) (x d : A) → get_or (xs ++ x ∷ []) (length xs) d ≡ x
 at_end [] x d = refl
 at_end (y ∷ xs) x d = at_end xs x d
 

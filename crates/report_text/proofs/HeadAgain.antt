@@ -4,7 +4,6 @@ use Rattle.std.proofs.Math.Seq.{take-suc, take-length}
 use Rattle.std.proofs.Math.ListN.{drop_of_length-le}
 use Rattle.std.specs.Prelude.{not, ◌==◌}
 use Rattle.std.specs.Fmt.{signed_decimal}
-use Rattle.std.specs.Int.{IsInRange}
 use Rattle.std.specs.List.{All, list_any}
 use Rattle.std.proofs.lemmas.List.{get_or-take, length-take-le}
 use Rattle.std.proofs.lemmas.Bool.{eqb-true}
@@ -24,6 +23,8 @@ use Rattle.journal_text.proofs.CutLaws.{cut_again, lacks_append, lacks_test}
 use Rattle.journal_text.proofs.NumberLaws.{decimal_lacks}
 use Rattle.journal_text.proofs.IdLaws.{index_takes, name_lacks}
 use Rattle.journal_text.specs.Lines.{◌⊕◌}
+use Rattle.item_model.proofs.Noting.{or_false as either_false}
+use Rattle.journal_text.proofs.NextLaws.{no_digit}
 use Rattle.report_text.specs.declared.found.Found.{Found}
 use Rattle.report_text.specs.declared.found.Found.TheVariants as found
 use Rattle.report_text.specs.declared.found.Part.{Part}
@@ -58,10 +59,6 @@ told_is second d f x is = ap (told_by d) is
 neither : (a b : Bool) → (not a || b) ≡ false → (a ≡ true) × (b ≡ false)
 neither true b e = (refl, e)
 neither false b e = absurd cc
-
-either_false : (a b : Bool) → (a || b) ≡ false → (a ≡ false) × (b ≡ false)
-either_false false b e = (refl, e)
-either_false true b e = absurd cc
 
 not_not : (a : Bool) → not a ≡ false → a ≡ true
 not_not true e = refl
@@ -108,9 +105,6 @@ rows_again second f body d base xs none tail line lacks told (suc k) i e =
     ∙ rows_again second f body d base xs none tail line lacks told k (i + 1) (omega (arith, e))
 
 -- ---- bytes that a line lacks
-
-no_digit : ¬ IsInRange 48 57 10
-no_digit h = omega (arith, h.0, h.1)
 
 pub field_lacks : (w : List ℕ) → Lacks 10 w → Lacks 10 (field w)
 field_lacks w a = lacks_append 10 (codes " ") w (lacks_test 10 (codes " ") refl) a

@@ -194,9 +194,6 @@ unfolding mode_line_of mode_of
 mode_again true = rw (next_last mode_of (codes "admitted") true refl (lacks_test 32 (codes "admitted") refl)) refl
 mode_again false = rw (next_last mode_of (codes "trial") false refl (lacks_test 32 (codes "trial") refl)) refl
 
-ends_mode : (admitted : Bool) → Ends (field (mode_word admitted))
-ends_mode admitted = refl
-
 pub mode_found : (items txns : Names_) (second admitted : Bool)
     → found_of items txns second (codes "mode" ++ field (mode_word admitted)) ≡ Some (found.Mode admitted)
 unfolding found_after

@@ -9,8 +9,9 @@ use Rattle.rt_base.specs.declared.name.Names.{Names}
 use Rattle.rt_base.specs.Names.{is_letter, is_name, is_name_byte, AreNames}
 use Rattle.journal_text.specs.Cuts.{Lacks}
 use Rattle.journal_text.specs.Ids.{index_of}
-use Rattle.journal_text.proofs.CutLaws.{both_true, lacks_append}
+use Rattle.journal_text.proofs.CutLaws.{lacks_append}
 use Rattle.journal_text.proofs.IdLaws.{index_again, name_lacks}
+use Rattle.rt_base.proofs.Padding.{both as both_true}
 use Rattle.report_text.specs.Pieces.{pieces, all_pieces}
 use Rattle.report_text.specs.Head.{rising, list_of}
 use Rattle.report_text.proofs.PieceLaws.{pieces_cut, pieces_last}

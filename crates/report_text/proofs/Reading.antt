@@ -35,7 +35,7 @@ pub more_left : (n : ℕ) (bs : List ℕ) → (bs ≡ [] → ⊥) → Some (BadL
 more_left n [] some = absurd (some refl)
 more_left n (b ∷ bs) some = byte_over n b (pieces 10 bs) (nat_eq b 10)
 
-abbrev closed : ℕ → Bool → List (List ℕ) → List ℕ → Option DocumentError
+abbrev pub closed : ℕ → Bool → List (List ℕ) → List ℕ → Option DocumentError
 closed n is lines last = elim is [ true ↦ over_at (n + 1) lines last | false ↦ Some (BadLine n) ]
 
 end_line : (n : ℕ) (bs line rest : List ℕ) → Some (line, rest) ≡ cut_at 10 bs
@@ -113,7 +113,7 @@ body_reads head kind n text first r1 jobs r2 e r3 entries o m1 m2 m3 got is =
 
 -- ---- the answer
 
-abbrev Answer : Type 0
+abbrev pub Answer : Type 0
 Answer = Result Document DocumentError
 
 -- an answer that is meant is given
@@ -129,9 +129,8 @@ given_along r a b g e = subst (Reads r) e g
 pub head_refused : (bytes : List ℕ) (error : HeadError) → Gives (Err error) (head_of bytes)
     → Reads (Err (fault_of error)) (document_of bytes)
 unfolding document_of
-head_refused bytes (head.BadLine n) g = ap (after_head (lines_of bytes).0 (lines_of bytes).1) g
-head_refused bytes head.Unfinished g = ap (after_head (lines_of bytes).0 (lines_of bytes).1) g
 head_refused bytes head.OutOfMemory g = tt
+head_refused bytes other g = ap (after_head (lines_of bytes).0 (lines_of bytes).1) g
 
 pub head_read : (bytes : List ℕ) (head : Head) (r : Answer) → Ok head ≡ head_of bytes
     → Reads r (after_head (lines_of bytes).0 (lines_of bytes).1 (Ok head)) → Reads r (document_of bytes)

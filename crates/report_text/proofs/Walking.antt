@@ -24,7 +24,7 @@ all_last bs cut = ap (λ (p : Text). p.1) (last_piece 10 bs (sym cut))
 
 -- ---- the lines of a form
 
-abbrev after_by : {A : Type 0} → List (List ℕ) → List (List ℕ) → Option A → List (List ℕ)
+abbrev pub after_by : {A : Type 0} → List (List ℕ) → List (List ℕ) → Option A → List (List ℕ)
 after_by stay go o = elim o [ None ↦ stay | Some a ↦ go ]
 
 after_some : {A : Type 0} (form : List ℕ → Option A) (line : List ℕ) (lines : List (List ℕ)) (a : A) → form line ≡ Some a
@@ -35,7 +35,7 @@ after_none : {A : Type 0} (form : List ℕ → Option A) (line : List ℕ) (line
     → after form (line ∷ lines) ≡ line ∷ lines
 after_none form line lines e = ap (after_by (line ∷ lines) (after form lines)) e
 
-abbrev front_by : {A : Type 0} → List A → Option A → List A
+abbrev pub front_by : {A : Type 0} → List A → Option A → List A
 front_by rest o = elim o [ None ↦ [] | Some a ↦ a ∷ rest ]
 
 front_some : {A : Type 0} (form : List ℕ → Option A) (line : List ℕ) (lines : List (List ℕ)) (a : A) → form line ≡ Some a

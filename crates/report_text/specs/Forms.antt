@@ -7,7 +7,7 @@ use Rattle.rt_base.specs.declared.ids.JobId.{JobId}
 use Rattle.rt_base.specs.declared.operation.End.{End}
 use Rattle.rt_base.specs.declared.operation.End.TheVariants as end
 use Rattle.step_journal.specs.declared.entry.Entry.{Entry}
-use Rattle.step_journal.specs.declared.entry.Entry.TheVariants.{Planned, Step, Blocked, Idle}
+use Rattle.step_journal.specs.declared.entry.Entry.TheVariants.{Step}
 use Rattle.journal_text.specs.Cuts.{◌>>=◌, word_of, next, word_is, done_of}
 use Rattle.journal_text.specs.Numbers.{unsigned_of, short_of, signed_of}
 use Rattle.journal_text.specs.Ids.{tx_of, item_of, job_of}
@@ -56,22 +56,16 @@ age_form admitted names line = do
 -- ---- the lines of entries; in the first version no job ends by two items apart
 
 abbrev pub may_end : Bool → End → Bool
-may_end second end.Committed = true
-may_end second end.Overrun = true
-may_end second end.Late = true
-may_end second (end.Stale item stamp) = true
 may_end second (end.Apart a b) = second
-may_end second end.Quit = true
+may_end second other = true
 
 abbrev pub may_be_over : Bool → Option End → Bool
 may_be_over second None = true
 may_be_over second (Some e) = may_end second e
 
 abbrev pub may_be : Bool → Entry → Bool
-may_be second (Planned tx tick) = true
 may_be second (Step job op outcome over tick) = may_be_over second over
-may_be second (Blocked job op by ceiling tick) = true
-may_be second (Idle from to) = true
+may_be second other = true
 
 unfoldable pub entry_form : Bool → Names → List ℕ → Option Entry
 entry_form second names line = do

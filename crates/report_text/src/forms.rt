@@ -87,12 +87,8 @@ fn may_end(second: bool, end: End) -> bool
     ensures { result ≡ end_allowed second end }
 {
     match end {
-        End::Committed => true,
-        End::Overrun => true,
-        End::Late => true,
-        End::Stale { item: _, stamp: _ } => true,
         End::Apart { a: _, b: _ } => second,
-        End::Quit => true,
+        _ => true,
     }
 }
 

@@ -1,2 +1,3 @@
 mod Bits
 pub mod Padding
+pub mod Ranks

@@ -1,7 +1,6 @@
 -- When the call for a journal ends Ok.
 use Rattle.std.proofs.Common.{◌≡◌, ◌⊎◌, inl, inr, ℕ, zero, suc, ◌<◌, ◌≤◌, Bool, true, false, List, [], ◌∷◌, length, Option, None, Some, refl, sym, ap, subst, arith}
 use Rattle.std.specs.Prelude.{slice_get}
-use Rattle.std.proofs.lemmas.List.{length-take}
 use Rattle.rt_base.specs.declared.name.Names.{Names}
 use Rattle.step_journal.specs.declared.entry.Entry.{Entry}
 use Rattle.law_histories.specs.Sim.{OneSim}
@@ -14,6 +13,7 @@ use Rattle.durable_journal.specs.Laws.{OpenedAgain}
 use Rattle.durable_journal.specs.declared.log.LogError.TheVariants.{BadRecord, Full}
 use Rattle.scenario_run.specs.Compared.{Begins, IsOtherRecord}
 use Rattle.scenario_run.specs.JournalReplies.{JournalReply, Journaled, Unhurried, HasBad, first_eager}
+use Rattle.scenario_run.proofs.Outs.{fits_in as fits}
 use Rattle.rtdb_command.specs.Answers.{Answers}
 use Rattle.rtdb_command.specs.Journals.{IsAnswerFor, JournalAnswers, HasFront, CanJournal, IsGoodFor}
 use Rattle.rtdb_command.proofs.Telling.{admitted_ok, asked_of_all}
@@ -27,9 +27,6 @@ begins_get (t ∷ there) (x ∷ history) (suc place) h lt = let tail : Begins th
 
 not_other : (there history : List Entry) (number : ℕ) → Begins there history → IsOtherRecord there history number → ⊥
 not_other there history number h o = o.first.other (begins_get there history o.place h o.first.within)
-
-fits : (there history : List Entry) → Begins there history → length there ≤ length history
-fits there history h = omega (arith, length-take (length there) history, ap (λ (l : List Entry). length l) h)
 
 -- so no record of a disk that has the first entries of the run is named
 front_not_bad : OneSim → OpenedAgain → (s : Shown) (file : List ℕ) (number : ℕ) → HasFront s file → HasBad s file number → ⊥

@@ -19,7 +19,7 @@ period_most set tx ok =
     every_or (λ (t : TxnDecl). t.period ≤ 2 ^ 30) set.txns tx no_txn
     (every_all (λ (t : TxnDecl). t.period ≤ 2 ^ 30) set.txns (λ k d lt. (ok.times k d lt).period.1)) (omega arith)
 
-deadline_most : (set : Set) (tx : ℕ) → IsCompiled set → (txn_of set tx).deadline ≤ 2 ^ 30
+pub deadline_most : (set : Set) (tx : ℕ) → IsCompiled set → (txn_of set tx).deadline ≤ 2 ^ 30
 deadline_most set tx ok =
     every_or (λ (t : TxnDecl). t.deadline ≤ 2 ^ 30) set.txns tx no_txn
     (every_all (λ (t : TxnDecl). t.deadline ≤ 2 ^ 30) set.txns (λ k d lt. omega (arith, (ok.times k d lt).deadline.1, (ok.times k d lt).period.1))) (omega arith)

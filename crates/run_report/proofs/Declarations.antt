@@ -1,15 +1,15 @@
 -- The numbers of a document that is read are those of their types.
-use Rattle.std.proofs.Common.{◌≡◌, ℕ, ℤ, ◌+◌, ◌<◌, ◌^◌, Bool, true, false, List, [], ◌∷◌, ◌++◌, drop, Option, Some, None, Result, Ok, Err, decimal, refl, ap, subst, codes, option_map}
+use Rattle.std.proofs.Common.{◌≡◌, ℕ, ℤ, ◌+◌, ◌<◌, ◌^◌, Bool, true, false, List, [], ◌∷◌, drop, Option, Some, None, Result, Ok, Err, decimal, refl, ap, subst, codes, option_map}
 use Rattle.std.specs.Fmt.{signed_decimal}
 use Rattle.rt_base.specs.declared.ids.TogetherDecl.{TogetherDecl}
 use Rattle.rt_base.specs.declared.name.Names.{Names}
 use Rattle.rt_base.specs.declared.operation.Op.{Op}
-use Rattle.rt_base.specs.declared.operation.Op.TheVariants.{Read, Write, Compute, Commit, Quit}
+use Rattle.rt_base.specs.declared.operation.Op.TheVariants.{Write}
 use Rattle.item_model.specs.declared.decl.ItemKind.TheVariants.{Sensor, Derived, State}
 use Rattle.item_model.specs.declared.decl.ItemDecl.{ItemDecl}
 use Rattle.txn_set.specs.declared.decl.TxnDecl.{TxnDecl}
 use Rattle.step_journal.specs.declared.entry.Entry.{Entry}
-use Rattle.step_journal.specs.declared.entry.Entry.TheVariants.{Planned, Step, Blocked, Idle}
+use Rattle.step_journal.specs.declared.entry.Entry.TheVariants.{Step, Blocked}
 use Rattle.journal_text.specs.Cuts.{◌>>=◌, word_of, field_of, next, word_is, done_of}
 use Rattle.journal_text.specs.Numbers.{unsigned_of, signed_of, IsI64}
 use Rattle.journal_text.proofs.CutLaws.{Takes, some_is, none_some, bind_some, take_step, given_takes}
@@ -26,7 +26,7 @@ use Rattle.report_text.specs.declared.read.Head.{Head}
 use Rattle.report_text.specs.declared.read.HeadError.{HeadError}
 use Rattle.report_text.specs.declared.read.HeadError.TheVariants.{BadLine}
 use Rattle.report_text.specs.Pieces.{pieces}
-use Rattle.report_text.specs.Head.{fresh_of, timed_of, state_of, decl_of, item_of, list_of, numbers_of, worded, quiet_of, txn_of, set_of, mode_line_of, found_after, found_of, Decls, nothing, Told, bad, more, mode, told, told_by, line_of, ended, head, lines_of, version_of, after_version, first_of, head_of}
+use Rattle.report_text.specs.Head.{fresh_of, timed_of, state_of, decl_of, item_of, list_of, numbers_of, worded, quiet_of, txn_of, set_of, mode_line_of, found_after, found_of, Decls, nothing, Told, bad, more, mode, told, told_by, line_of, head, lines_of, version_of, after_version, first_of, head_of}
 use Rattle.report_text.specs.IsHead.{set_of as declared_set}
 use Rattle.report_text.specs.Laws.{IsItemDecl}
 use Rattle.report_text.specs.Forms.{where_true, may_be, entry_form}
@@ -34,6 +34,9 @@ use Rattle.report_text.specs.declared.forms.Kind.{Kind}
 use Rattle.report_text.specs.declared.document.Document.{Document}
 use Rattle.report_text.specs.declared.document.DocumentError.{DocumentError}
 use Rattle.report_text.specs.Document.{lines_of as text_lines, front, from_entries, after_parts, end_at, number_in, kind_of, document, unless, body_of, after_head, document_of}
+use Rattle.report_text.proofs.GoodHead.{item_told, txn_told}
+use Rattle.report_text.proofs.Counted.{err_ok, ended_none}
+use Rattle.report_text.proofs.FirstLaws.{front_by}
 use Rattle.run_report.specs.Types.{HasValue, EntryHasValue, HasTypes}
 use Rattle.run_report.proofs.Every.{Every, every_append, all_every}
 
@@ -156,25 +159,15 @@ ToldFits bad = Unit {0}
 ToldFits (more d) = DeclsFit d
 ToldFits (mode d admitted) = DeclsFit d
 
-abbrev item_told : Decls → List ℕ → ItemDecl → Part → Told
-item_told d name decl p =
-    elim p [ part.Items ↦ more (record d { names = d.names ++ name ∷ []; items = d.items ++ decl ∷ [] }) | part.Txns ↦ bad | part.Sets ↦ bad ]
-
 item_told_fits : (d : Decls) (name : List ℕ) (decl : ItemDecl) (p : Part) → DeclsFit d → IsItemDecl decl
     → ToldFits (item_told d name decl p)
 item_told_fits d name decl part.Items h is =
     record { items = every_append IsItemDecl d.items (decl ∷ []) h.items (is, tt); sets = h.sets }
-item_told_fits d name decl part.Txns h is = tt
-item_told_fits d name decl part.Sets h is = tt
-
-abbrev txn_told : Decls → List ℕ → TxnDecl → Part → Told
-txn_told d name decl p =
-    elim p [ part.Items ↦ more (record d { part = part.Txns; txn_names = d.txn_names ++ name ∷ []; txns = d.txns ++ decl ∷ [] }) | part.Txns ↦ more (record d { txn_names = d.txn_names ++ name ∷ []; txns = d.txns ++ decl ∷ [] }) | part.Sets ↦ bad ]
+item_told_fits d name decl other h is = tt
 
 txn_told_fits : (d : Decls) (name : List ℕ) (decl : TxnDecl) (p : Part) → DeclsFit d → ToldFits (txn_told d name decl p)
-txn_told_fits d name decl part.Items h = record { items = h.items; sets = h.sets }
-txn_told_fits d name decl part.Txns h = record { items = h.items; sets = h.sets }
 txn_told_fits d name decl part.Sets h = tt
+txn_told_fits d name decl other h = record { items = h.items; sets = h.sets }
 
 told_fits : (d : Decls) (f : Found) → DeclsFit d → FoundFits f → ToldFits (told d f)
 told_fits d (found.Item name decl) h is = item_told_fits d name decl d.part h is
@@ -191,13 +184,6 @@ line_fits : (two : Bool) (d : Decls) (line : List ℕ) → DeclsFit d → ToldFi
 unfolding line_of
 line_fits two d line h =
     by_fits d (found_of d.names d.txn_names two line) h (λ f e. found_fits d.names d.txn_names two line f e)
-
-err_ok : (e : HeadError) (h : Head) → Err e ≡ Ok h → ⊥
-err_ok e h same = absurd cc
-
-ended_none : (n : ℕ) (last : List ℕ) (out : Head) → ended n last ≡ Ok out → ⊥
-ended_none n [] out e = err_ok _ out e
-ended_none n (b ∷ bs) out e = err_ok _ out e
 
 abbrev answer : Bool → ℕ → Told → List (List ℕ) → List ℕ → Result Head HeadError
 answer two n t lines last =
@@ -234,17 +220,13 @@ head_fits bytes out e = from_first (pieces 10 bytes).0 (pieces 10 bytes).1 out e
 -- ---- entries
 
 op_value : (names : Names) (op : Op) → IsOp names op → HasValue op
-op_value names (Read item) is = tt
 op_value names (Write item value) is = is.1
-op_value names Compute is = tt
-op_value names Commit is = tt
-op_value names Quit is = tt
+op_value names other is = tt
 
 pub line_value : (names : Names) (e : Entry) → HasLine names e → EntryHasValue e
-line_value names (Planned tx tick) h = tt
 line_value names (Step job op outcome over tick) h = op_value names op h.2
 line_value names (Blocked job op by ceiling tick) h = op_value names op h.2
-line_value names (Idle from to) h = tt
+line_value names other h = tt
 
 entry_value : (second : Bool) (names : Names) (line : List ℕ) (e : Entry) → entry_form second names line ≡ Some e
     → EntryHasValue e
@@ -253,9 +235,6 @@ entry_value second names line e h =
     let x = bind_some (entry_of names line) _ e h in
     let allowed = bind_some (where_true (may_be second x.0)) _ e x.2 in
     subst EntryHasValue (some_is _ e allowed.2) (line_value names x.0 (entry_takes names line x.0 x.1).0)
-
-abbrev front_by : List Entry → Option Entry → List Entry
-front_by rest o = elim o [ None ↦ [] | Some a ↦ a ∷ rest ]
 
 front_value : (rest : List Entry) (o : Option Entry) → ((e : Entry) → o ≡ Some e → EntryHasValue e)
     → Every EntryHasValue rest → Every EntryHasValue (front_by rest o)

@@ -12,7 +12,8 @@ use Rattle.report_text.proofs.RowLaws.{no_item}
 use Rattle.report_text.proofs.LineAgain.{set_rest, mode_word}
 use Rattle.report_text.proofs.HeadAgain.{item_body, item_ends, item_lacks, txn_body, txn_ends, txn_lacks, set_body, set_ends, no_set, field_lacks, number_lacks, named_list_lacks, mode_ends, mode_lacks, version}
 use Rattle.report_text.specs.Document.{lines_of, is_second as is_second_text}
-use Rattle.run_report.proofs.Lines.{Text, IsLine, cut_line, AreLines, no_lines, line_more, lines_then, numbered_lines, each_at}
+use Rattle.report_text.proofs.Counted.{Text}
+use Rattle.run_report.proofs.Lines.{IsLine, cut_line, AreLines, no_lines, line_more, lines_then, numbered_lines, each_at}
 
 first_is : (second : Bool) → IsLine (first_line second) (version second)
 first_is true = record { ends = λ rest. refl; lacks = lacks_test 10 (codes "rtdb report 2") refl }

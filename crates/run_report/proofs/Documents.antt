@@ -8,13 +8,10 @@ use Rattle.report_text.proofs.GoodHead.{head_good}
 use Rattle.report_text.specs.declared.forms.Kind.{Kind}
 use Rattle.report_text.specs.declared.document.Document.{Document}
 use Rattle.report_text.specs.declared.document.DocumentError.{DocumentError}
-use Rattle.report_text.specs.declared.document.DocumentError.TheVariants.{BadLine}
 use Rattle.report_text.specs.Forms.{is_end}
 use Rattle.report_text.specs.Document.{lines_of, from_entries, after_parts, over_at, end_at, number_in, kind_of, document, unless, body_of, after_head, document_of}
 use Rattle.report_text.proofs.Counted.{few_lines, head_within}
-
-abbrev Answer : Type 0
-Answer = Result Document DocumentError
+use Rattle.report_text.proofs.Reading.{Answer, closed}
 
 pub record IsRead (bytes : List ℕ) (d : Document) : Type 0 where
   pub good : IsHead d.head
@@ -25,9 +22,6 @@ over_none : (n : ℕ) (lines : List (List ℕ)) (last : List ℕ) → over_at n 
 over_none n [] [] e = refl
 over_none n [] (b ∷ bs) e = absurd cc
 over_none n (line ∷ lines) last e = absurd cc
-
-abbrev closed : ℕ → Bool → List (List ℕ) → List ℕ → Option DocumentError
-closed n is lines last = elim is [ true ↦ over_at (n + 1) lines last | false ↦ Some (BadLine n) ]
 
 closed_none : (n : ℕ) (is : Bool) (lines : List (List ℕ)) (last : List ℕ) → closed n is lines last ≡ None → last ≡ []
 closed_none n true lines last e = over_none (n + 1) lines last e

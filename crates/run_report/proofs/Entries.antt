@@ -7,7 +7,7 @@ use Rattle.rt_base.specs.declared.name.Names.{Names}
 use Rattle.rt_base.specs.declared.operation.Op.{Op}
 use Rattle.rt_base.specs.declared.operation.Op.TheVariants.{Read, Write, Compute, Commit, Quit}
 use Rattle.rt_base.specs.declared.operation.Outcome.{Outcome}
-use Rattle.rt_base.specs.declared.operation.Outcome.TheVariants.{Got, Put, Computed, Closed}
+use Rattle.rt_base.specs.declared.operation.Outcome.TheVariants.{Got}
 use Rattle.rt_base.specs.declared.operation.End.{End}
 use Rattle.rt_base.specs.declared.operation.End.TheVariants as end
 use Rattle.step_journal.specs.declared.entry.Entry.{Entry}
@@ -51,9 +51,7 @@ stamp_lacks None fits = lacks_test 10 (codes " own") refl
 
 outcome_lacks : (outcome : Outcome) → IsOutcome outcome → Lacks 10 (outcome_text outcome)
 outcome_lacks (Got value stamp) fits = signed_word_lacks value (field (stamp_text stamp)) fits.0 (stamp_lacks stamp fits.1)
-outcome_lacks Put fits = nothing_lacks
-outcome_lacks Computed fits = nothing_lacks
-outcome_lacks Closed fits = nothing_lacks
+outcome_lacks other fits = nothing_lacks
 
 over_lacks : (names : Names) (over : Option End) → AreNames names.items → IsOver names over → Lacks 10 (over_text names over)
 over_lacks names None good is = nothing_lacks
@@ -114,25 +112,16 @@ entry_passes names test (Idle from to) words =
 is_op : (names : Names) (op : Op) → KnownOp names op → HasValue op → IsOp names op
 is_op names (Read item) known v = known
 is_op names (Write item value) known v = (known, v)
-is_op names Compute known v = tt
-is_op names Commit known v = tt
-is_op names Quit known v = tt
+is_op names other known v = tt
 
 pub is_end : (names : Names) (second : Bool) (e : End) → KnownEnd names e → EndFits second e → IsEnd names e
-is_end names second end.Committed known fits = tt
-is_end names second end.Overrun known fits = tt
-is_end names second end.Late known fits = tt
 is_end names second (end.Stale item stamp) known fits = (known, fits)
 is_end names second (end.Apart a b) known fits = known
-is_end names second end.Quit known fits = tt
+is_end names second other known fits = tt
 
 pub end_may : (second : Bool) (e : End) → EndFits second e → may_end second e ≡ true
-end_may second end.Committed fits = refl
-end_may second end.Overrun fits = refl
-end_may second end.Late fits = refl
-end_may second (end.Stale item stamp) fits = refl
 end_may second (end.Apart a b) fits = fits
-end_may second end.Quit fits = refl
+end_may second other fits = refl
 
 is_over : (names : Names) (second : Bool) (over : Option End) → KnownOver names over → OverFits second over → IsOver names over
 is_over names second None known fits = tt
@@ -151,7 +140,5 @@ has_line names second (Blocked job op by ceiling tick) w fits =
 has_line names second (Idle from to) w fits = fits
 
 pub entry_may : (second : Bool) (e : Entry) → EntryFits second e → may_be second e ≡ true
-entry_may second (Planned tx tick) fits = refl
 entry_may second (Step job op outcome over tick) fits = over_may second over fits.4
-entry_may second (Blocked job op by ceiling tick) fits = refl
-entry_may second (Idle from to) fits = refl
+entry_may second other fits = refl

@@ -7,7 +7,7 @@ use Rattle.rt_base.specs.declared.ids.ItemId.{ItemId}
 use Rattle.rt_base.specs.declared.ids.JobId.{JobId}
 use Rattle.rt_base.specs.declared.ids.TogetherDecl.{TogetherDecl}
 use Rattle.rt_base.specs.declared.operation.Op.{Op}
-use Rattle.rt_base.specs.declared.operation.Op.TheVariants.{Read, Write, Compute, Commit, Quit}
+use Rattle.rt_base.specs.declared.operation.Op.TheVariants.{Read, Write, Commit, Quit}
 use Rattle.rt_base.specs.declared.operation.End.{End}
 use Rattle.rt_base.specs.declared.operation.End.TheVariants as end
 use Rattle.item_model.specs.Kinds.{is_derived, is_dated}
@@ -95,9 +95,7 @@ work_fits items work (Read item) h k v =
     (record { reads = with_read_fits work.reads item stamp k.reads (stored_fits items item.0 h).stamp; writes = k.writes })
 work_fits items work (Write item value) h k v =
     record { reads = k.reads; writes = with_write_fits work.writes item value k.writes v }
-work_fits items work Compute h k v = k
-work_fits items work Commit h k v = k
-work_fits items work Quit h k v = k
+work_fits items work other h k v = k
 
 got_fits : (work : Work) (item : ℕ) (stored : Stored) (o : Option OwnWrite) → write_of work item ≡ o → FitsStored stored
     → WorkFits work → IsOutcome (got o stored)
@@ -109,10 +107,7 @@ pub outcome_fits : (items : List Stored) (work : Work) (op : Op) → Every FitsS
     → IsOutcome (outcome_of items work op)
 outcome_fits items work (Read item) h k =
     got_fits work item.0 (stored_of items item.0) (write_of work item.0) refl (stored_fits items item.0 h) k
-outcome_fits items work (Write item value) h k = tt
-outcome_fits items work Compute h k = tt
-outcome_fits items work Commit h k = tt
-outcome_fits items work Quit h k = tt
+outcome_fits items work other h k = tt
 
 -- ---- how a job ends
 
@@ -146,13 +141,11 @@ steps_fit second false e is = absurd cc
 
 end_fits : (set : Set) (x : Row) (tick : ℕ) (op : Op) (e : End) → WorkFits x.work → end_by set x tick op ≡ Some e
     → EndFits (is_second set) e
-end_fits set x tick (Read item) e k is = steps_fit (is_second set) (x.used == (txn_of set x.job.tx.0).steps) e is
-end_fits set x tick (Write item value) e k is = steps_fit (is_second set) (x.used == (txn_of set x.job.tx.0).steps) e is
-end_fits set x tick Compute e k is = steps_fit (is_second set) (x.used == (txn_of set x.job.tx.0).steps) e is
 end_fits set x tick Commit e k is =
     let same : verdict set.items set.together (txn_of set x.job.tx.0).reads x.work tick ≡ e = cc in
     subst (EndFits (is_second set)) same (verdict_fits set (txn_of set x.job.tx.0).reads x.work tick k)
 end_fits set x tick Quit e k is = let same : end.Quit ≡ e = cc in subst (EndFits (is_second set)) same tt
+end_fits set x tick other e k is = steps_fit (is_second set) (x.used == (txn_of set x.job.tx.0).steps) e is
 
 -- ---- the items after an end
 
@@ -194,11 +187,7 @@ installed_fit decls work release (x ∷ ws) items k lt w h =
 items_fit : (decls : List ItemDecl) (work : Work) (release : ℕ) (e : End) (items : List Stored) → WorkFits work
     → release < 2 ^ 64 → Every FitsStored items → Every FitsStored (items_after decls work release e items)
 items_fit decls work release end.Committed items k lt h = installed_fit decls work release work.writes items k lt k.writes h
-items_fit decls work release end.Overrun items k lt h = h
-items_fit decls work release end.Late items k lt h = h
-items_fit decls work release (end.Stale item stamp) items k lt h = h
-items_fit decls work release (end.Apart a b) items k lt h = h
-items_fit decls work release end.Quit items k lt h = h
+items_fit decls work release other items k lt h = h
 
 -- ---- states
 

@@ -1,7 +1,6 @@
 -- Each line after the declarations is read back, and is one line.
 use Rattle.std.proofs.Common.{◌≡◌, ℕ, ℤ, ◌<◌, ◌^◌, Bool, true, cond, List, ◌++◌, length, Option, Some, None, decimal, refl, ap, ◌∙◌, arith, codes, append_assoc}
 use Rattle.std.specs.Fmt.{signed_decimal}
-use Rattle.std.specs.Int.{IsInRange}
 use Rattle.std.specs.Str.{bytes_eq}
 use Rattle.std.proofs.lemmas.Slice.Eq.{bytes_eq-Decides}
 use Rattle.rt_base.specs.Names.{AreNames}
@@ -20,6 +19,7 @@ use Rattle.journal_text.specs.Lines.{◌⊕◌, end_text, IsEnd}
 use Rattle.report_text.specs.Texts.{ceiling_line, bound_line, age_line, final_line}
 use Rattle.report_text.proofs.HeadAgain.{field_lacks, word_lacks, number_lacks, signed_lacks}
 use Rattle.report_text.specs.Forms.{begins, ceiling_form, bound_form, age_form, final_form}
+use Rattle.journal_text.proofs.NextLaws.{no_digit}
 use Rattle.run_report.proofs.Lines.{IsLine}
 
 -- ---- the first word
@@ -42,9 +42,6 @@ first_passes test w rest lacks ends passes =
     ∙ ap (λ (b : Bool). cond b None (Some tt)) passes
 
 -- ---- bytes that a line lacks
-
-no_digit : ¬ IsInRange 48 57 10
-no_digit h = omega (arith, h.0, h.1)
 
 pub last_lacks : (n : ℕ) → n < 2 ^ 64 → Lacks 10 (field (decimal n))
 last_lacks n lt = field_lacks (decimal n) (decimal_lacks 10 n no_digit lt)

@@ -61,6 +61,5 @@ back set entries left d some within legal is =
 
 pub instant_low : (n : ℕ) (e : Entry) → instant_after n e < 2 ^ 64 → instant_after 0 e < 2 ^ 64
 instant_low n (Planned tx tick) h = omega arith
-instant_low n (Step job op outcome over tick) h = h
 instant_low n (Blocked job op by ceiling tick) h = omega arith
-instant_low n (Idle from to) h = h
+instant_low n other h = h

@@ -1,6 +1,5 @@
 -- The line of a job is read back, and is one line.
 use Rattle.std.proofs.Common.{◌≡◌, ℕ, ◌<◌, ◌^◌, ◌-◌, Bool, true, false, cond, List, ◌∷◌, ◌++◌, Option, Some, None, decimal, refl, sym, ap, subst, ◌∙◌, arith, codes, append_assoc}
-use Rattle.std.specs.Int.{IsInRange}
 use Rattle.std.specs.Str.{bytes_eq}
 use Rattle.std.proofs.lemmas.Slice.Eq.{bytes_eq-Decides}
 use Rattle.rt_base.specs.Names.{AreNames}
@@ -13,7 +12,7 @@ use Rattle.journal_text.specs.Cuts.{next, word_is, field, Lacks, Ends}
 use Rattle.journal_text.specs.Numbers.{unsigned_of}
 use Rattle.journal_text.specs.Ids.{job_text, job_of, IsJob}
 use Rattle.journal_text.proofs.CutLaws.{none_some, field_again, next_again, next_last, given_again, lacks_test, lacks_append}
-use Rattle.journal_text.proofs.NumberLaws.{unsigned_again, unsigned_lacks, decimal_lacks}
+use Rattle.journal_text.proofs.NumberLaws.{unsigned_again, unsigned_lacks, decimal_lacks, no_minus}
 use Rattle.journal_text.proofs.IdLaws.{job_again, job_lacks}
 use Rattle.journal_text.specs.Lines.{◌⊕◌, end_text, IsEnd}
 use Rattle.journal_text.proofs.PartLaws.{end_again}
@@ -67,9 +66,6 @@ abbrev pub IsClose : Names → Bool → ℕ → Option (End × ℕ) → Type 0
 IsClose names second release None = Unit {0}
 IsClose names second release (Some e) = IsEnded names second release e
 
-no_minus : ¬ IsInRange 48 57 45
-no_minus h = omega (arith, h.0, h.1)
-
 not_number : (n : ℕ) → n < 2 ^ 64 → (test : Bool) → bytes_eq (decimal n) (codes "-") ≡ test → test ≡ false
 not_number n lt true e =
     let same : decimal n ≡ codes "-" = (bytes_eq-Decides (decimal n) (codes "-")).0 e in
@@ -100,11 +96,7 @@ pending_again rest ends =
 
 ends_end : (names : Names) (e : End) (rest : List ℕ) → Ends (end_text names e ++ rest)
 ends_end names end.Committed rest = refl
-ends_end names end.Overrun rest = refl
-ends_end names end.Late rest = refl
-ends_end names (end.Stale item stamp) rest = refl
-ends_end names (end.Apart a b) rest = refl
-ends_end names end.Quit rest = refl
+ends_end names other rest = refl
 
 ended_again : (names : Names) (second : Bool) (release : ℕ) (e : End × ℕ) (rest : List ℕ) → AreNames names.items
     → IsEnded names second release e → Ends rest

@@ -23,7 +23,7 @@ use Rattle.report_text.specs.Document.{lines_of, document_of}
 use Rattle.run_report.specs.declared.verdict.SetError.{SetError}
 use Rattle.run_report.specs.declared.verdict.SetError.TheVariants.{Compile, Admit}
 use Rattle.run_report.specs.declared.verdict.Verdict.{Verdict}
-use Rattle.run_report.specs.declared.verdict.Verdict.TheVariants.{Legal, BadLine, Unfinished, BadSet, NotALegalStep, WrongLine, WrongItem}
+use Rattle.run_report.specs.declared.verdict.Verdict.TheVariants.{Legal, BadSet, NotALegalStep, WrongLine, WrongItem}
 use Rattle.run_report.specs.Compared.{compared}
 use Rattle.run_report.specs.Verdict.{refusal_in, set_refusal, report_for, difference, Declares, Tells, IsVerdict, HasParts}
 use Rattle.run_report.specs.declared.judged.Judged.{Judged}
@@ -37,22 +37,12 @@ use Rattle.run_report.proofs.WholeVerdict.{EndedBy, append_ended, end_ended, sam
 set_refused : (found : Option CompileError) (error : CompileError) → RefusesSet found error → error ≢ compiling.OutOfMemory
     → found ≡ Some error
 set_refused found compiling.OutOfMemory h some = absurd (some refl)
-set_refused found (compiling.TooManyItems count) h some = h
-set_refused found (compiling.TooManyTxns count) h some = h
-set_refused found (compiling.SamePrio a b) h some = h
-set_refused found (compiling.BadTimes tx which) h some = h
-set_refused found (compiling.NoWriter item) h some = h
-set_refused found (compiling.TwoWriters item a b) h some = h
-set_refused found (compiling.CyclicDerivation item) h some = h
-set_refused found (compiling.TooManySets count) h some = h
-set_refused found (compiling.BadTogether place) h some = h
+set_refused found other h some = h
 
 not_admitted : (found : Option AdmitError) (error : AdmitError) → Refuses found error → error ≢ admitting.OutOfMemory
     → found ≡ Some error
 not_admitted found admitting.OutOfMemory h some = absurd (some refl)
-not_admitted found (admitting.NotSchedulable tx demand) h some = h
-not_admitted found (admitting.TooOld tx item age) h some = h
-not_admitted found (admitting.TooApart tx place age) h some = h
+not_admitted found other h some = h
 
 abbrev compile_part : Option CompileError → Option SetError
 compile_part o = option_map (λ error. Compile error) o
@@ -134,13 +124,7 @@ said bytes d Legal t e =
     )
 said bytes d (WrongLine n) t e = (d, t, sym e)
 said bytes d (WrongItem item) t e = (d, t, sym e)
-said bytes d (BadLine n) t e =
-    absurd (subst IsDifference (sym e) (is_difference d.head.names 1 (lines_of bytes).0 (lines_of (report_for d)).0))
-said bytes d Unfinished t e =
-    absurd (subst IsDifference (sym e) (is_difference d.head.names 1 (lines_of bytes).0 (lines_of (report_for d)).0))
-said bytes d (BadSet error) t e =
-    absurd (subst IsDifference (sym e) (is_difference d.head.names 1 (lines_of bytes).0 (lines_of (report_for d)).0))
-said bytes d (NotALegalStep n) t e =
+said bytes d other t e =
     absurd (subst IsDifference (sym e) (is_difference d.head.names 1 (lines_of bytes).0 (lines_of (report_for d)).0))
 
 pub legal_said : (bytes : List ℕ) (names : Names) (set : Set) (admitted : Bool) (entries : List Entry) (first : ℕ) (text : List ℕ) (v : Verdict)

@@ -2,7 +2,7 @@
 use Rattle.std.proofs.Common.{◌≡◌, ◌⊎◌, ℕ, suc, ◌+◌, ◌<◌, ◌≤◌, ◌==◌, Bool, true, false, cond, inl, inr, List, [], ◌∷◌, ◌++◌, length, Option, Some, None, refl, sym, ap, subst, ◌∙◌, arith}
 use Rattle.std.specs.List.{All, find, filter, fold}
 use Rattle.std.specs.Option.{option_map, option_and_then}
-use Rattle.std.specs.Prelude.{nat_lt, ◌&&◌, ◌-◌}
+use Rattle.std.specs.Prelude.{nat_lt, ◌-◌}
 use Rattle.std.proofs.lemmas.Bool.{eqb-true}
 use Rattle.std.proofs.lemmas.List.Elements.{All-cons, All-nil}
 use Rattle.rt_base.specs.declared.ids.ItemId.{ItemId}
@@ -10,7 +10,7 @@ use Rattle.rt_base.specs.declared.ids.JobId.{JobId}
 use Rattle.rt_base.specs.declared.ids.TogetherDecl.{TogetherDecl}
 use Rattle.rt_base.specs.declared.name.Names.{Names}
 use Rattle.rt_base.specs.declared.operation.Op.{Op}
-use Rattle.rt_base.specs.declared.operation.Op.TheVariants.{Read, Write, Compute, Commit, Quit}
+use Rattle.rt_base.specs.declared.operation.Op.TheVariants.{Read, Write, Commit, Quit}
 use Rattle.rt_base.specs.declared.operation.End.{End}
 use Rattle.rt_base.specs.declared.operation.End.TheVariants as end
 use Rattle.item_model.specs.declared.stored.Stored.{Stored}
@@ -38,11 +38,8 @@ use Rattle.law_histories.proofs.DelayAll.{legal_delay}
 use Rattle.law_histories.proofs.Pushes.{pushed}
 use Rattle.journal_text.specs.Lines.{Answers, KnownOp, KnownEnd, KnownOver, IsWritable}
 use Rattle.report_text.specs.Texts.{NamesSet}
+use Rattle.rt_base.proofs.Padding.{both as parts}
 use Rattle.run_report.specs.Legal.{LegalHasLines}
-
-parts : (a b : Bool) → (a && b) ≡ true → (a ≡ true) × (b ≡ true)
-parts true b e = (refl, e)
-parts false b e = absurd cc
 
 -- ---- items that are declared
 
@@ -61,9 +58,7 @@ op_known names set x (Read item) one ok lt may =
     omega (arith, declared_in set (txn_of set x.job.tx.0).reads item.0 (ok.reads x.job.tx.0 no_txn lt) (parts _ _ may).0, one.items)
 op_known names set x (Write item value) one ok lt may =
     omega (arith, declared_in set (txn_of set x.job.tx.0).writes item.0 (ok.writes x.job.tx.0 no_txn lt) (parts _ _ may).0, one.items)
-op_known names set x Compute one ok lt may = tt
-op_known names set x Commit one ok lt may = tt
-op_known names set x Quit one ok lt may = tt
+op_known names set x other one ok lt may = tt
 
 answers_read : (item : ItemId) (o : Option OwnWrite) (stored : Stored) → Answers (Read item) (got o stored)
 answers_read item None stored = tt
@@ -71,10 +66,7 @@ answers_read item (Some w) stored = tt
 
 answers : (items : List Stored) (work : Work) (op : Op) → Answers op (outcome_of items work op)
 answers items work (Read item) = answers_read item (write_of work item.0) (stored_of items item.0)
-answers items work (Write item value) = tt
-answers items work Compute = tt
-answers items work Commit = tt
-answers items work Quit = tt
+answers items work other = tt
 
 -- ---- ends
 
@@ -174,15 +166,14 @@ steps_known names false e is = absurd cc
 
 end_known : (names : Names) (set : Set) (x : Row) (tick : ℕ) (op : Op) (e : End) → NamesSet names set → IsCompiled set
     → x.job.tx.0 < length set.txns → end_by set x tick op ≡ Some e → KnownEnd names e
-end_known names set x tick (Read item) e one ok lt is = steps_known names (x.used == (txn_of set x.job.tx.0).steps) e is
 end_known names set x tick (Write item value) e one ok lt is =
     steps_known names (x.used == (txn_of set x.job.tx.0).steps) e is
-end_known names set x tick Compute e one ok lt is = steps_known names (x.used == (txn_of set x.job.tx.0).steps) e is
 end_known names set x tick Commit e one ok lt is =
     let same : verdict set.items set.together (txn_of set x.job.tx.0).reads x.work tick ≡ e = cc in
     subst (KnownEnd names) same
     (verdict_known names set (txn_of set x.job.tx.0).reads x.work tick one ok (ok.reads x.job.tx.0 no_txn lt))
 end_known names set x tick Quit e one ok lt is = let same : end.Quit ≡ e = cc in subst (KnownEnd names) same tt
+end_known names set x tick other e one ok lt is = steps_known names (x.used == (txn_of set x.job.tx.0).steps) e is
 
 -- ---- ended jobs
 

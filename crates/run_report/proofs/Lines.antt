@@ -4,10 +4,9 @@ use Rattle.journal_text.specs.Cuts.{Lacks}
 use Rattle.report_text.proofs.PieceLaws.{pieces_cut}
 use Rattle.report_text.specs.Rows.{numbered}
 use Rattle.report_text.specs.Document.{lines_of, front, after}
+use Rattle.report_text.proofs.Counted.{Text}
+use Rattle.report_text.proofs.Walking.{after_by, front_by}
 use Rattle.run_report.proofs.Every.{Every}
-
-abbrev pub Text : Type 0
-Text = List (List ℕ) × List ℕ
 
 -- ---- each element with its place
 
@@ -98,12 +97,6 @@ numbered_lines f body i (x ∷ xs) h =
 pub record Passes {A : Type 0} (form : List ℕ → Option A) (text : List ℕ) : Type 0 where
   pub over : (rest : List ℕ) → after form (lines_of (text ++ rest)).0 ≡ after form (lines_of rest).0
   pub last : (rest : List ℕ) → (lines_of (text ++ rest)).1 ≡ (lines_of rest).1
-
-abbrev after_by : {A : Type 0} → List (List ℕ) → List (List ℕ) → Option A → List (List ℕ)
-after_by stay go o = elim o [ None ↦ stay | Some a ↦ go ]
-
-abbrev front_by : {A : Type 0} → List A → Option A → List A
-front_by rest o = elim o [ None ↦ [] | Some a ↦ a ∷ rest ]
 
 pub nothing_passes : {A : Type 0} (form : List ℕ → Option A) → Passes form []
 nothing_passes form = record { over = λ rest. refl; last = λ rest. refl }

@@ -14,6 +14,7 @@ use Rattle.report_text.specs.declared.document.Document.{Document}
 use Rattle.report_text.specs.declared.document.DocumentError.{DocumentError}
 use Rattle.report_text.specs.declared.document.DocumentError.TheVariants as unread
 use Rattle.report_text.specs.Document.{lines_of, document_of}
+use Rattle.report_text.proofs.Reading.{Answer as Documents}
 use Rattle.run_report.specs.declared.verdict.SetError.{SetError}
 use Rattle.run_report.specs.declared.verdict.Verdict.{Verdict}
 use Rattle.run_report.specs.declared.verdict.Verdict.TheVariants.{Legal, BadLine, Unfinished, BadSet, NotALegalStep, WrongLine, WrongItem}
@@ -67,9 +68,6 @@ Of bytes (Ok d) v = OfSet bytes d (set_refusal d.head) v
 Of bytes (Err (unread.BadLine n)) v = v ≡ BadLine n
 Of bytes (Err unread.Unfinished) v = v ≡ Unfinished
 Of bytes (Err unread.OutOfMemory) v = ⊥
-
-abbrev Documents : Type 0
-Documents = Result Document DocumentError
 
 of_entries : (bytes : List ℕ) (d : Document) (v : Verdict) → Declares bytes d → OfEntries bytes d v → Of bytes (document_of bytes) v
 of_entries bytes d v h said =

@@ -10,7 +10,7 @@ use Rattle.report_text.specs.Texts.{NamesSet}
 use Rattle.report_text.specs.declared.document.Document.{Document}
 use Rattle.report_text.specs.declared.document.DocumentError.{DocumentError}
 use Rattle.run_report.specs.declared.verdict.Verdict.{Verdict}
-use Rattle.run_report.specs.declared.verdict.Verdict.TheVariants.{Legal, BadLine, Unfinished, BadSet, NotALegalStep, WrongLine, WrongItem}
+use Rattle.run_report.specs.declared.verdict.Verdict.TheVariants.{Legal, NotALegalStep}
 use Rattle.run_report.specs.declared.judged.ReportedSet.{ReportedSet}
 use Rattle.run_report.specs.declared.judged.LegalReport.{LegalReport}
 use Rattle.run_report.specs.declared.judged.Found.{Found}
@@ -18,10 +18,10 @@ use Rattle.run_report.specs.Verdict.{refusal_in, report_for, Tells, IsVerdict, H
 use Rattle.run_report.specs.Judged.{set_in, is_admitted, IsLegalReport, IsOther, found_by, IsFoundLegal, IsFound}
 use Rattle.run_report.proofs.Judging.{illegal}
 
-abbrev document_read : Document → Result Document DocumentError
+abbrev pub document_read : Document → Result Document DocumentError
 document_read d = Ok d
 
-one_document : (a b : Document) → document_read a ≡ document_read b → a ≡ b
+pub one_document : (a b : Document) → document_read a ≡ document_read b → a ≡ b
 one_document a b e = cc
 
 pub says : (bytes : List ℕ) (names : Names) (set : ReportedSet) (entries : List Entry) (first : ℕ) (items : List Stored)
@@ -51,12 +51,7 @@ legal_verdict bytes r h = (h.document, h.tells, h.whole)
 by_verdict : (bytes : List ℕ) (set : Set) (entries : List Entry) (items : List Stored) (v : Verdict) → IsVerdict bytes v
     → IsLegal set entries → items ≡ (state_of set entries).items → IsFound bytes set entries (found_by v items)
 by_verdict bytes set entries items Legal h legal last = record { verdict = h; legal = legal; last = last }
-by_verdict bytes set entries items (BadLine n) h legal last = record { verdict = h; other = refl }
-by_verdict bytes set entries items Unfinished h legal last = record { verdict = h; other = refl }
-by_verdict bytes set entries items (BadSet error) h legal last = record { verdict = h; other = refl }
-by_verdict bytes set entries items (NotALegalStep n) h legal last = record { verdict = h; other = refl }
-by_verdict bytes set entries items (WrongLine n) h legal last = record { verdict = h; other = refl }
-by_verdict bytes set entries items (WrongItem item) h legal last = record { verdict = h; other = refl }
+by_verdict bytes set entries items rest h legal last = record { verdict = h; other = refl }
 
 pub found_told : (bytes : List ℕ) (set : Set) (entries : List Entry) (items : List Stored) (v : Verdict) (f : Found)
     → f ≡ found_by v items → IsVerdict bytes v → IsLegal set entries → items ≡ (state_of set entries).items

@@ -1,9 +1,7 @@
 -- The numbers of a legal history are those of their types, entry by entry.
-use Rattle.std.proofs.Common.{◌≡◌, ℕ, ◌+◌, ◌-◌, ◌<◌, ◌≤◌, ◌^◌, Bool, true, false, cond, ◌&&◌, ◌||◌, List, [], ◌∷◌, ◌++◌, map, length, Option, Some, None, refl, sym, ap, subst, ◌∙◌, inl, arith, append_assoc, append-nil}
+use Rattle.std.proofs.Common.{◌≡◌, ℕ, ◌+◌, ◌-◌, ◌<◌, ◌≤◌, ◌^◌, Bool, true, false, cond, ◌||◌, List, [], ◌∷◌, ◌++◌, map, Option, Some, None, refl, sym, ap, subst, ◌∙◌, inl, arith, append_assoc, append-nil}
 use Rattle.std.specs.List.{All, find, filter}
 use Rattle.std.specs.Option.{option_map, option_and_then}
-use Rattle.std.specs.Prelude.{nat_lt, nat_le}
-use Rattle.std.proofs.lemmas.Bool.{and_parts, leb-true}
 use Rattle.rt_base.specs.declared.ids.JobId.{JobId}
 use Rattle.rt_base.specs.declared.operation.Op.{Op}
 use Rattle.rt_base.specs.declared.operation.End.{End}
@@ -19,7 +17,7 @@ use Rattle.step_journal.specs.State.{State, Row, pending, same_job}
 use Rattle.step_journal.specs.LockRule.{Lock, Above, locks, lock_ceiling, ceiling_of, needs_lock, refusal}
 use Rattle.step_journal.specs.Running.{running, of_job}
 use Rattle.step_journal.specs.Instant.{arrived}
-use Rattle.step_journal.specs.Step.{Event, plan, ask, idle, given, plans_of, earliest, may_plan, with_plan, may_ask, lock_refusal, row_after, end_by, settled, after_effect, with_step, answered, asked, earlier, next_tick, idled, step}
+use Rattle.step_journal.specs.Step.{Event, plan, ask, idle, given, may_plan, with_plan, may_ask, lock_refusal, row_after, end_by, settled, after_effect, with_step, answered, asked, earlier, next_tick, idled, step}
 use Rattle.step_journal.specs.History.{event_of, state_given, entry_given, state_after, IsLegalFrom, IsLegal, state_of}
 use Rattle.law_histories.specs.Counting.{IsCounted, IsTimed, EntriesAreFew, TimeIsBounded}
 use Rattle.journal_text.specs.Lines.{IsOutcome}
@@ -33,6 +31,7 @@ use Rattle.law_histories.proofs.Pushes.{pushed}
 use Rattle.report_text.specs.Texts.{is_second}
 use Rattle.report_text.specs.Laws.{IsItemDecl}
 use Rattle.journal_text.specs.Numbers.{IsI64}
+use Rattle.law_histories.proofs.Rooms.{tick_limit as plan_limit}
 use Rattle.run_report.specs.Types.{HasValue, EntryHasValue}
 use Rattle.run_report.proofs.Every.{Every, chosen, every_in, every_or, every_all, every_append, every_map, every_filter, every_greatest}
 use Rattle.run_report.proofs.Fits.{RowFits, EndFits, EndedFits, Fits, outcome_fits, settled_fits, arrived_fits, plan_fits, wait_fits, after_fits, opening_fits}
@@ -103,15 +102,6 @@ goes_given : (second b : Bool) (p : Entry × State) → (b ≡ true → Goes sec
 goes_given second true p h = h refl
 goes_given second false p h = tt
 
-plan_limit : (set : Set) (s : State) (tx tick : ℕ) → may_plan set s tx tick ≡ true → tick ≤ 2 ^ 40
-unfolding may_plan
-plan_limit set s tx tick h =
-    let a = and_parts (nat_lt tx (length set.txns) && nat_le s.now tick && nat_le tick (2 ^ 40) && nat_le (earliest set tx (plans_of s tx)) tick && nat_lt (length s.planned) 65536) (nat_lt (plans_of s tx).number (2 ^ 32 - 1)) h in
-    let b = and_parts (nat_lt tx (length set.txns) && nat_le s.now tick && nat_le tick (2 ^ 40) && nat_le (earliest set tx (plans_of s tx)) tick) (nat_lt (length s.planned) 65536) a.0 in
-    let c = and_parts (nat_lt tx (length set.txns) && nat_le s.now tick && nat_le tick (2 ^ 40)) (nat_le (earliest set tx (plans_of s tx)) tick) b.0 in
-    let d = and_parts (nat_lt tx (length set.txns) && nat_le s.now tick) (nat_le tick (2 ^ 40)) c.0 in
-    leb-true _ _ d.1
-
 abbrev TickFits : Option ℕ → Type 0
 TickFits None = Unit {0}
 TickFits (Some t) = t < 2 ^ 64
@@ -132,10 +122,9 @@ EventHasValue (ask job op) = HasValue op
 EventHasValue idle = Unit {0}
 
 event_has : (e : Entry) → EntryHasValue e → EventHasValue (event_of e)
-event_has (Planned tx tick) h = tt
 event_has (Step job op outcome over tick) h = h
 event_has (Blocked job op by ceiling tick) h = h
-event_has (Idle from to) h = tt
+event_has other h = tt
 
 pub pending_serial : (set : Set) (es : List Entry) (x : Row) → IsCompiled set → IsLegal set es → IsCounted set es → IsTimed set es
     → IsPending (state_of set es).rows x → x.job.serial < 2 ^ 32

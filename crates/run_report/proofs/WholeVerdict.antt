@@ -6,12 +6,10 @@ use Rattle.std.proofs.lemmas.Slice.Eq.{bytes_eq-Decides}
 use Rattle.rt_base.specs.declared.name.Names.{Names}
 use Rattle.report_text.specs.Pieces.{pieces, longer}
 use Rattle.report_text.specs.Document.{lines_of}
+use Rattle.report_text.proofs.Counted.{Text}
 use Rattle.run_report.specs.declared.verdict.Verdict.{Verdict}
 use Rattle.run_report.specs.declared.verdict.Verdict.TheVariants.{Legal, BadLine, Unfinished, BadSet, NotALegalStep, WrongLine, WrongItem}
 use Rattle.run_report.specs.Compared.{final_name, wrong_by, wrong, compared}
-
-abbrev Text : Type 0
-Text = List (List ℕ) × List ℕ
 
 -- ---- lines joined again
 

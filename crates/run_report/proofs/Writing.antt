@@ -13,13 +13,10 @@ use Rattle.job_rows.specs.Upkeep.{RowsSeen, Follows, GoOn}
 use Rattle.journal_text.specs.Lines.{IsWritable, whole_lines}
 use Rattle.report_text.specs.Rows.{numbered}
 use Rattle.report_text.specs.Texts.{KnownRow, NamesSet, whole_entry_line, entries_text}
+use Rattle.report_text.proofs.GoodLists.{at_end}
 use Rattle.run_report.specs.Report.{Writes, Continues, Closes}
 use Rattle.run_report.proofs.LegalLines.{legal_lines}
 use Rattle.run_report.proofs.LegalRows.{legal_rows}
-
-at_end : {A : Type 0} (xs : List A) (x d : A) → get_or (xs ++ x ∷ []) (length xs) d ≡ x
-at_end [] x d = refl
-at_end (y ∷ xs) x d = at_end xs x d
 
 pub writes_line : (names : Names) (rows : RowsSeen) (entry : Entry) → Writes names rows entry → IsWritable names entry
 writes_line names rows entry w =
@@ -42,7 +39,7 @@ pub goes_on : (names : Names) (rows : RowsSeen) (entries : List Entry) → Conti
 goes_on names rows entries c = record { set = c.set; story = c.story; follows = c.follows; legal = c.legal; fits = c.few }
 
 -- the lines, each without its place
-any_place : (names : Names) (i j : ℕ) (entries : List Entry) → numbered (whole_entry_line names) i entries ≡ numbered (whole_entry_line names) j entries
+pub any_place : (names : Names) (i j : ℕ) (entries : List Entry) → numbered (whole_entry_line names) i entries ≡ numbered (whole_entry_line names) j entries
 any_place names i j [] = refl
 any_place names i j (e ∷ es) = ap (λ (t : List ℕ). whole_entry_line names 0 e ++ t) (any_place names (i + 1) (j + 1) es)
 

@@ -23,9 +23,8 @@ abbrev pub with_end : End → Ends → Ends
 with_end end.Committed c = record c { all = c.all + 1; committed = c.committed + 1 }
 with_end end.Overrun c = record c { all = c.all + 1; overrun = c.overrun + 1 }
 with_end end.Late c = record c { all = c.all + 1; late = c.late + 1 }
-with_end (end.Stale item stamp) c = record c { all = c.all + 1; stale = c.stale + 1 }
-with_end (end.Apart a b) c = record c { all = c.all + 1; stale = c.stale + 1 }
 with_end end.Quit c = record c { all = c.all + 1; quit = c.quit + 1 }
+with_end other c = record c { all = c.all + 1; stale = c.stale + 1 }
 
 abbrev pub with_close : Option (End × ℕ) → Ends → Ends
 with_close None c = c
@@ -70,10 +69,9 @@ pub record FewKinds (c : Kinds) : Type 0 where
 
 -- the instant after an entry by which the time goes on
 abbrev pub instant_of : Entry → Option ℕ
-instant_of (Planned tx tick) = None
 instant_of (Step job op outcome over tick) = Some (tick + 1)
-instant_of (Blocked job op by ceiling tick) = None
 instant_of (Idle from to) = Some to
+instant_of other = None
 
 -- the instant after an entry
 abbrev pub instant_after : ℕ → Entry → ℕ

@@ -44,12 +44,7 @@ pub record IsLegalReport (bytes : List ℕ) (r : LegalReport) : Type 0 where
 
 abbrev pub is_legal : Verdict → Bool
 is_legal Legal = true
-is_legal (BadLine n) = false
-is_legal Unfinished = false
-is_legal (BadSet error) = false
-is_legal (NotALegalStep n) = false
-is_legal (WrongLine n) = false
-is_legal (WrongItem item) = false
+is_legal other = false
 
 -- the verdict is this one, and is not Legal
 pub record IsOther (bytes : List ℕ) (v : Verdict) : Type 0 where

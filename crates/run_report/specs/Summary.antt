@@ -6,7 +6,7 @@ use Rattle.rt_base.specs.declared.operation.End.TheVariants as end
 use Rattle.txn_set.specs.Set.{Set}
 use Rattle.txn_set.specs.Ceilings.{greatest}
 use Rattle.step_journal.specs.declared.entry.Entry.{Entry}
-use Rattle.step_journal.specs.declared.entry.Entry.TheVariants.{Planned, Step, Blocked, Idle}
+use Rattle.step_journal.specs.declared.entry.Entry.TheVariants.{Step, Blocked, Idle}
 use Rattle.step_journal.specs.declared.entry.EndedJob.{EndedJob}
 use Rattle.step_journal.specs.History.{state_of}
 use Rattle.journal_text.specs.Cuts.{field}
@@ -20,9 +20,8 @@ abbrev pub by_end : {A : Type 0} → A → A → A → A → A → End → A
 by_end committed overrun late stale quit end.Committed = committed
 by_end committed overrun late stale quit end.Overrun = overrun
 by_end committed overrun late stale quit end.Late = late
-by_end committed overrun late stale quit (end.Stale item stamp) = stale
-by_end committed overrun late stale quit (end.Apart a b) = stale
 by_end committed overrun late stale quit end.Quit = quit
+by_end committed overrun late stale quit other = stale
 
 abbrev pub is_committed : End → Bool
 is_committed e = by_end true false false false false e
@@ -40,22 +39,16 @@ abbrev pub is_quit : End → Bool
 is_quit e = by_end false false false false true e
 
 abbrev pub is_step : Entry → Bool
-is_step (Planned tx tick) = false
 is_step (Step job op outcome over tick) = true
-is_step (Blocked job op by ceiling tick) = false
-is_step (Idle from to) = false
+is_step other = false
 
 abbrev pub is_block : Entry → Bool
-is_block (Planned tx tick) = false
-is_block (Step job op outcome over tick) = false
 is_block (Blocked job op by ceiling tick) = true
-is_block (Idle from to) = false
+is_block other = false
 
 abbrev pub is_idle : Entry → Bool
-is_idle (Planned tx tick) = false
-is_idle (Step job op outcome over tick) = false
-is_idle (Blocked job op by ceiling tick) = false
 is_idle (Idle from to) = true
+is_idle other = false
 
 -- how many jobs ended so
 abbrev pub ended_by : (End → Bool) → List EndedJob → ℕ

@@ -5,6 +5,7 @@ use Rattle.std.proofs.lemmas.List.{set-get_or}
 use Rattle.std.proofs.lemmas.List.Elements.{All-set}
 use Rattle.txn_set.specs.declared.decl.TxnDecl.{TxnDecl}
 use Rattle.txn_set.specs.Set.{Set, no_txn, txn_of, HasGoodTimes, IsCompiled}
+use Rattle.txn_set.proofs.Declared.{good_with}
 use Rattle.txn_compiler.specs.Kept.{AreLists}
 use Rattle.set_admission.specs.Bounds.{MeetsAdmission}
 use Rattle.set_admission.proofs.Admitted.{decided}
@@ -23,7 +24,7 @@ same_at_own s tx inside = ap (λ (ts : List TxnDecl). record s { txns = ts }) (s
 good_count : (s : Set) (tx k : ℕ) → IsCompiled s → IsCount s tx k → HasGoodTimes (stepped (txn_of s tx) k)
 good_count s tx k ok is =
     let h = ok.times tx no_txn is.there in
-    record { prio = h.prio; steps = (omega (arith, is.quiet), is.range); period = h.period; deadline = h.deadline; offset = h.offset; quiet = is.quiet }
+    good_with (txn_of s tx) (txn_of s tx).prio k (txn_of s tx).quiet h h.prio (omega (arith, is.quiet), is.range) is.quiet
 
 pub lists_with : (s : Set) (tx k : ℕ) → IsCompiled s → tx < length s.txns → AreLists (with_steps s tx k)
 lists_with s tx k ok inside = subst AreLists (sym (as_counted s tx k ok inside)) (lists_counted (counts_at s tx k) s ok)

@@ -17,14 +17,12 @@ use Rattle.law_times.proofs.Demand.{response_none}
 use Rattle.law_times.specs.Ages.{greatest_read, writer_of, age_by, age_bound, IsAdmittedBy}
 use Rattle.set_admission.specs.Bounds.{response_of, age_of, MeetsAdmission}
 use Rattle.set_admission.proofs.Found.{response_of-is, response_of-le}
+use Rattle.law_times.proofs.Standing.{loud}
 use Rattle.scale_margin.specs.Scaled.{StepCounts, counted_txn, counted, AreFewer}
 use Rattle.scale_margin.specs.Laws.{KeepsAdmitted}
 use Rattle.scale_margin.proofs.Same.{prio_same, deadline_same, reads_same, may_block_same, age_same}
 
 -- blocking
-
-abbrev loud : TxnDecl → ℕ
-loud t = t.steps - t.quiet - 1
 
 loud_at : (b : Bool) (x y : TxnDecl) (xs ys : List TxnDecl) → loud x ≤ loud y → greatest (map loud xs) ≤ greatest (map loud ys)
     → greatest (map loud (cond b (x ∷ xs) xs)) ≤ greatest (map loud (cond b (y ∷ ys) ys))

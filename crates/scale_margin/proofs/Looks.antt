@@ -5,7 +5,7 @@ use Rattle.item_model.specs.declared.decl.ItemDecl.{ItemDecl}
 use Rattle.txn_set.specs.declared.decl.TxnDecl.{TxnDecl}
 use Rattle.txn_set.specs.Set.{Set, IsCompiled}
 use Rattle.txn_compiler.specs.declared.error.CompileError.{CompileError}
-use Rattle.txn_compiler.specs.declared.error.CompileError.TheVariants.{TooManyItems, TooManyTxns, SamePrio, BadTimes, NoWriter, TwoWriters, CyclicDerivation, OutOfMemory, TooManySets, BadTogether}
+use Rattle.txn_compiler.specs.declared.error.CompileError.TheVariants.{OutOfMemory}
 use Rattle.txn_compiler.specs.Refusal.{compile_refusal}
 use Rattle.txn_compiler.specs.Refusal as compiling
 use Rattle.txn_compiler.specs.Kept.{set_of, IsInRange, AreLists, kept}
@@ -29,7 +29,7 @@ pub declared : (set : Set) (k : ℕ) (items seen : List ItemDecl) (txns read : L
     → set_of items txns together ≡ scaled set k
 declared set k items seen txns read together groups a b c d e f = cc
 
-lists_in_range : (set : Set) → AreLists set → IsInRange set
+pub lists_in_range : (set : Set) → AreLists set → IsInRange set
 lists_in_range set h = record {
   reads = λ i d below. (h.reads i d below).in_range;
   writes = λ i d below. (h.writes i d below).in_range;
@@ -47,22 +47,12 @@ module _ (set : Set) (k : ℕ) (ok : IsCompiled set) (s : Set) (is : s ≡ scale
   kept_is = ap kept is ∙ kept-as-declared (scaled set k) lists
 
   compile-some : (found : Option CompileError) (e : CompileError) → compiling.Refuses found e → (e ≡ OutOfMemory → ⊥) → found ≡ Some e
-  compile-some found (TooManyItems count) h other = h
-  compile-some found (TooManyTxns count) h other = h
-  compile-some found (SamePrio a b) h other = h
-  compile-some found (BadTimes tx which) h other = h
-  compile-some found (NoWriter item) h other = h
-  compile-some found (TwoWriters item a b) h other = h
-  compile-some found (CyclicDerivation item) h other = h
-  compile-some found (TooManySets count) h other = h
-  compile-some found (BadTogether place) h other = h
   compile-some found OutOfMemory h other = absurd (other refl)
+  compile-some found rest h other = h
 
   admit-some : (found : Option AdmitError) (e : AdmitError) → Refuses found e → (e ≡ admitting.OutOfMemory → ⊥) → found ≡ Some e
-  admit-some found (admitting.NotSchedulable tx demand) h other = h
-  admit-some found (admitting.TooOld tx item age) h other = h
-  admit-some found (admitting.TooApart tx place age) h other = h
   admit-some found admitting.OutOfMemory h other = absurd (other refl)
+  admit-some found rest h other = h
 
   pub bars_compile : (e : CompileError) → compiling.Refuses (compile_refusal (kept s)) e → (e ≡ OutOfMemory → ⊥) → Some (Compile e) ≡ barrier_at set k
   unfolding barrier_at

@@ -1,6 +1,6 @@
 -- Percentages of a set's steps: they rise with the percentage, and what is accepted at one is accepted at each smaller
 -- one.
-use Rattle.std.proofs.Common.{◌≡◌, ◌∙◌, suc, ◌^◌, Bool, true, false, not, ⊎_elim, ℕ, ◌*◌, ◌<◌, ◌≤◌, List, [], ◌∷◌, map, get_or, Option, None, Some, refl, ap, ap₂, subst, arith, mul-pos, mul-le-mul_left}
+use Rattle.std.proofs.Common.{◌≡◌, ◌∙◌, suc, ◌^◌, Bool, true, false, not, ⊎_elim, ℕ, ◌*◌, ◌<◌, ◌≤◌, List, [], ◌∷◌, map, get_or, Option, None, refl, ap, ap₂, subst, arith, mul-pos, mul-le-mul_left}
 use Rattle.std.proofs.lemmas.Bool.{cases_lt, le-leb, lt-leb, lt-ltb, le-ltb}
 use Rattle.std.proofs.lemmas.Grind.{div_ceil_times}
 use Rattle.std.specs.Prelude.{nat_lt, nat_le}
@@ -11,13 +11,14 @@ use Rattle.std.specs.Option.{option_map}
 use Rattle.item_model.specs.Work.{first_of_both}
 use Rattle.txn_set.specs.declared.decl.TxnDecl.{TxnDecl}
 use Rattle.txn_set.specs.Set.{Set, HasGoodTimes, IsCompiled}
+use Rattle.txn_set.proofs.Declared.{good_with}
 use Rattle.txn_compiler.specs.declared.error.Which.TheVariants.{Steps}
 use Rattle.txn_compiler.specs.declared.error.CompileError.{CompileError}
 use Rattle.txn_compiler.specs.declared.error.CompileError.TheVariants.{BadTimes}
 use Rattle.txn_compiler.specs.Refusal.{given, first_refusal, bad_times_at, compile_refusal}
 use Rattle.txn_compiler.proofs.Verdict.{compiled-unless-refused}
 use Rattle.set_admission.specs.Admission.{refusal}
-use Rattle.set_admission.proofs.Admitted.{decided}
+use Rattle.set_admission.proofs.Admitted.{decided, map-none as map_none, none-map as none_map, both-none as both_none}
 use Rattle.scale_margin.specs.Scaled.{AreFewer, steps_at, quiet_at, counts_at, scaled_txn, scaled}
 use Rattle.scale_margin.specs.Barriers.{barrier_at}
 use Rattle.scale_margin.specs.Laws.{JudgedBySteps, SameAtHundred, AcceptedUnlessBarred, AcceptedFallsOnce}
@@ -58,7 +59,7 @@ IsInRange k t = steps_at k t.steps ≤ 10000
 good_at : (k : ℕ) (t : TxnDecl) → HasGoodTimes t → 1 ≤ k → IsInRange k t → HasGoodTimes (scaled_txn k t)
 good_at k t h one le =
     let some = some_steps k t.steps one h.steps.0 in
-    record { prio = h.prio; steps = (some, le); period = h.period; deadline = h.deadline; offset = h.offset; quiet = omega (arith, some) }
+    good_with t t.prio (steps_at k t.steps) (quiet_at k t.steps t.quiet) h h.prio (some, le) (omega (arith, some))
 
 good_all : (k : ℕ) (set : Set) → IsCompiled set → 1 ≤ k → All (IsInRange k) set.txns → All HasGoodTimes (map (scaled_txn k) set.txns)
 good_all k set ok one all = All-map HasGoodTimes (scaled_txn k) set.txns (λ i d below. good_at k (get_or set.txns i d) (ok.times i d below) one (all i d below))
@@ -130,17 +131,6 @@ pub same_at_hundred : SameAtHundred
 same_at_hundred set ok = ap (λ (ts : List TxnDecl). record set { txns = ts }) (same_txns set.txns ok.times)
 
 -- acceptance
-
-map_none : {A B : Type 0} (f : A → B) (o : Option A) → option_map f o ≡ None → o ≡ None
-map_none f None h = refl
-map_none f (Some x) h = cc
-
-none_map : {A B : Type 0} (f : A → B) (o : Option A) → o ≡ None → option_map f o ≡ None
-none_map f o h = rw h refl
-
-both_none : {A : Type 0} (a b : Option A) → first_of_both a b ≡ None → (a ≡ None) × (b ≡ None)
-both_none None b h = (refl, h)
-both_none (Some x) b h = cc
 
 pub unbarred : (set : Set) (k : ℕ) → barrier_at set k ≡ None → (compile_refusal (scaled set k) ≡ None) × (refusal (scaled set k) ≡ None)
 unfolding barrier_at

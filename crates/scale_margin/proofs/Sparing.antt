@@ -9,7 +9,7 @@ use Rattle.std.specs.Option.{unwrap_or}
 use Rattle.rt_base.specs.declared.ids.ItemId.{ItemId}
 use Rattle.item_model.specs.declared.decl.ItemDecl.{ItemDecl}
 use Rattle.item_model.specs.declared.decl.ItemKind.{ItemKind}
-use Rattle.item_model.specs.declared.decl.ItemKind.TheVariants.{Sensor, Derived, State}
+use Rattle.item_model.specs.declared.decl.ItemKind.TheVariants.{Sensor, State}
 use Rattle.item_model.specs.Kinds.{validity_of_kind, is_derived_kind, validity_of, is_dated, is_derived}
 use Rattle.txn_set.specs.declared.decl.TxnDecl.{TxnDecl}
 use Rattle.txn_set.specs.Set.{Set, no_txn, txn_of, may_read, AreItemsOf, IsTheWriter, DependsOn, Walk, IsCompiled}
@@ -25,18 +25,15 @@ use Rattle.scale_margin.specs.SlackLaws.{IsSpare, SpareIsLeast}
 
 derived_kind : (k : ItemKind) (n : ℕ) → is_derived_kind (kind_with k n) ≡ is_derived_kind k
 derived_kind (Sensor v) n = refl
-derived_kind (Derived v) n = refl
-derived_kind State n = refl
+derived_kind other n = refl
 
 dated_kind : (k : ItemKind) (n : ℕ) → is_some (validity_of_kind (kind_with k n)) ≡ is_some (validity_of_kind k)
 dated_kind (Sensor v) n = refl
-dated_kind (Derived v) n = refl
-dated_kind State n = refl
+dated_kind other n = refl
 
 given_kind : (k : ItemKind) (n own : ℕ) → validity_of_kind k ≡ Some own → validity_of_kind (kind_with k n) ≡ Some n
-given_kind (Sensor v) n own e = refl
-given_kind (Derived v) n own e = refl
 given_kind State n own e = absurd cc
+given_kind other n own e = refl
 
 abbrev changed : List ItemDecl → ℕ → ℕ → List ItemDecl
 changed ds item n = set ds item (item_with (get_or ds item no_item) n)

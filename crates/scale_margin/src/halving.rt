@@ -7,12 +7,13 @@ ghost use Rattle.scale_margin.specs.Barriers.{barrier_at, IsCause};
 ghost use Rattle.scale_margin.specs.Margins.{IsMargin, IsBetween};
 
 use crate::barrier::{Barrier, Margin};
-use crate::scaling::{copies_of_sets, scaled_txns};
+use crate::scaling::scaled_txns;
 use rt_base::{OutOfMemory, Steps};
 use set_admission::{AdmitError, admit};
 use std::alloc::Global;
 use std::sync::ledger::Ledger;
 use txn_compiler::{CompileError, CompiledSet, compile};
+use txn_set::copies_of_sets;
 
 // The greatest percentage that is tried.
 const GREATEST: u32 = 1000;

@@ -1,9 +1,9 @@
-//! A set at a percentage of its steps.
+//! The transactions of a set at a percentage of its steps.
 ghost use Rattle.std.specs.Prelude.{◌≡◌, ◌≤◌, map, IfOk};
 ghost use Rattle.std.specs.List.{All};
 ghost use Rattle.scale_margin.specs.Scaled.{steps_at as steps_at_percent, scaled_txn as txn_at_percent};
 
-use rt_base::{ItemId, List, OutOfMemory, TogetherDecl};
+use rt_base::OutOfMemory;
 use std::alloc::Global;
 use txn_compiler::TxnDecl;
 
@@ -15,28 +15,16 @@ fn steps_at(percent: u32, steps: u64) -> u64
     (steps * u64::from(percent)).div_ceil(100)
 }
 
-fn copy_of_items(alloc: Global, items: &List<ItemId>) -> Result<List<ItemId>, OutOfMemory>
-    ensures { IfOk result (λ copy. copy ≡ items.now) }
-{
-    Ok(List::of(Vec::from_slice(alloc, items.as_slice())?))
-}
-
 fn scaled_txn(alloc: Global, txn: &TxnDecl, percent: u32) -> Result<TxnDecl, OutOfMemory>
     requires percent { percent ≤ 1000 }
     requires steps { txn.now.steps ≤ 10000 }
     ensures { IfOk result (λ scaled. scaled ≡ txn_at_percent percent txn.now) }
 {
     let steps = steps_at(percent, txn.steps);
-    Ok(TxnDecl {
-        prio: txn.prio,
-        period: txn.period,
-        offset: txn.offset,
-        deadline: txn.deadline,
-        steps,
-        quiet: txn.quiet.min(steps.saturating_sub(1)),
-        reads: copy_of_items(alloc, &txn.reads)?,
-        writes: copy_of_items(alloc, &txn.writes)?,
-    })
+    let mut scaled = txn.copy(alloc)?;
+    scaled.steps = steps;
+    scaled.quiet = txn.quiet.min(steps.saturating_sub(1));
+    Ok(scaled)
 }
 
 /// The transactions with this percentage of their steps.
@@ -54,21 +42,4 @@ pub fn scaled_txns(
         scaled.push(scaled_txn(alloc, txn, percent)?)?;
     }
     Ok(scaled)
-}
-
-/// The relative sets once more.
-pub fn copies_of_sets(
-    alloc: Global,
-    sets: &[TogetherDecl],
-) -> Result<Vec<TogetherDecl>, OutOfMemory>
-    ensures { IfOk result (λ copies. copies.items ≡ sets.now) }
-{
-    let mut copies = Vec::with_capacity(alloc, sets.len())?;
-    for set in sets {
-        copies.push(TogetherDecl {
-            items: copy_of_items(alloc, &set.items)?,
-            within: set.within,
-        })?;
-    }
-    Ok(copies)
 }

@@ -7,12 +7,13 @@ ghost use Rattle.scale_margin.specs.Steps.{IsCount, with_steps as with_steps_of,
 ghost use Rattle.scale_margin.specs.Slacks.{IsSlack, IsBetween};
 
 use crate::limits::Slack;
-use crate::slack_declared::{copies_of_sets, txns_with};
+use crate::slack_declared::txns_with;
 use rt_base::{OutOfMemory, Steps, TxId};
 use set_admission::{AdmitError, AdmittedSet, admit};
 use std::alloc::Global;
 use std::sync::ledger::Ledger;
 use txn_compiler::{CompileError, CompiledSet, compile};
+use txn_set::copies_of_sets;
 
 // The most steps of a transaction.
 const MOST: u64 = 10_000;

@@ -1,5 +1,5 @@
 -- The marks of a walk over a script stand for the reads of the operations before.
-use Rattle.std.proofs.Common.{◌≡◌, ℕ, suc, zero, ◌+◌, ◌<◌, Bool, true, false, List, [], ◌∷◌, ◌++◌, length, map, take, get_or, set, replicate, Option, Some, None, refl, sym, ap, ◌∙◌, inl, inr, arith, length-set}
+use Rattle.std.proofs.Common.{◌≡◌, ℕ, ◌+◌, ◌<◌, Bool, true, false, List, [], ◌∷◌, ◌++◌, length, map, take, get_or, set, replicate, Option, Some, None, refl, sym, ap, ◌∙◌, inl, inr, arith, length-set}
 use Rattle.std.specs.Prelude.{◌||◌, ◌==◌, slice_get, if◌then◌else◌}
 use Rattle.std.specs.Option.{option_or, option_map, option_and_then, option_to_list}
 use Rattle.std.specs.List.{list_any, list_all, All}
@@ -14,6 +14,7 @@ use Rattle.step_script.specs.declared.script.ScriptOp.{ScriptOp}
 use Rattle.step_script.specs.Scripts.{Operation, Program, read, write, compute, commit, quit, operation, program_of, is_good}
 use Rattle.step_script.specs.declared.script.Script.{Script}
 use Rattle.step_script.specs.Scenarios.{IsProgramOver}
+use Rattle.scenario_reader.proofs.Standing.{or_false, get_or_false, any_push}
 use Rattle.scenario_check.specs.declared.kinds.Warning.TheVariants.{UnreadLast}
 use Rattle.scenario_check.specs.Scripts.{is_read_of, unread_in, unread_by, unread_at, mark_of}
 use Rattle.scenario_check.specs.Warnings.{of_last}
@@ -21,20 +22,11 @@ use Rattle.scenario_check.specs.Warnings.{of_last}
 pub record Stand (marks : List Bool) (before : List Operation) : Type 0 where
   pub same : (i : ℕ) → get_or marks i false ≡ list_any (is_read_of i) before
 
-or_false : (b : Bool) → (b || false) ≡ b
-or_false true = refl
-or_false false = refl
-
 or_swap : (x y : Bool) → (x || y) ≡ (y || x)
 or_swap true true = refl
 or_swap true false = refl
 or_swap false true = refl
 or_swap false false = refl
-
-get_or_false : (n i : ℕ) → get_or (replicate n false) i false ≡ false
-get_or_false zero i = refl
-get_or_false (suc n) zero = refl
-get_or_false (suc n) (suc i) = get_or_false n i
 
 pub none_stand : (n : ℕ) (marks : List Bool) (ops : List Operation) → marks ≡ replicate n false
     → Stand marks (take 0 ops)
@@ -63,16 +55,6 @@ after_one marks (write item value) i good = sym (or_false _)
 after_one marks (compute n) i good = sym (or_false _)
 after_one marks commit i good = sym (or_false _)
 after_one marks quit i good = sym (or_false _)
-
-any_push : (p : Operation → Bool) (before : List Operation) (op : Operation)
-    → list_any p (before ++ op ∷ []) ≡ (list_any p before || p op)
-any_push p [] op = or_false (p op)
-any_push p (b ∷ before) op =
-    ap (λ (x : Bool). p b || x) (any_push p before op) ∙ regroup (p b) (list_any p before) (p op)
-  where
-    regroup : (x y z : Bool) → (x || (y || z)) ≡ ((x || y) || z)
-    regroup true y z = refl
-    regroup false y z = refl
 
 op_there : (ops : List ScriptOp) (k : ℕ) (op : ScriptOp) → k < length ops → op ≡ get_or ops k op
     → get_or (map operation ops) k (operation op) ≡ operation op

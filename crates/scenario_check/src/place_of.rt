@@ -1,6 +1,7 @@
 //! The place of a refusal and of a warning, and what its line says besides.
 use crate::found::Refusal;
 use crate::kinds::Warning;
+use refusal_lines::member_of;
 use rt_base::{ItemId, PlanRefused, TxId};
 use scenario_forms::{ItemMember, Place, TxnMember};
 use scenario_reader::ScenarioError;
@@ -44,17 +45,6 @@ fn scenario_place(error: ScenarioError) -> Place {
         | ScenarioError::RoomTooLarge { .. }
         | ScenarioError::EagerTooFar { .. } => Place::Txns,
         ScenarioError::NotJson | ScenarioError::OutOfMemory => Place::Root,
-    }
-}
-
-fn member_of(which: Which) -> TxnMember {
-    match which {
-        Which::Prio => TxnMember::Priority,
-        Which::Steps => TxnMember::Steps,
-        Which::Period => TxnMember::Period,
-        Which::Deadline => TxnMember::Deadline,
-        Which::Offset => TxnMember::Offset,
-        Which::Quiet => TxnMember::Quiet,
     }
 }
 

@@ -1,5 +1,5 @@
 -- Jobs, ticks and entries, transaction by transaction.
-use Rattle.std.proofs.Common.{◌≡◌, ℕ, zero, suc, ◌+◌, ◌*◌, ◌^◌, ◌<◌, ◌≤◌, Bool, true, false, cond, ltb, max, List, [], ◌∷◌, length, map, get_or, drop, Option, Some, None, refl, sym, ap, ◌∙◌, inl, inr, arith}
+use Rattle.std.proofs.Common.{◌≡◌, ℕ, ◌+◌, ◌*◌, ◌^◌, ◌<◌, ◌≤◌, Bool, true, false, cond, ltb, max, List, [], ◌∷◌, length, map, get_or, drop, Option, Some, None, refl, sym, ap, ◌∙◌, inl, inr, arith}
 use Rattle.std.specs.Option.{option_or, option_map}
 use Rattle.std.specs.List.{All}
 use Rattle.std.proofs.lemmas.Bool.{ltb-true, ltb-false}
@@ -10,18 +10,14 @@ use Rattle.std.proofs.Math.Nat.{mul-le-mul_left}
 use Rattle.rt_base.specs.declared.release.PlanRefused.{PlanRefused}
 use Rattle.rt_base.specs.declared.release.PlanRefused.TheVariants.{TooSoon, TooFar}
 use Rattle.txn_set.specs.declared.decl.TxnDecl.{TxnDecl}
+use Rattle.txn_set.specs.Set.{periodic_release}
 use Rattle.txn_set.specs.Ceilings.{greatest}
 use Rattle.step_script.specs.declared.releases.Releases.{Releases}
 use Rattle.step_script.specs.declared.releases.Releases.TheVariants.{At, Jobs, Eager}
 use Rattle.step_script.specs.Releases.{jobs_of, eager_of, is_eager, ticks_of, total_jobs, eager_jobs, refused_tick, refused_from, fixed_ticks, entries_of, entries_in}
 use Rattle.step_script.specs.Scenarios.{HasTextTimes}
+use Rattle.step_script.proofs.Counts.{jobs_at}
 use Rattle.scenario_reader.specs.Planning.{tick_refusal}
-
--- the jobs of one transaction are among all
-jobs_at : (rs : List Releases) (tx : ℕ) (d : Releases) → tx < length rs → jobs_of (get_or rs tx d) ≤ total_jobs rs
-jobs_at [] tx d lt = absurd (omega arith)
-jobs_at (r ∷ rs) zero d lt = omega arith
-jobs_at (r ∷ rs) (suc tx) d lt = omega (arith, jobs_at rs tx d (omega arith))
 
 pub few_at : (rs : List Releases) (tx : ℕ) (r : Releases) → tx < length rs → r ≡ get_or rs tx r → total_jobs rs ≤ 65536
     → jobs_of r ≤ 65536
@@ -40,7 +36,7 @@ eager_few (r ∷ rs) = omega (arith, eager_below r, eager_few rs)
 -- ticks that are fixed, as many as jobs
 pub tick_count : (t : TxnDecl) (r : Releases) → is_eager r ≡ false → length (ticks_of t r) ≡ jobs_of r
 tick_count t (At ticks) fixed = refl
-tick_count t (Jobs n) fixed = length-map-range_with_len (λ k. t.offset + k * t.period) 0 n
+tick_count t (Jobs n) fixed = length-map-range_with_len (λ k. periodic_release t k) 0 n
 tick_count t (Eager n) fixed = absurd cc
 
 -- a tick that is refused, or is not

@@ -38,27 +38,27 @@ then_ok : {A B : Type 0} (r : Result A ScenarioError) (f : A → Result B Scenar
 then_ok (Ok a) f b is = (a, (refl, is))
 then_ok (Err e) f b is = absurd cc
 
-passes : (o : Option ScenarioError) (u : Unit {0}) → pass o ≡ Ok u → o ≡ None
+pub passes : (o : Option ScenarioError) (u : Unit {0}) → pass o ≡ Ok u → o ≡ None
 passes None u is = refl
 passes (Some e) u is = absurd cc
 
-at_most_by : (most n : ℕ) (error : ℕ → ScenarioError) (b : Bool) → ltb most n ≡ b
+pub at_most_by : (most n : ℕ) (error : ℕ → ScenarioError) (b : Bool) → ltb most n ≡ b
     → cond b (Some (error n)) None ≡ None → n ≤ most
 at_most_by most n error true is none = absurd cc
 at_most_by most n error false is none = ltb-false most n is
 
-at_most : (most n : ℕ) (error : ℕ → ScenarioError) (u : Unit {0}) → pass (above most error n) ≡ Ok u → n ≤ most
+pub at_most : (most n : ℕ) (error : ℕ → ScenarioError) (u : Unit {0}) → pass (above most error n) ≡ Ok u → n ≤ most
 at_most most n error u is = at_most_by most n error (ltb most n) refl (passes (above most error n) u is)
 
 -- what is judged well
-record IsJudged (s : Shown) (room : ℕ) : Type 0 where
-  good_scripts : bad_script s ≡ None
-  short_scripts : long_script s ≡ None
-  few_jobs : total_jobs s.releases ≤ 65536
-  planned : bad_release s ≡ None
-  needed : room ≡ room_of s
-  small_room : room_of s ≤ 2 ^ 20
-  eager : eager_end s ≤ 2 ^ 40
+pub record IsJudged (s : Shown) (room : ℕ) : Type 0 where
+  pub good_scripts : bad_script s ≡ None
+  pub short_scripts : long_script s ≡ None
+  pub few_jobs : total_jobs s.releases ≤ 65536
+  pub planned : bad_release s ≡ None
+  pub needed : room ≡ room_of s
+  pub small_room : room_of s ≤ 2 ^ 20
+  pub eager : eager_end s ≤ 2 ^ 40
 
 ok_is : {A : Type 0} (a b : A) → ◌≡◌ {A = Result A ScenarioError} (Ok a) (Ok b) → a ≡ b
 ok_is a b is = cc
@@ -133,7 +133,7 @@ in_order set names = record {
 
 -- The whole.
 
-meets : (d : Data) (f : Formed) (room : ℕ) → forms_at d ≡ Ok f → unknown_name f ≡ None → IsJudged (made_of f) room
+pub meets : (d : Data) (f : Formed) (room : ℕ) → forms_at d ≡ Ok f → unknown_name f ≡ None → IsJudged (made_of f) room
     → IsScenario (with_room room (made_of f))
 meets d f room is known judged =
     let tables = forms_have d f is in
@@ -164,7 +164,7 @@ meets d f room is known judged =
       eager = judged.eager;
     }
 
-formed_ok : (r : Result Formed FormError) (f : Formed) → formed r ≡ Ok f → r ≡ Ok f
+pub formed_ok : (r : Result Formed FormError) (f : Formed) → formed r ≡ Ok f → r ≡ Ok f
 formed_ok (Ok g) f is = ap Ok cc
 formed_ok (Err e) f is = absurd cc
 

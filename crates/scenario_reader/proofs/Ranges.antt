@@ -46,7 +46,7 @@ use Rattle.scenario_reader.proofs.Tables.{folded, IsItemTable, items_hold, after
 abbrev IfForm : {A : Type 0} → (A → Type 0) → (Data → Option A) → Type 0
 IfForm P form = (d : Data) → IfSome (form d) P
 
-needed_holds : {A : Type 0} (P : A → Type 0) (place : Place) (o : Option A) → IfSome o P → Holds P (needed place o)
+pub needed_holds : {A : Type 0} (P : A → Type 0) (place : Place) (o : Option A) → IfSome o P → Holds P (needed place o)
 needed_holds P place None h = tt
 needed_holds P place (Some x) h = h
 

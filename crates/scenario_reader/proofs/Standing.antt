@@ -29,7 +29,7 @@ or_assoc true true c = refl
 or_assoc true false c = refl
 or_assoc false b c = refl
 
-or_false : (b : Bool) → (b || false) ≡ b
+pub or_false : (b : Bool) → (b || false) ≡ b
 or_false true = refl
 or_false false = refl
 
@@ -62,7 +62,7 @@ marks_name (x ∷ xs) marks i lt =
     ∙ ap (λ (b : Bool). names_item xs i || b) (marked_once marks x.0 i lt)
     ∙ sym (or_assoc (x.0 == i) (names_item xs i) (get_or marks i false))
 
-get_or_false : (n i : ℕ) → get_or (replicate n false) i false ≡ false
+pub get_or_false : (n i : ℕ) → get_or (replicate n false) i false ≡ false
 get_or_false zero i = refl
 get_or_false (suc n) zero = refl
 get_or_false (suc n) (suc i) = get_or_false n i
@@ -99,7 +99,7 @@ steps_push : (before : List Operation) (op : Operation) → steps_of (before ++ 
 steps_push [] op = omega arith
 steps_push (b ∷ before) op = omega (arith, steps_push before op)
 
-any_push : (p : Operation → Bool) (before : List Operation) (op : Operation)
+pub any_push : (p : Operation → Bool) (before : List Operation) (op : Operation)
     → list_any p (before ++ op ∷ []) ≡ (list_any p before || p op)
 any_push p [] op = or_false (p op)
 any_push p (b ∷ before) op =

@@ -12,11 +12,12 @@ use Rattle.law_histories.specs.Sim.{Workload, IsSim}
 use Rattle.sim_run.specs.Runs.{IsWhole, IsStopped}
 use Rattle.job_rows.specs.Upkeep.{Follows, planned_jobs}
 use Rattle.report_text.specs.Texts.{entries_text, NamesSet}
+use Rattle.job_rows.proofs.Fronts.{legal_front, planned_front}
 use Rattle.scenario_run.specs.declared.standing.ReportStanding.{ReportStanding}
 use Rattle.scenario_run.specs.declared.standing.ReportStanding.TheVariants.{Going, Cut, Full}
 use Rattle.scenario_run.specs.ReportOuts.{Begun, OutSeen, IsGoing, HasTaken, IsLost, full_stops}
 use Rattle.scenario_run.specs.ReportLaws.{IsFrontOf}
-use Rattle.scenario_run.proofs.Texts.{legal_front, planned_front, text_append}
+use Rattle.scenario_run.proofs.Texts.{text_append}
 use Rattle.scenario_run.proofs.Taking.{going}
 use Rattle.scenario_run.proofs.Stopping.{has_front}
 use Rattle.scenario_run.specs.Lines.{HasLines, HasFirstLines}

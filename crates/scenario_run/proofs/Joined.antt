@@ -1,10 +1,8 @@
 -- A journal's entries beside those of a history that goes on.
-use Rattle.std.proofs.Common.{◌≡◌, ℕ, zero, suc, ◌+◌, ◌<◌, inl, inr, min, List, [], ◌∷◌, ◌++◌, take, drop, length, None, refl, sym, ap, subst, ◌∙◌, arith, append_assoc, append-nil}
-use Rattle.std.specs.Prelude.{slice_get}
-use Rattle.std.proofs.lemmas.List.{length-take, take_all}
-use Rattle.std.proofs.lemmas.Option.{slice_get_past}
+use Rattle.std.proofs.Common.{◌≡◌, ℕ, zero, suc, ◌+◌, ◌<◌, inl, inr, min, List, [], ◌∷◌, ◌++◌, take, drop, length, refl, sym, ap, subst, ◌∙◌, arith, append_assoc, append-nil}
+use Rattle.std.proofs.lemmas.List.{length-take}
 use Rattle.std.proofs.lemmas.Bool.{cases_lt}
-use Rattle.std.proofs.Math.Seq.{take-length, take-nil, drop-nil}
+use Rattle.std.proofs.Math.Seq.{take-nil, drop-nil}
 use Rattle.std.proofs.Math.ListN.{drop_of_length-le}
 use Rattle.txn_set.specs.Set.{Set}
 use Rattle.step_journal.specs.declared.entry.Entry.{Entry}
@@ -121,16 +119,3 @@ other_on (t ∷ there) (x ∷ history) rest (suc place) lt h =
     let less : IsFirstOther there history place = record { same = cc; within = omega (arith, h.within); other = h.other } in
     subst (λ (z : Entry). IsFirstOther (t ∷ there) (z ∷ (history ++ rest)) (suc place)) head
     (other_next t there (history ++ rest) place (other_on there history rest place (omega (arith, lt)) less))
-
-some_within : (xs : List Entry) (i : ℕ) → i < length xs → slice_get xs i ≡ None → ⊥
-some_within [] i lt h = absurd (omega (arith, lt))
-some_within (x ∷ xs) zero lt h = absurd cc
-some_within (x ∷ xs) (suc i) lt h = some_within xs i (omega (arith, lt)) h
-
--- behind the end of a history
-pub other_beyond : (there history : List Entry) → Agree there history → length history < length there → IsFirstOther there history (length history)
-other_beyond there history h lt = record {
-  same = h ∙ (take_all (length there) history (omega (arith, lt)) ∙ sym (take-length history));
-  within = lt;
-  other = λ e. some_within there (length history) lt (e ∙ slice_get_past history (length history) (omega arith));
-}

@@ -7,16 +7,16 @@ use Rattle.std.proofs.Math.Seq.{take-nil}
 use Rattle.std.proofs.lemmas.Bool.{cases_lt}
 use Rattle.durable_disk.specs.Device.{LeavesOnly}
 use Rattle.report_text.specs.Texts.{NamesSet}
-use Rattle.durable_journal.proofs.Runs.{started, some_none, each_told}
+use Rattle.durable_journal.proofs.Runs.{started, some_none}
 use Rattle.durable_journal.proofs.Crash.{weaken}
+use Rattle.durable_disk.proofs.Calls.{each_told}
+use Rattle.job_rows.proofs.Fronts.{legal_front}
 use Rattle.scenario_run.proofs.Fronts.{begins_of_agree}
-use Rattle.io_edge.specs.Causes.{Rose}
 use Rattle.rt_base.specs.Names.{AreNames}
 use Rattle.rt_base.specs.declared.name.Names.{Names}
 use Rattle.txn_set.specs.Set.{Set}
 use Rattle.step_journal.specs.declared.entry.Entry.{Entry}
 use Rattle.step_journal.specs.History.{IsLegal}
-use Rattle.scenario_run.proofs.Texts.{legal_front}
 use Rattle.law_histories.specs.Sim.{Workload, IsSim}
 use Rattle.sim_run.specs.Handed.{CanTake}
 use Rattle.sim_run.specs.Runs.{IsStopped}
@@ -108,7 +108,7 @@ module _ {D : Type 0} (seen : D → Option (List ℕ)) (may_leave : D → List �
 
 -- ---- what the disk holds after a whole run
 
-fits_in : (there history : List Entry) → Begins there history → length there ≤ length history
+pub fits_in : (there history : List Entry) → Begins there history → length there ≤ length history
 fits_in there history h = omega (arith, length-take (length there) history, ap (λ (l : List Entry). length l) h)
 
 pub whole_rest : (there history : List Entry) → Begins there history → with_rest there history ≡ history
@@ -149,16 +149,6 @@ kept_run {D} seen may_leave moment left_since begun w stands names log there kep
     })
 
 -- ---- a run whose entries are kept
-
-pub can_keep : (kept history : List Entry) (room : ℕ) → kept ≡ [] → length history ≤ room → CanTake (λ story. kept ≡ story) (λ story. length story ≤ room) history
-can_keep kept history room empty fits = λ n. record {
-  begun = [];
-  is_got = empty;
-  is_good = omega (arith, fits, length-append (take n history) (drop n history), ap (λ (l : List Entry). length l) (take-append-drop n history));
-}
-
-pub not_rose : Rose 0 0 → ⊥
-not_rose h = omega (arith, h)
 
 pub too_few : (there history : List Entry) → Begins there history → length history < length there → ⊥
 too_few there history begins more = omega (arith, fits_in there history begins, more)

@@ -5,8 +5,8 @@ use Rattle.std.proofs.Math.Seq.{take-append-add}
 use Rattle.txn_set.specs.Set.{Set}
 use Rattle.step_journal.specs.declared.entry.Entry.{Entry}
 use Rattle.step_journal.specs.History.{IsLegal}
+use Rattle.job_rows.proofs.Fronts.{legal_front}
 use Rattle.scenario_run.specs.ReportOuts.{Begun, OutSeen, IsGoing, HasTaken, IsLost}
-use Rattle.scenario_run.proofs.Texts.{legal_front}
 use Rattle.scenario_run.proofs.Taking.{going}
 
 -- a front and the piece after it

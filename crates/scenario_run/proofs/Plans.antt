@@ -11,7 +11,7 @@ use Rattle.step_journal.specs.Running.{running}
 use Rattle.step_journal.specs.History.{state_of}
 use Rattle.law_histories.specs.Sim.{Workload, IsSim, IsFixed, plans, plans_from, event_in, event_for}
 use Rattle.job_rows.specs.Upkeep.{planned_jobs}
-use Rattle.scenario_run.proofs.Texts.{planned_append}
+use Rattle.job_rows.proofs.Fronts.{planned_both as planned_append}
 
 planned_each : (tx : TxId) (ticks : List ℕ) → planned_jobs (map (Planned tx) ticks) ≡ length ticks
 planned_each tx [] = refl

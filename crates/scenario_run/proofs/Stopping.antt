@@ -6,11 +6,12 @@ use Rattle.std.specs.Io.KnownBytes.{Appends}
 use Rattle.step_journal.specs.declared.entry.Entry.{Entry}
 use Rattle.job_rows.specs.Upkeep.{planned_jobs}
 use Rattle.report_text.specs.Texts.{entries_text}
+use Rattle.job_rows.proofs.Fronts.{legal_front, planned_both as planned_append}
 use Rattle.scenario_run.specs.declared.standing.ReportStanding.{ReportStanding}
 use Rattle.scenario_run.specs.declared.standing.ReportStanding.TheVariants.{Going, Cut, Full}
 use Rattle.scenario_run.specs.ReportOuts.{Begun, OutSeen, IsGoing, IsBefore, IsCut, IsOver, TakenAt, LostAt}
 use Rattle.scenario_run.specs.ReportLaws.{IsFrontOf, AfterCut, AfterFull, HasFront}
-use Rattle.scenario_run.proofs.Texts.{legal_front, planned_append, text_append, front_of}
+use Rattle.scenario_run.proofs.Texts.{text_append, front_of}
 
 -- two beginnings of one text, of one length, are one
 same_front : (a b xs ys : List ℕ) → length a ≡ length b → a ++ xs ≡ b ++ ys → a ≡ b

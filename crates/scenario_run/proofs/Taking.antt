@@ -8,11 +8,12 @@ use Rattle.step_journal.specs.History.{IsLegal}
 use Rattle.law_histories.proofs.CountingAll.{entries_few}
 use Rattle.job_rows.specs.Upkeep.{RowsSeen, Follows, planned_jobs}
 use Rattle.report_text.specs.Texts.{entries_text, NamesSet}
+use Rattle.job_rows.proofs.Fronts.{legal_front, planned_both as planned_append}
 use Rattle.scenario_run.specs.declared.standing.ReportStanding.{ReportStanding}
 use Rattle.scenario_run.specs.declared.standing.ReportStanding.TheVariants.{Going, Cut, Full}
 use Rattle.scenario_run.specs.ReportOuts.{Begun, OutSeen, IsGoing, TakenAt, LostAt, HasTaken, IsLost}
 use Rattle.run_report.specs.Report.{Continues}
-use Rattle.scenario_run.proofs.Texts.{legal_front, planned_append, text_append, appends_none}
+use Rattle.scenario_run.proofs.Texts.{text_append, appends_none}
 use Rattle.io_edge.proofs.Known.{appends_then}
 
 -- an out that lost nothing goes on

@@ -2,35 +2,19 @@
 use Rattle.std.proofs.Common.{◌≡◌, ℕ, zero, suc, ◌+◌, ◌-◌, ◌*◌, ◌<◌, ◌≤◌, List, [], ◌∷◌, ◌++◌, take, drop, length, get_or, Option, None, Some, Result, Ok, Err, OnOk, OnErr, refl, sym, ap, subst, ◌∙◌, arith, length-append, append_assoc, append-nil, drop-cons, add-one}
 use Rattle.std.proofs.lemmas.List.{take-append-drop, take_all, length-drop}
 use Rattle.std.proofs.Math.Seq.{take-append_seam, take-nil}
-use Rattle.std.proofs.Math.ListN.{drop_of_length-le}
-use Rattle.std.specs.List.{filter}
 use Rattle.std.specs.Io.KnownBytes.{Appends}
-use Rattle.std.proofs.lemmas.List.Elements.{filter-append}
 use Rattle.rt_base.specs.declared.name.Names.{Names}
 use Rattle.txn_set.specs.Set.{Set}
 use Rattle.step_journal.specs.declared.entry.Entry.{Entry}
-use Rattle.step_journal.specs.State.{State}
-use Rattle.step_journal.specs.History.{IsLegal, IsLegalFrom, state_after}
-use Rattle.job_rows.specs.Upkeep.{RowsSeen, Follows, is_plan, planned_jobs}
-use Rattle.report_text.specs.Rows.{numbered}
+use Rattle.step_journal.specs.History.{IsLegal}
+use Rattle.job_rows.specs.Upkeep.{RowsSeen, Follows, planned_jobs}
 use Rattle.report_text.specs.Texts.{entries_text, whole_entry_line}
 use Rattle.run_report.specs.Report.{Continues}
 use Rattle.io_edge.proofs.Known.{appends_then}
+use Rattle.job_rows.proofs.Fronts.{legal_front, planned_front}
+use Rattle.run_report.proofs.Writing.{any_place}
 
 -- ---- fronts of histories
-
-legal_from : (set : Set) (s : State) (xs ys : List Entry) → IsLegalFrom set s (xs ++ ys) → IsLegalFrom set s xs
-legal_from set s [] ys h = tt
-legal_from set s (e ∷ xs) ys h = (h.0, legal_from set (state_after set s e) xs ys h.1)
-
-pub legal_front : (set : Set) (xs ys : List Entry) → IsLegal set (xs ++ ys) → IsLegal set xs
-legal_front set xs ys h = legal_from set _ xs ys h
-
-pub planned_append : (xs ys : List Entry) → planned_jobs (xs ++ ys) ≡ planned_jobs xs + planned_jobs ys
-planned_append xs ys = ap (λ (l : List Entry). length l) (filter-append is_plan xs ys) ∙ length-append (filter is_plan xs) (filter is_plan ys)
-
-pub planned_front : (xs ys : List Entry) → planned_jobs xs ≤ planned_jobs (xs ++ ys)
-planned_front xs ys = omega (arith, planned_append xs ys)
 
 -- the first so many of the entries after a place
 take_plus : (i n : ℕ) (entries : List Entry) → take (i + n) entries ≡ take i entries ++ take n (drop i entries)
@@ -95,11 +79,6 @@ follows_more rows now now' entries i n so_far next set story h legal =
     subst (Follows set now') (sym front) (next set (story ++ take i entries) (so_far set story h legal) here)
 
 -- ---- their lines
-
--- a line does not use its place
-any_place : (names : Names) (i j : ℕ) (entries : List Entry) → numbered (whole_entry_line names) i entries ≡ numbered (whole_entry_line names) j entries
-any_place names i j [] = refl
-any_place names i j (e ∷ es) = ap (λ (t : List ℕ). whole_entry_line names 0 e ++ t) (any_place names (i + 1) (j + 1) es)
 
 pub text_append : (names : Names) (xs ys : List Entry) → entries_text names (xs ++ ys) ≡ entries_text names xs ++ entries_text names ys
 text_append names [] ys = refl
@@ -205,14 +184,6 @@ counted_next names entries i n bytes more c text few =
     let next = ap (λ (t : List ℕ). length t) (text_parts names entries i n) ∙ length-append (entries_text names (take n (drop i entries))) (entries_text names (drop (i + n) entries)) in
     record { all = omega (arith, c.all, next, text); short = omega (arith, c.short, few) }
 
-pub counted_all : (names : Names) (entries : List Entry) (i bytes : ℕ) → AreCounted names entries i bytes → length entries ≤ i → i ≤ length entries
-    → (bytes ≡ length (entries_text names entries)) × (bytes ≤ 256 * length entries)
-counted_all names entries i bytes c le within =
-    let none = ap (λ (l : List Entry). length (entries_text names l)) (drop_of_length-le entries le) in (
-      omega (arith, c.all, none),
-      omega (arith, c.short, within),
-    )
-
 -- ---- by the answer
 
 pub on_ok : {A E P Q : Type 0} (r : Result A E) → (P → Q) → OnOk r P → OnOk r Q
@@ -226,10 +197,6 @@ on_err (Err e) f h = f h
 pub always_err : {A E P : Type 0} (r : Result A E) → P → OnErr r P
 always_err (Ok x) h = tt
 always_err (Err e) h = h
-
-pub always_ok : {A E P : Type 0} (r : Result A E) → P → OnOk r P
-always_ok (Ok x) h = h
-always_ok (Err e) h = tt
 
 -- ---- fronts of texts
 

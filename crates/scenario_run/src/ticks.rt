@@ -9,7 +9,7 @@ use std::alloc::Global;
 use step_script::Releases;
 use txn_set::TxnDecl;
 
-// So many ticks, each a period after the one before.
+// So many periodic releases.
 fn periodic(alloc: Global, txn: &TxnDecl, jobs: u32) -> Result<List<Tick>, OutOfMemory>
     requires times { HasTextTimes txn.now }
     requires few { jobs ≤ 65536 }
@@ -17,7 +17,7 @@ fn periodic(alloc: Global, txn: &TxnDecl, jobs: u32) -> Result<List<Tick>, OutOf
 {
     let mut ticks = Vec::with_capacity(alloc, jobs as usize)?;
     for k in 0..u64::from(jobs) {
-        ticks.push(txn.offset + k * txn.period)?;
+        ticks.push(txn.periodic_release(k))?;
     }
     Ok(List::of(ticks))
 }

@@ -8,14 +8,15 @@ use Rattle.std.proofs.Math.Nat.{add-mul, mul-le-mul_left, mul-le-mul_right}
 use Rattle.rt_base.specs.declared.release.PlanRefused.{PlanRefused}
 use Rattle.rt_base.specs.declared.release.PlanRefused.TheVariants.{TooSoon, TooFar}
 use Rattle.txn_set.specs.declared.decl.TxnDecl.{TxnDecl}
+use Rattle.txn_set.specs.Set.{periodic_release}
 use Rattle.txn_set.specs.Ceilings.{greatest}
 use Rattle.step_script.specs.declared.releases.Releases.TheVariants.{Jobs}
 use Rattle.step_script.specs.Releases.{total_jobs, eager_jobs, fixed_ticks, ticks_of, refused_tick, refused_from, entries_in}
 use Rattle.scenario_writer.specs.Generated.{each, txn_decl, releases_each, jobs_each, period_of}
 
 -- ticks a period apart are planned
-abbrev ticks_from : ℕ → ℕ → ℕ → ℕ → List ℕ
-ticks_from offset period a m = map (λ k. offset + k * period) (range_with_len a m)
+abbrev ticks_from : TxnDecl → ℕ → ℕ → List ℕ
+ticks_from t a m = map (λ k. periodic_release t k) (range_with_len a m)
 
 not_refused : (soon far : Bool) (x y : ℕ × PlanRefused) (o : Option (ℕ × PlanRefused)) → soon ≡ false → far ≡ false
     → o ≡ None
@@ -23,29 +24,29 @@ not_refused : (soon far : Bool) (x y : ℕ × PlanRefused) (o : Option (ℕ × P
 not_refused soon far x y o e f g = ap (λ (b : Bool). cond b (Some x) (cond far (Some y) o)) e
     ∙ ap (λ (b : Bool). cond b (Some y) o) f ∙ g
 
-all_planned : (offset period a m index earliest : ℕ) → earliest ≤ offset + a * period
-    → offset + (a + m) * period ≤ 2 ^ 40
-    → refused_tick index earliest period (ticks_from offset period a m) ≡ None
-all_planned offset period a zero index earliest low high = refl
-all_planned offset period a (suc m) index earliest low high =
-    let step : (a + 1) * period ≡ a * period + 1 * period = add-mul a 1 period in
-    let same : (a + 1 + m) * period ≡ (a + suc m) * period =
-    (let e : a + 1 + m ≡ a + suc m = omega arith in ap (λ (k : ℕ). k * period) e) in
-    let within : a * period ≤ (a + suc m) * period = mul-le-mul_right {m = a} {n = a + suc m} period (omega arith) in
-    not_refused (nat_lt (offset + a * period) earliest) (nat_lt (2 ^ 40) (offset + a * period))
+all_planned : (t : TxnDecl) (a m index earliest : ℕ) → earliest ≤ periodic_release t a
+    → periodic_release t (a + m) ≤ 2 ^ 40
+    → refused_tick index earliest t.period (ticks_from t a m) ≡ None
+all_planned t a zero index earliest low high = refl
+all_planned t a (suc m) index earliest low high =
+    let step : (a + 1) * t.period ≡ a * t.period + 1 * t.period = add-mul a 1 t.period in
+    let same : (a + 1 + m) * t.period ≡ (a + suc m) * t.period =
+    (let e : a + 1 + m ≡ a + suc m = omega arith in ap (λ (k : ℕ). k * t.period) e) in
+    let within : a * t.period ≤ (a + suc m) * t.period = mul-le-mul_right {m = a} {n = a + suc m} t.period (omega arith) in
+    not_refused (nat_lt (periodic_release t a) earliest) (nat_lt (2 ^ 40) (periodic_release t a))
     (index, TooSoon earliest)
-    (index, TooFar (2 ^ 40)) _ (le-ltb (offset + a * period) earliest low) (le-ltb (2 ^ 40) (offset + a * period)
+    (index, TooFar (2 ^ 40)) _ (le-ltb (periodic_release t a) earliest low) (le-ltb (2 ^ 40) (periodic_release t a)
     (omega arith))
-    (all_planned offset period (a + 1) m (index + 1) (offset + a * period + period) (omega arith) (omega arith))
+    (all_planned t (a + 1) m (index + 1) (periodic_release t a + t.period) (omega arith) (omega arith))
 
 -- the last job of each transaction is early
 bound : (n i : ℕ) → n ≤ 64 → 3 * (n - 1 - i) + (0 + jobs_each) * period_of n ≤ 2 ^ 40
 bound n i few = let most : 256 * period_of n ≤ 256 * 520 = mul-le-mul_left {m = period_of n} {n = 520} 256
     (omega arith) in omega arith
 
-jobs_planned : (t : TxnDecl) (m : ℕ) → t.offset + (0 + m) * t.period ≤ 2 ^ 40
+jobs_planned : (t : TxnDecl) (m : ℕ) → periodic_release t (0 + m) ≤ 2 ^ 40
     → refused_tick 0 0 t.period (ticks_of t (Jobs m)) ≡ None
-jobs_planned t m low = all_planned t.offset t.period 0 m 0 0 (omega arith) low
+jobs_planned t m low = all_planned t 0 m 0 0 (omega arith) low
 
 -- the jobs of one transaction
 one_planned : (n i : ℕ) → n ≤ 64 → refused_tick 0 0 (txn_decl n i).period (ticks_of (txn_decl n i)
@@ -93,22 +94,22 @@ pub room : (n : ℕ) → entries_in (each (txn_decl n) n) (each releases_each n)
 room n = room_from n 0 n
 
 -- the last tick
-low_ticks : (offset period a m most : ℕ) → offset + (a + m) * period ≤ most
-    → greatest (ticks_from offset period a m) ≤ most
-low_ticks offset period a zero most low = omega arith
-low_ticks offset period a (suc m) most low =
-    let same : (a + 1 + m) * period ≡ (a + suc m) * period =
-    (let e : a + 1 + m ≡ a + suc m = omega arith in ap (λ (k : ℕ). k * period) e) in
-    let within : a * period ≤ (a + suc m) * period = mul-le-mul_right {m = a} {n = a + suc m} period (omega arith) in
-    let rest : greatest (ticks_from offset period (a + 1) m) ≤ most = low_ticks offset period (a + 1) m most
+low_ticks : (t : TxnDecl) (a m most : ℕ) → periodic_release t (a + m) ≤ most
+    → greatest (ticks_from t a m) ≤ most
+low_ticks t a zero most low = omega arith
+low_ticks t a (suc m) most low =
+    let same : (a + 1 + m) * t.period ≡ (a + suc m) * t.period =
+    (let e : a + 1 + m ≡ a + suc m = omega arith in ap (λ (k : ℕ). k * t.period) e) in
+    let within : a * t.period ≤ (a + suc m) * t.period = mul-le-mul_right {m = a} {n = a + suc m} t.period (omega arith) in
+    let rest : greatest (ticks_from t (a + 1) m) ≤ most = low_ticks t (a + 1) m most
     (omega arith) in
     omega arith
 
 max_low : (a b most : ℕ) → a ≤ most → b ≤ most → max a b ≤ most
 max_low a b most h g = omega arith
 
-jobs_low : (t : TxnDecl) (m most : ℕ) → t.offset + (0 + m) * t.period ≤ most → greatest (ticks_of t (Jobs m)) ≤ most
-jobs_low t m most low = low_ticks t.offset t.period 0 m most low
+jobs_low : (t : TxnDecl) (m most : ℕ) → periodic_release t (0 + m) ≤ most → greatest (ticks_of t (Jobs m)) ≤ most
+jobs_low t m most low = low_ticks t 0 m most low
 
 low_from : (n a m : ℕ) → n ≤ 64
     → greatest (map greatest (fixed_ticks (map (txn_decl n) (range_with_len a m)) (map releases_each

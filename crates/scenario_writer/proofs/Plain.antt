@@ -161,18 +161,15 @@ each_item (n ∷ ns) (d ∷ ds) (suc k) e lt = each_item ns ds k e (omega arith)
 
 plain_ticks : (r : Releases) → IfPlain 66 (ticks_data r)
 plain_ticks (At ticks) = plain_mapped 65 whole ticks (λ k d lt. plain_whole 65 _)
-plain_ticks (Jobs n) = tt
-plain_ticks (Eager n) = tt
+plain_ticks other = tt
 
 plain_jobs : (r : Releases) → IfPlain 66 (jobs_data r)
-plain_jobs (At ticks) = tt
 plain_jobs (Jobs n) = plain_whole 66 n
-plain_jobs (Eager n) = tt
+plain_jobs other = tt
 
 plain_eager : (r : Releases) → IfPlain 66 (eager_data r)
-plain_eager (At ticks) = tt
-plain_eager (Jobs n) = tt
 plain_eager (Eager n) = plain_whole 66 n
+plain_eager other = tt
 
 plain_quiet : (second : Bool) (quiet : ℕ) → IfPlain 66 (quiet_data second quiet)
 plain_quiet true quiet = plain_whole 66 quiet

@@ -109,18 +109,15 @@ item_data name decl = object
 -- of the three forms of releases the one that stands
 abbrev pub ticks_data : Releases → Option Data
 ticks_data (At ticks) = Some (array_of (map whole ticks))
-ticks_data (Jobs n) = None
-ticks_data (Eager n) = None
+ticks_data other = None
 
 abbrev pub jobs_data : Releases → Option Data
-jobs_data (At ticks) = None
 jobs_data (Jobs n) = Some (whole n)
-jobs_data (Eager n) = None
+jobs_data other = None
 
 abbrev pub eager_data : Releases → Option Data
-eager_data (At ticks) = None
-eager_data (Jobs n) = None
 eager_data (Eager n) = Some (whole n)
+eager_data other = None
 
 abbrev pub quiet_data : Bool → ℕ → Option Data
 quiet_data second quiet = if second then Some (whole quiet) else None

@@ -6,6 +6,7 @@ use Rattle.rt_base.specs.declared.ids.ItemId.{ItemId}
 use Rattle.item_model.specs.declared.decl.ItemDecl.{ItemDecl}
 use Rattle.item_model.specs.declared.decl.ItemKind.TheVariants.{Sensor, Derived, State}
 use Rattle.txn_set.specs.declared.decl.TxnDecl.{TxnDecl}
+use Rattle.txn_set.specs.Set.{declared, released_from}
 use Rattle.step_script.specs.declared.expr.BinOp.TheVariants.{Add}
 use Rattle.step_script.specs.Values.{leaf_const, leaf_serial, leaf_last, node}
 use Rattle.step_script.specs.Scripts.{Operation, read, write, compute, commit, Program}
@@ -41,16 +42,10 @@ abbrev pub txn_name : ℕ → List ℕ
 txn_name i = codes "t" ++ decimal i
 
 abbrev pub txn_decl : ℕ → ℕ → TxnDecl
-txn_decl n i = record {
-  prio = n - i;
-  period = period_of n;
-  offset = 3 * (n - 1 - i);
-  deadline = period_of n;
-  steps = 4;
-  quiet = 0;
-  reads = if is_even i then [] else item_id (i - 1) ∷ [];
-  writes = if is_even i then item_id i ∷ [] else item_id i ∷ item_id n ∷ [];
-}
+txn_decl n i =
+    let reads = if is_even i then [] else item_id (i - 1) ∷ [] in
+    let writes = if is_even i then item_id i ∷ [] else item_id i ∷ item_id n ∷ [] in
+    released_from (3 * (n - 1 - i)) (declared (n - i) (period_of n) 4 reads writes)
 
 abbrev pub even_ops : ℕ → List Operation
 even_ops i = write (item_id i) leaf_serial ∷ compute 2 ∷ commit ∷ []

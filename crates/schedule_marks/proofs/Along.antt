@@ -18,18 +18,18 @@ use Rattle.schedule_marks.specs.Marks.{until_of, lock_by, shows_lock, earlier_wr
 
 -- ---- a lock whose job ends before the part, or takes it after the part, is not drawn
 
-earlier_most : (job : JobId) (item : ItemId) (to : ℕ) (e : Entry) → earlier_write job item to e ≤ to
+pub earlier_most : (job : JobId) (item : ItemId) (to : ℕ) (e : Entry) → earlier_write job item to e ≤ to
 earlier_most job item to (Step by op outcome over tick) = at (shows_lock job item true (Step by op outcome over tick)) where
   at : (b : Bool) → cond b (min tick to) to ≤ to
   at true = omega arith
   at false = omega arith
 earlier_most job item to e = omega arith
 
-until_most : (job : JobId) (item : ItemId) (to : ℕ) (es : List Entry) → until_write job item to es ≤ to
+pub until_most : (job : JobId) (item : ItemId) (to : ℕ) (es : List Entry) → until_write job item to es ≤ to
 until_most job item to [] = omega arith
 until_most job item to (e ∷ es) = omega (arith, until_most job item (earlier_write job item to e) es, earlier_most job item to e)
 
-lock_most : (job : JobId) (item : ItemId) (is_write : Bool) (to : ℕ) (es : List Entry) → lock_until job item is_write to es ≤ to
+pub lock_most : (job : JobId) (item : ItemId) (is_write : Bool) (to : ℕ) (es : List Entry) → lock_until job item is_write to es ≤ to
 lock_most job item true to es = omega arith
 lock_most job item false to es = until_most job item to es
 

@@ -1,5 +1,6 @@
 -- Where ticks, transactions, locks and ceilings stand in a picture, in pixels.
 use Rattle.std.specs.Prelude.{ℕ, zero, suc, ◌^◌, ◌+◌, ◌-◌, ◌*◌, ◌/◌, ◌==◌, Bool, min, max, nat_lt, nat_le, List, [], ◌∷◌, length, map, position, slice_index_or, Option, Some, None, if◌then◌else◌}
+use Rattle.std.specs.List.{count_by}
 use Rattle.std.specs.Option.{unwrap_or}
 use Rattle.rt_base.specs.declared.name.Names.{Names}
 use Rattle.rt_base.specs.declared.ids.ItemId.{ItemId}
@@ -65,8 +66,7 @@ middle_of view tick = x_of view tick + width_of view / 2
 
 -- how many transactions have at most this priority
 abbrev pub level_of : List TxnDecl → ℕ → ℕ
-level_of [] prio = 0
-level_of (t ∷ ts) prio = (if nat_le t.prio prio then 1 else 0) + level_of ts prio
+level_of txns prio = count_by (λ t. nat_le t.prio prio) txns
 
 abbrev pub level_y : Set → ℕ → ℕ
 level_y set prio = 100 + 14 * (length set.txns - level_of set.txns prio)

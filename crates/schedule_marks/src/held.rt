@@ -57,19 +57,18 @@ pub(crate) fn present_row(window: Window, row: &JobRow) -> Option<JobRow>
     (row.release <= window.part.to && window.part.from <= until(window.stop, row)).then_some(*row)
 }
 
-fn wait(part: Part, job: JobId, by: JobId, from: Tick, to: Tick) -> Option<Mark>
-    ensures { result ≡ wait_mark part job by from to }
-{
-    meets(part, from, to).then_some(Mark::Wait { job, by, from, to })
-}
-
 pub(crate) fn wait_of(window: Window, rows: &[JobRow], entry: &Entry) -> Option<Mark>
     ensures { result ≡ wait_in window.part window.stop rows.now entry.now }
 {
     match *entry {
         Entry::Blocked { job, by, tick, .. } => {
             let to = until_of(window.stop, rows, job).min(until_of(window.stop, rows, by));
-            wait(window.part, job, by, tick, to)
+            meets(window.part, tick, to).then_some(Mark::Wait {
+                job,
+                by,
+                from: tick,
+                to,
+            })
         }
         _ => None,
     }
@@ -156,12 +155,7 @@ fn is_showing(lock: ItemLock, entry: &Entry) -> bool
 fn is_shown(lock: ItemLock, entries: &[Entry]) -> bool
     ensures { result ≡ list_any (shows_lock lock.job lock.item lock.is_write) entries.now }
 {
-    for entry in entries {
-        if is_showing(lock, entry) {
-            return true;
-        }
-    }
-    false
+    entries.iter().any(|entry| is_showing(lock, entry))
 }
 
 // The tick of the job's write of the item, if that is earlier than this one.
@@ -191,11 +185,7 @@ fn held_until(lock: ItemLock, end: Tick, after: &[Entry]) -> Tick
     if lock.is_write {
         return end;
     }
-    let mut to = end;
-    for entry in after {
-        to = earlier(lock, to, entry);
-    }
-    to
+    after.iter().fold(end, |to, entry| earlier(lock, to, entry))
 }
 
 /// The lock that an entry takes, between the entries before it and those after it, where it lasts in the part. It goes over

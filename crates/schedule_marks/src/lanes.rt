@@ -309,14 +309,8 @@ pub fn age_spans(
 fn read_of(entries: &[Entry], job: JobId, item: ItemId) -> Option<OutsideRead>
     ensures { result ≡ read_of_item entries.now job item.0 }
 {
-    for entry in entries {
-        if let Some(read) = read_of_entry(job, entry) {
-            if read.item.0 == item.0 {
-                return Some(read);
-            }
-        }
-    }
-    None
+    let mut reads = entries.iter().filter_map(|entry| read_of_entry(job, entry));
+    reads.find(|read| read.item.0 == item.0)
 }
 
 fn read_mark(

@@ -130,14 +130,7 @@ pub fn level(set: &CompiledSet, prio: Prio) -> u64
     ensures most { result ≤ length set.now.txns }
 {
     set.is_compiled();
-    let txns = set.txns();
-    let mut level = 0;
-    for txn in txns {
-        if txn.prio <= prio {
-            level += 1;
-        }
-    }
-    level
+    set.txns().iter().filter(|txn| txn.prio <= prio).count() as u64
 }
 
 /// Where the rows of the transactions begin.

@@ -1,5 +1,5 @@
 -- What is asked of a transaction that the set does not have is no legal event.
-use Rattle.std.proofs.Common.{◌≡◌, ℕ, ◌-◌, ◌^◌, ◌<◌, Bool, true, false, cond, ◌&&◌, List, length, Option, None, Some, refl, ap, sym, ◌∙◌, arith}
+use Rattle.std.proofs.Common.{◌≡◌, ℕ, ◌-◌, ◌^◌, ◌<◌, Bool, false, cond, ◌&&◌, List, length, Option, None, Some, refl, ap, sym, ◌∙◌, arith}
 use Rattle.std.proofs.lemmas.Bool.{lt-ltb}
 use Rattle.std.specs.Prelude.{nat_lt, nat_le}
 use Rattle.std.specs.Option.{option_and_then}
@@ -16,6 +16,7 @@ use Rattle.law_histories.proofs.Invariant.{in_range}
 use Rattle.law_histories.proofs.Never.{legal_sound}
 use Rattle.law_histories.proofs.SerialSteps.{other_false}
 use Rattle.board.proofs.Asks.{running_here}
+use Rattle.job_rows.proofs.Bounding.{clash}
 
 pub plan_outside : (set : Set) (s : State) (tx tick : ℕ) → nat_lt tx (length set.txns) ≡ false → None ≡ entry_given (step set s (plan tx tick))
 unfolding step may_plan
@@ -25,9 +26,6 @@ plan_outside set s tx tick out =
 asks_nobody : (set : Set) (s : State) (job : JobId) (op : Op) (o : Option Row) → ((x : Row) → o ≡ Some x → same_job x.job job ≡ false) → None ≡ entry_given (option_and_then (asked set s op) (option_and_then (of_job job) o))
 asks_nobody set s job op None h = refl
 asks_nobody set s job op (Some x) h = sym (ap (λ (b : Bool). entry_given (option_and_then (asked set s op) (cond b (Some x) None))) (h x refl))
-
-clash : (b : Bool) → b ≡ true → b ≡ false → ⊥
-clash b p q = cc
 
 pub ask_outside : (set : Set) (story : List Entry) (job : JobId) (op : Op) → IsCompiled set → IsLegal set story → nat_lt job.tx.0 (length set.txns) ≡ false → None ≡ entry_given (step set (state_of set story) (ask job op))
 unfolding step

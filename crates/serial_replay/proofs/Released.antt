@@ -11,14 +11,14 @@ use Rattle.step_journal.specs.History.{IsLegal, state_of}
 use Rattle.step_journal.specs.Timing.{Span, pending_span, ended_span}
 use Rattle.law_histories.proofs.Members.{In, pending_in}
 use Rattle.law_histories.proofs.Conflict.{in_get_or}
-use Rattle.law_histories.proofs.Holding.{append_in, in_find}
+use Rattle.law_histories.proofs.Holding.{append_in, in_find, map_in}
 use Rattle.law_histories.proofs.Calendar.{sorted_in}
 use Rattle.board.proofs.Asks.{job_row_here}
 use Rattle.job_rows.specs.declared.row.JobRow.{JobRow}
 use Rattle.job_rows.specs.Rows.{pending_row, ended_row, job_rows}
 use Rattle.job_rows.proofs.Named.{is_pending}
+use Rattle.board.proofs.Overs.{same_self}
 use Rattle.serial_replay.specs.Spans.{WasReleased}
-use Rattle.serial_replay.proofs.Spans.{map_in, same_self}
 
 span_of_ended : (e : Option EndedJob) (other : Option Span) → is_some e ≡ true → is_some (ended_span e other) ≡ true
 span_of_ended None other h = absurd cc

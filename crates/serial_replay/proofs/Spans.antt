@@ -13,10 +13,9 @@ use Rattle.rt_base.specs.declared.ids.TxId.{TxId}
 use Rattle.rt_base.specs.declared.operation.Op.{Op}
 use Rattle.rt_base.specs.declared.operation.Outcome.{Outcome}
 use Rattle.rt_base.specs.declared.operation.End.{End}
-use Rattle.rt_base.specs.declared.operation.End.TheVariants.{Late}
 use Rattle.rt_base.specs.declared.release.Release.{Release}
 use Rattle.rt_base.specs.declared.release.Plans.{Plans}
-use Rattle.txn_set.specs.Set.{Set, IsCompiled, txn_of}
+use Rattle.txn_set.specs.Set.{Set, IsCompiled}
 use Rattle.step_journal.specs.declared.entry.Entry.{Entry}
 use Rattle.step_journal.specs.declared.entry.Entry.TheVariants.{Planned, Step, Blocked, Idle}
 use Rattle.step_journal.specs.declared.entry.EndedJob.{EndedJob}
@@ -32,18 +31,18 @@ use Rattle.law_histories.proofs.Members.{In, filter_in, pending_in}
 use Rattle.law_histories.proofs.Lists.{find_some}
 use Rattle.law_histories.proofs.Invariant.{IsPending, in_range, written, same_job_is, job_row_is, running_is}
 use Rattle.law_histories.proofs.Histories.{may_plan_is, idle_early, settled_sound}
-use Rattle.law_histories.proofs.Holding.{append_in}
+use Rattle.law_histories.proofs.Holding.{append_in, map_in}
 use Rattle.law_histories.proofs.Ends.{left}
-use Rattle.law_histories.proofs.Calendar.{Sound, named_from, sorted_in, late_rows, after_cancelled, after_late, due, after_due, came_at}
+use Rattle.law_histories.proofs.Calendar.{Sound, named_from, sorted_in, late_rows, after_cancelled, after_late, due, after_due, came_at, deadline_of}
 use Rattle.law_histories.proofs.Never.{legal_sound, nothing_at, refused_all}
 use Rattle.law_histories.proofs.SerialAll.{legal_serial}
-use Rattle.law_histories.proofs.DelayAll.{IsPast, AllPast, legal_delay}
+use Rattle.law_histories.proofs.DelayAll.{AllPast, legal_delay, all_later as past_all}
 use Rattle.law_histories.specs.Counting.{greatest_planned}
 use Rattle.law_histories.proofs.CountingAll.{time_bounded}
 use Rattle.board.specs.Over.{over_of}
 use Rattle.board.proofs.Asks.{running_here}
 use Rattle.board.proofs.Bounds.{arrived_plans}
-use Rattle.board.proofs.Overs.{arrived_ended, over_after, ended_others}
+use Rattle.board.proofs.Overs.{arrived_ended, over_after, ended_others, late_of, same_self}
 use Rattle.job_rows.proofs.Delayed.{within, within_since}
 use Rattle.job_rows.proofs.Named.{pending_delayers, ended_delayers}
 use Rattle.job_rows.proofs.Moved.{moves}
@@ -64,18 +63,10 @@ get_last : {A : Type 0} (xs : List A) (x : A) → slice_get (xs ++ x ∷ []) (le
 get_last [] x = refl
 get_last (y ∷ xs) x = get_last xs x
 
-pub map_in : {A B : Type 0} (f : A → B) (y : B) (xs : List A) → In y (map f xs) → (x : A) × In x xs × (y ≡ f x)
-map_in f y [] i = absurd i
-map_in f y (x ∷ xs) (inl e) = (x, inl refl, e)
-map_in f y (x ∷ xs) (inr i) = let r = map_in f y xs i in (r.0, inr r.1, r.2)
-
 -- what the entries tell of a job
 
 abbrev Knows : List Entry → JobId → ℕ → Type 0
 Knows es job release = slice_get (ticks_of es job.tx.0) job.serial ≡ Some release
-
-abbrev deadline_of : Set → JobId → ℕ
-deadline_of set job = (txn_of set job.tx.0).deadline
 
 abbrev Ends : Set → List Entry → EndedJob → Type 0
 Ends set es e = (ends_of es e.job ≡ e.tick ∷ []) ⊎ ((ends_of es e.job ≡ []) × (e.tick ≡ e.release + deadline_of set e.job))
@@ -137,9 +128,6 @@ arrived_planned set refused t s ok sound r i =
 
 -- what is told of an instant
 
-abbrev late_of : ℕ → Row → EndedJob
-late_of t r = record { job = r.job; release = r.release; end = Late; tick = t }
-
 pub record LateRow (set : Set) (t : ℕ) (s : State) (e : EndedJob) : Type 0 where
   pub row : Row
   pub here : IsPending s.rows row
@@ -200,9 +188,6 @@ and_not false c h = refl
 none_named : (job : JobId) (es : List EndedJob) → ((e : EndedJob) → In e es → same_job e.job job ≡ false) → find (λ e. same_job e.job job) es ≡ None
 none_named job [] h = refl
 none_named job (e ∷ es) h = ap (λ (b : Bool). cond b (Some e) (find (λ d. same_job d.job job) es)) (h e (inl refl)) ∙ none_named job es (λ d i. h d (inr i))
-
-pub same_self : (job : JobId) → same_job job job ≡ true
-same_self job = and_from _ _ (eq-eqb job.tx.0 job.tx.0 refl) (eq-eqb job.serial job.serial refl)
 
 module _ (set : Set) (es : List Entry) (ok : IsCompiled set) (legal : IsLegal set es) (told : Told set es (state_of set es)) where
   still_told : (e : Entry) (next : State) → ((n : ℕ) → planned_tick_in n e ≡ None) → ((j : JobId) → ends_at j e ≡ None) → next.planned ≡ (state_of set es).planned → next.ended ≡ (state_of set es).ended → next.plans ≡ (state_of set es).plans
@@ -466,16 +451,6 @@ pub legal_told : (set : Set) (entries : List Entry) → IsCompiled set → IsLeg
 legal_told set entries ok legal = all_told set [] entries ok legal (nothing_told set)
 
 -- the delay
-
-past_later : (t u : ℕ) (e : Entry) → t ≤ u → IsPast t e → IsPast u e
-past_later t u (Step by op outcome over tick) le h = omega arith
-past_later t u (Planned tx tick) le h = tt
-past_later t u (Blocked by op on ceiling tick) le h = tt
-past_later t u (Idle a b) le h = tt
-
-past_all : (t u : ℕ) (es : List Entry) → t ≤ u → AllPast t es → AllPast u es
-past_all t u [] le h = tt
-past_all t u (e ∷ es) le h = (past_later t u e le h.0, past_all t u es le h.1)
 
 within_later : (set : Set) (job : JobId) (from t u : ℕ) (es : List Entry) → t ≤ u → AllPast t es → within set es job from t ≡ within set es job from u
 within_later set job from t u es le past = within_since set job from t es past ∙ sym (within_since set job from u es (past_all t u es le past))

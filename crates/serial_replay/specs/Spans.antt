@@ -4,7 +4,7 @@ use Rattle.std.specs.List.{filter_map}
 use Rattle.rt_base.specs.declared.ids.JobId.{JobId}
 use Rattle.txn_set.specs.Set.{Set}
 use Rattle.step_journal.specs.declared.entry.Entry.{Entry}
-use Rattle.step_journal.specs.declared.entry.Entry.TheVariants.{Planned, Step, Blocked, Idle}
+use Rattle.step_journal.specs.declared.entry.Entry.TheVariants.{Step}
 use Rattle.step_journal.specs.State.{same_job}
 use Rattle.step_journal.specs.History.{state_of}
 use Rattle.step_journal.specs.Timing.{span_of, planned_tick_in, delayer_in}
@@ -25,9 +25,7 @@ release_in entries job = slice_index_or (ticks_of entries job.tx.0) job.serial 0
 -- the tick at which a step of the job ended it
 abbrev pub ends_at : JobId → Entry → Option ℕ
 ends_at job (Step by op outcome over tick) = if same_job by job && is_some over then Some (tick + 1) else None
-ends_at job (Planned tx tick) = None
-ends_at job (Blocked by op on ceiling tick) = None
-ends_at job (Idle from to) = None
+ends_at job other = None
 
 abbrev pub ends_of : List Entry → JobId → List ℕ
 ends_of entries job = filter_map (ends_at job) entries
@@ -43,9 +41,7 @@ delay_between set entries job from to = delay_by (filter_map (delayer_in set job
 -- the ticks of the steps are small
 abbrev pub is_early : Entry → Type 0
 is_early (Step by op outcome over tick) = tick < 2 ^ 63
-is_early (Planned tx tick) = Unit {0}
-is_early (Blocked by op on ceiling tick) = Unit {0}
-is_early (Idle from to) = Unit {0}
+is_early other = Unit {0}
 
 abbrev pub AreEarly : List Entry → Type 0
 AreEarly [] = Unit {0}

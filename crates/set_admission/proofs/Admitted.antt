@@ -1,5 +1,5 @@
 -- Nothing refuses a set exactly where the admission rule holds.
-use Rattle.std.proofs.Common.{◌≡◌, ℕ, zero, suc, ◌+◌, ◌<◌, ◌≤◌, Bool, true, false, eqb, leb, inl, inr, List, [], ◌∷◌, map, length, get_or, Option, None, Some, is_some, refl, sym, ◌∙◌, ap, subst, ⊎_elim, arith}
+use Rattle.std.proofs.Common.{◌≡◌, ℕ, zero, suc, ◌+◌, ◌<◌, ◌≤◌, Bool, true, false, eqb, leb, inl, inr, List, [], ◌∷◌, map, length, get_or, Option, None, Some, refl, sym, ◌∙◌, ap, subst, ⊎_elim, arith}
 use Rattle.std.specs.Prelude.{IsTrue, if◌then◌else◌}
 use Rattle.std.specs.List.{All, find, filter}
 use Rattle.std.specs.Option.{option_map}
@@ -19,8 +19,9 @@ use Rattle.law_histories.proofs.Lists.{any_in, in_any}
 use Rattle.law_times.specs.Response.{IsResponse, response}
 use Rattle.law_times.specs.Ages.{IsAgeBound, IsAdmitted, age_bound}
 use Rattle.law_times.proofs.Levels.{age_bounds}
+use Rattle.law_times.proofs.WithinAge.{dated_derived_at as some-dated}
 use Rattle.set_admission.specs.declared.error.AdmitError.{AdmitError}
-use Rattle.set_admission.specs.declared.error.AdmitError.TheVariants.{NotSchedulable, TooOld, TooApart, OutOfMemory}
+use Rattle.set_admission.specs.declared.error.AdmitError.TheVariants.{TooOld, TooApart, OutOfMemory}
 use Rattle.set_admission.specs.Bounds.{response_of, age_of, MeetsAdmission}
 use Rattle.set_admission.specs.Admission.{falling, first_refusal, where_none, not_schedulable, is_too_old, too_old, too_apart, apart_from, apart_age, is_apart, read_together, greatest_age, refusal, Refuses}
 use Rattle.set_admission.specs.Laws.{IsDecided}
@@ -28,7 +29,7 @@ use Rattle.set_admission.proofs.Falling.{tx_at, falling-inside, falling-has}
 use Rattle.set_admission.proofs.Found.{found, response_of-some, response_of-is}
 use Rattle.set_admission.proofs.Tables.{first-none}
 
-both-none : {A : Type 0} (a b : Option A) → first_of_both a b ≡ None → (a ≡ None) × (b ≡ None)
+pub both-none : {A : Type 0} (a b : Option A) → first_of_both a b ≡ None → (a ≡ None) × (b ≡ None)
 both-none None b h = (refl, h)
 both-none (Some x) b h = cc
 
@@ -72,11 +73,11 @@ there-none o w e is = rw is refl
 
 -- validities
 
-map-none : {A B : Type 0} (f : A → B) (o : Option A) → option_map f o ≡ None → o ≡ None
+pub map-none : {A B : Type 0} (f : A → B) (o : Option A) → option_map f o ≡ None → o ≡ None
 map-none f None h = refl
 map-none f (Some x) h = cc
 
-none-map : {A B : Type 0} (f : A → B) (o : Option A) → o ≡ None → option_map f o ≡ None
+pub none-map : {A B : Type 0} (f : A → B) (o : Option A) → o ≡ None → option_map f o ≡ None
 none-map f o h = rw h refl
 
 find-none : (p : ItemId → Bool) (xs : List ItemId) → find p xs ≡ None → (x : ItemId) → In x xs → p x ≡ false
@@ -187,9 +188,6 @@ meets-unrefused set h =
 
 -- the rule by any responses: there is one response for each transaction, and so one age bound for each item
 
-some-dated : (o : Option ℕ) (v : ℕ) → o ≡ Some v → is_some o ≡ true
-some-dated o v e = rw e refl
-
 same-bounds : (set : Set) → IsCompiled set → (h : IsAdmitted set) → (item : ℕ) → is_dated set.items item ≡ true → age_bound set h.response item ≡ age_bound set (response_of set) item
 same-bounds set ok h item dated = (age_bounds set (response_of set) ok).only (age_bound set h.response) by item dated
   where
@@ -239,9 +237,6 @@ decided set ok = record {
 
 -- what the code's clauses need
 
-pub reads_in : (set : Set) (tx : ℕ) (items : List ItemId) → IsCompiled set → tx < length set.txns → items ≡ (txn_of set tx).reads → All (λ i. i.0 < length set.items) items
-reads_in set tx items ok inside e = subst (λ (l : List ItemId). All (λ i. i.0 < length set.items) l) (sym e) (ok.reads tx no_txn inside).in_range
-
 pub admitted : (set : Set) → refusal set ≡ None → IsAdmitted set
 admitted set none = meets-admitted set (unrefused-meets set none)
 
@@ -249,10 +244,8 @@ pub meets : (set : Set) → refusal set ≡ None → MeetsAdmission set
 meets set none = unrefused-meets set none
 
 refused-some : (found : Option AdmitError) (e : AdmitError) → Refuses found e → (e ≡ OutOfMemory → ⊥) → found ≡ Some e
-refused-some found (NotSchedulable tx demand) is other = is
-refused-some found (TooOld tx item age) is other = is
-refused-some found (TooApart tx place age) is other = is
 refused-some found OutOfMemory is other = absurd (other refl)
+refused-some found rest is other = is
 
 pub refused : (set : Set) (e : AdmitError) → IsCompiled set → Refuses (refusal set) e → (e ≡ OutOfMemory → ⊥) → ¬ IsAdmitted set
 refused set e ok is other h =

@@ -117,10 +117,8 @@ schedulable s answers found =
 -- the refusal of the set, from those of its parts
 
 refuses-some : (found : Option AdmitError) (e : AdmitError) → found ≡ Some e → Refuses found e
-refuses-some found (NotSchedulable tx demand) is = is
-refuses-some found (TooOld tx item age) is = is
-refuses-some found (TooApart tx place age) is = is
 refuses-some found OutOfMemory is = tt
+refuses-some found other is = is
 
 refuses-first : (found rest : Option AdmitError) (e : AdmitError) → Refuses found e → Refuses (first_of_both found rest) e
 refuses-first found rest (NotSchedulable tx demand) is = rw is refl

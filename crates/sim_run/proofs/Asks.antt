@@ -1,6 +1,6 @@
 -- One step of the running job: what the board answers, and that the body follows.
 use Rattle.std.proofs.Common.{◌≡◌, ◌≢◌, ℕ, ◌<◌, ◌≤◌, Bool, true, false, cond, List, [], ◌∷◌, ◌++◌, length, Option, None, Some, refl, ap, sym, ◌∙◌, subst, inl, inr, arith}
-use Rattle.std.proofs.lemmas.Bool.{cases_eq, eq-eqb, and_from, false_from_ne_true}
+use Rattle.std.proofs.lemmas.Bool.{cases_eq}
 use Rattle.std.proofs.lemmas.List.{append-nil}
 use Rattle.std.specs.Option.{option_map, option_and_then}
 use Rattle.rt_base.specs.declared.ids.JobId.{JobId}
@@ -23,17 +23,16 @@ use Rattle.board.specs.declared.replies.StepReply.TheVariants as reply
 use Rattle.board.specs.Answers.{IsAsking, told_by}
 use Rattle.board.specs.Stories.{IsStory, noted, step_entry, step_answer, now_of, running_of}
 use Rattle.board.proofs.Asks.{steps_are_steps}
-use Rattle.law_histories.proofs.Invariant.{running_is, in_range, same_job_is}
+use Rattle.law_histories.proofs.Invariant.{running_is, in_range}
 use Rattle.law_histories.proofs.Calendar.{named_from}
 use Rattle.law_histories.proofs.Never.{legal_sound, refused_all}
 use Rattle.law_histories.proofs.Alone.{outcomes_more_in}
 use Rattle.law_histories.specs.Sim.{Body}
+use Rattle.law_histories.proofs.Ends.{self_same}
+use Rattle.law_histories.proofs.SerialSteps.{other_false}
 use Rattle.sim_run.specs.Turns.{IsReached, IsFollowing, MayAsk, CanAsk, HasAsked, job_of}
 use Rattle.sim_run.proofs.Behind.{behind_after, behind_running, running_past}
 use Rattle.sim_run.proofs.Histories.{state_next, legal_parts}
-
-self_same : (j : JobId) → same_job j j ≡ true
-self_same j = and_from _ _ (eq-eqb j.tx.0 j.tx.0 refl) (eq-eqb j.serial j.serial refl)
 
 -- the running row
 pub record RunningRow (set : Set) (story : List Entry) (job : JobId) : Type 0 where
@@ -139,9 +138,6 @@ follows_new stands stands' set story job serial ok legal run f kept begun =
     }
 
 -- the outcomes after an entry
-
-other_false : (a b : JobId) → (a ≡ b → ⊥) → same_job a b ≡ false
-other_false a b h = false_from_ne_true _ (λ t. h (same_job_is a b t))
 
 outcomes_same : (story : List Entry) (e : Entry) (job : JobId) → outcome_in job e ≡ None
     → outcomes_of (story ++ e ∷ []) job ≡ outcomes_of story job

@@ -4,7 +4,7 @@ use Rattle.std.proofs.Common.{◌≡◌, ◌⊎◌, ℕ, ◌+◌, ◌<◌, ◌�
 use Rattle.std.proofs.lemmas.Bool.{cases_eq}
 use Rattle.std.specs.Option.{option_map, option_and_then}
 use Rattle.std.specs.List.{All}
-use Rattle.std.proofs.lemmas.List.Elements.{All-cons, All-tail}
+use Rattle.std.proofs.lemmas.List.Elements.{All-tail}
 use Rattle.rt_base.specs.declared.ids.JobId.{JobId}
 use Rattle.rt_base.specs.declared.operation.Op.{Op}
 use Rattle.rt_base.specs.declared.operation.End.{End}
@@ -19,6 +19,7 @@ use Rattle.step_journal.specs.Running.{running, of_job}
 use Rattle.step_journal.specs.Instant.{with_row, with_end, with_releases, with_cancellations, arrived}
 use Rattle.step_journal.specs.Step.{Event, plan, ask, idle, given, plans_of, may_plan, next_job, with_plan, may_ask, lock_refusal, row_after, end_by, settled, after_effect, with_step, with_wait, answered, asked, next_tick, idled, step}
 use Rattle.step_journal.specs.History.{event_of, state_given, entry_given, state_after, IsLegalEntry, IsLegal, state_of}
+use Rattle.law_histories.proofs.Lists.{all_from}
 use Rattle.sim_run.specs.Turns.{IsReached}
 use Rattle.board.proofs.Bounds.{arrived_plans}
 use Rattle.law_histories.proofs.Members.{In}
@@ -33,10 +34,6 @@ pub all_at : {A : Type 0} (P : A → Type 0) (xs : List A) → All P xs → (x :
 all_at P [] h x i = absurd i
 all_at P (y ∷ ys) h x (inl e) = subst P (sym e) (h 0 y (omega arith))
 all_at P (y ∷ ys) h x (inr i) = all_at P ys (All-tail P y ys h) x i
-
-pub all_from : {A : Type 0} (P : A → Type 0) (xs : List A) → ((x : A) → In x xs → P x) → All P xs
-all_from P [] h = λ k d lt. absurd (omega arith)
-all_from P (y ∷ ys) h = All-cons P y ys (h y (inl refl)) (all_from P ys (λ x i. h x (inr i)))
 
 -- the release of this transaction does not come before
 abbrev NotBefore : ℕ → ℕ → Release → Type 0

@@ -18,6 +18,7 @@ use Rattle.step_journal.specs.History.{state_given, entry_given, state_after, st
 use Rattle.board.specs.Stories.{IsStory, noted, plan_entry, plan_answer}
 use Rattle.board.proofs.Plans.{plans_are_steps}
 use Rattle.law_histories.specs.Sim.{plans_from}
+use Rattle.law_histories.proofs.Histories.{plan_now as after_now}
 use Rattle.sim_run.specs.Workloads.{AreSpaced, AreAccepted}
 use Rattle.sim_run.specs.Handed.{IsHanded}
 use Rattle.sim_run.proofs.Histories.{legal_parts, legal_split, legal_join}
@@ -177,17 +178,12 @@ step_plan : (set : Set) (s : State) (tx tick : ℕ) → may_plan set s tx tick �
 unfolding step
 step_plan set s tx tick may = ap (λ (b : Bool). given b (Planned (record { 0 = tx }) tick, with_plan s tx tick)) may
 
--- the state after a plan
-after_now : (s : State) (tx tick : ℕ) → (with_plan s tx tick).now ≡ s.now
-unfolding with_plan
-after_now s tx tick = refl
-
 after_plans : (s : State) (tx tick : ℕ)
     → (with_plan s tx tick).plans ≡ with_item s.plans tx (record { number = (plans_of s tx).number + 1; last = tick })
 unfolding with_plan
 after_plans s tx tick = refl
 
-after_few : (s : State) (tx tick : ℕ) → length (with_plan s tx tick).planned ≤ length s.planned + 1
+pub after_few : (s : State) (tx tick : ℕ) → length (with_plan s tx tick).planned ≤ length s.planned + 1
 unfolding with_plan
 after_few s tx tick = few_at (tick == s.now) where
   few_at : (b : Bool)
@@ -195,7 +191,7 @@ after_few s tx tick = few_at (tick == s.now) where
   few_at true = omega arith
   few_at false = omega (arith, length-append s.planned (record { job = next_job s tx; tick = tick } ∷ []))
 
-earliest_le : (set : Set) (tx : ℕ) (p : Plans) → earliest set tx p ≤ p.last + (txn_of set tx).period
+pub earliest_le : (set : Set) (tx : ℕ) (p : Plans) → earliest set tx p ≤ p.last + (txn_of set tx).period
 earliest_le set tx p = le_at (p.number == 0) where
   le_at : (b : Bool) → cond b 0 (p.last + (txn_of set tx).period) ≤ p.last + (txn_of set tx).period
   le_at true = omega arith

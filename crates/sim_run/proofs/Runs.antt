@@ -195,7 +195,7 @@ no_plan : (w : Workload) (story : List Entry) (e : Entry) (n : ℕ) → next_eve
 no_plan w story (Planned tx tick) n h = absurd (no_plan_at w story (state_of w.set story) (running w.set (state_of w.set story).rows) tx.0 tick h)
 no_plan w story other n h = refl
 
-count_fixed : (w : Workload) (before rest : List Entry) (n : ℕ) → IsFixed w before rest → plan_count rest n ≡ 0
+pub count_fixed : (w : Workload) (before rest : List Entry) (n : ℕ) → IsFixed w before rest → plan_count rest n ≡ 0
 count_fixed w before [] n h = refl
 count_fixed w before (e ∷ rest) n h = omega (arith, no_plan w before e n h.0, count_fixed w (before ++ e ∷ []) rest n h.1)
 

@@ -10,6 +10,7 @@ use Rattle.txn_set.specs.declared.decl.TxnDecl.{TxnDecl}
 use Rattle.txn_set.specs.declared.decl.Ceilings.{Ceilings}
 use Rattle.txn_set.specs.Set.{Set, HasGoodTimes, AreItemsOf, IsCompiled}
 use Rattle.txn_set.specs.Ceilings.{IsCeilingsOf}
+use Rattle.txn_set.proofs.Declared.{good_declared}
 use Rattle.step_journal.specs.declared.entry.Entry.{Entry}
 use Rattle.step_journal.specs.State.{Row}
 use Rattle.step_journal.specs.Step.{may_ask}
@@ -23,8 +24,9 @@ use Rattle.sim_run.proofs.Runs.{way_fits}
 -- the set
 
 times : (k : ℕ) (d : TxnDecl) → k < 2 → HasGoodTimes (get_or steady_txns k d)
+times zero d lt = good_declared 2 4 2 [] [] (omega arith, omega arith) (omega arith, omega arith) (omega arith, omega arith)
+times (suc zero) d lt = good_declared 1 8 2 [] [] (omega arith, omega arith) (omega arith, omega arith) (omega arith, omega arith)
 times (suc (suc k)) d lt = absurd (omega arith)
-times other d lt = record { prio = (omega arith, omega arith); steps = (omega arith, omega arith); period = (omega arith, omega arith); deadline = (omega arith, omega arith); offset = omega arith; quiet = omega arith }
 
 prios : (i j : ℕ) (d : TxnDecl) → i < j → j < 2 → (get_or steady_txns i d).prio ≢ (get_or steady_txns j d).prio
 prios zero (suc zero) d lt top e = absurd (omega arith)

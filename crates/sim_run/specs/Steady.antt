@@ -3,11 +3,10 @@ use Rattle.std.specs.Prelude.{ℕ, Bool, true, false, List, [], ◌∷◌}
 use Rattle.rt_base.specs.declared.operation.Op.{Op}
 use Rattle.rt_base.specs.declared.operation.Op.TheVariants.{Compute, Quit}
 use Rattle.txn_set.specs.declared.decl.TxnDecl.{TxnDecl}
-use Rattle.txn_set.specs.Set.{Set}
+use Rattle.txn_set.specs.Set.{Set, declared}
 
 abbrev pub steady_txn : (prio period : ℕ) → TxnDecl
-steady_txn prio period =
-    record { prio = prio; period = period; offset = 0; deadline = period; steps = 2; quiet = 0; reads = []; writes = [] }
+steady_txn prio period = declared prio period 2 [] []
 
 abbrev pub steady_txns : List TxnDecl
 steady_txns = steady_txn 2 4 ∷ steady_txn 1 8 ∷ []

@@ -5,7 +5,7 @@ use Rattle.std.specs.Option.{option_map}
 use Rattle.rt_base.specs.LockRule.{blocker}
 use Rattle.rt_base.specs.declared.ids.JobId.{JobId}
 use Rattle.rt_base.specs.declared.operation.Op.{Op}
-use Rattle.rt_base.specs.declared.operation.Op.TheVariants.{Read, Write, Compute, Commit, Quit}
+use Rattle.rt_base.specs.declared.operation.Op.TheVariants.{Read, Write}
 use Rattle.txn_set.specs.Set.{Set}
 use Rattle.txn_set.specs.Ceilings.{greatest, write_ceiling, absolute_ceiling}
 use Rattle.item_model.specs.Work.{Work, has_read, has_written}
@@ -34,9 +34,7 @@ ceiling_of set row = greatest (map (lock_ceiling set) (locks row.work))
 abbrev pub needs_lock : Work → Op → Bool
 needs_lock work (Read item) = not (has_read work item.0 || has_written work item.0)
 needs_lock work (Write item value) = not (has_written work item.0)
-needs_lock work Compute = false
-needs_lock work Commit = false
-needs_lock work Quit = false
+needs_lock work other = false
 
 -- the pending jobs of other transactions
 abbrev pub others : List (Option Row) → Row → List Row

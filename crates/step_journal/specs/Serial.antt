@@ -5,7 +5,7 @@ use Rattle.rt_base.specs.declared.ids.JobId.{JobId}
 use Rattle.rt_base.specs.declared.operation.Op.{Op}
 use Rattle.rt_base.specs.declared.operation.Outcome.{Outcome}
 use Rattle.step_journal.specs.declared.entry.Entry.{Entry}
-use Rattle.step_journal.specs.declared.entry.Entry.TheVariants.{Planned, Step, Blocked, Idle}
+use Rattle.step_journal.specs.declared.entry.Entry.TheVariants.{Step}
 use Rattle.txn_set.specs.Set.{Set}
 use Rattle.item_model.specs.Work.{Work, no_work, outcome_of, work_after, items_after}
 use Rattle.item_model.specs.declared.stored.Stored.{Stored}
@@ -16,15 +16,11 @@ use Rattle.step_journal.specs.History.{state_of}
 -- the operation and the outcome of an entry, where it is a step of this job
 abbrev pub op_in : JobId → Entry → Option Op
 op_in job (Step by op outcome over tick) = if same_job by job then Some op else None
-op_in job (Planned tx tick) = None
-op_in job (Blocked by op on ceiling tick) = None
-op_in job (Idle from to) = None
+op_in job other = None
 
 abbrev pub outcome_in : JobId → Entry → Option Outcome
 outcome_in job (Step by op outcome over tick) = if same_job by job then Some outcome else None
-outcome_in job (Planned tx tick) = None
-outcome_in job (Blocked by op on ceiling tick) = None
-outcome_in job (Idle from to) = None
+outcome_in job other = None
 
 abbrev pub ops_of : List Entry → JobId → List Op
 ops_of entries job = filter_map (op_in job) entries

@@ -4,7 +4,7 @@ use Rattle.std.specs.List.{find}
 use Rattle.std.specs.Option.{option_map, option_and_then}
 use Rattle.rt_base.specs.declared.ids.JobId.{JobId}
 use Rattle.rt_base.specs.declared.operation.Op.{Op}
-use Rattle.rt_base.specs.declared.operation.Op.TheVariants.{Read, Write, Compute, Commit, Quit}
+use Rattle.rt_base.specs.declared.operation.Op.TheVariants.{Read, Write, Commit, Quit}
 use Rattle.rt_base.specs.declared.operation.End.{End}
 use Rattle.rt_base.specs.declared.operation.End.TheVariants as end
 use Rattle.step_journal.specs.declared.entry.Entry.{Entry}
@@ -59,9 +59,8 @@ with_plan s tx tick = record s {
 abbrev pub may_ask : Set → Row → Op → Bool
 may_ask set row (Read item) = may_read (txn_of set row.job.tx.0) item.0 && nat_le (txn_of set row.job.tx.0).quiet row.used
 may_ask set row (Write item value) = may_write (txn_of set row.job.tx.0) item.0 && nat_le (txn_of set row.job.tx.0).quiet row.used
-may_ask set row Compute = true
 may_ask set row Commit = is_complete set.items (txn_of set row.job.tx.0).writes row.work
-may_ask set row Quit = true
+may_ask set row other = true
 
 -- why the operation does not get the lock that it needs, if it does not
 abbrev pub lock_refusal : Set → State → Row → Op → Option Above
@@ -76,11 +75,9 @@ abbrev pub end_by_steps : Set → Row → Option End
 end_by_steps set row = given (row.used == (txn_of set row.job.tx.0).steps) end.Overrun
 
 abbrev pub end_by : Set → Row → ℕ → Op → Option End
-end_by set row tick (Read item) = end_by_steps set row
-end_by set row tick (Write item value) = end_by_steps set row
-end_by set row tick Compute = end_by_steps set row
 end_by set row tick Commit = Some (verdict set.items set.together (txn_of set row.job.tx.0).reads row.work tick)
 end_by set row tick Quit = Some end.Quit
+end_by set row tick other = end_by_steps set row
 
 -- the state after the effect: the row goes on, or the job ends with its writes installed or not
 abbrev pub settled : Set → Row → ℕ → Option End → State → State

@@ -10,7 +10,7 @@ use Rattle.rt_base.specs.declared.operation.Outcome.TheVariants.{Got}
 use Rattle.rt_base.specs.declared.operation.End.{End}
 use Rattle.rt_base.specs.declared.operation.End.TheVariants as end
 use Rattle.step_journal.specs.declared.entry.Entry.{Entry}
-use Rattle.step_journal.specs.declared.entry.Entry.TheVariants.{Planned, Step, Blocked, Idle}
+use Rattle.step_journal.specs.declared.entry.Entry.TheVariants.{Planned, Step}
 use Rattle.txn_set.specs.Set.{Set, txn_of}
 use Rattle.item_model.specs.Kinds.{is_dated}
 use Rattle.item_model.specs.Work.{is_expired, first_apart}
@@ -53,9 +53,7 @@ span_of s job = ended_span (find (λ e. same_job e.job job) s.ended) (pending_sp
 abbrev pub delayer_in : Set → JobId → Span → Entry → Option JobId
 delayer_in set job span (Step by op outcome over tick) =
     if nat_lt (prio_of set by) (prio_of set job) && nat_le span.from tick && nat_lt tick span.to then Some by else None
-delayer_in set job span (Planned tx tick) = None
-delayer_in set job span (Blocked by op on ceiling tick) = None
-delayer_in set job span (Idle from to) = None
+delayer_in set job span other = None
 
 abbrev pub delayers_within : Set → List Entry → JobId → Option Span → List JobId
 delayers_within set entries job None = []
@@ -73,9 +71,7 @@ outside_read op outcome = None
 
 abbrev pub read_in : JobId → Entry → Option OutsideRead
 read_in job (Step by op outcome over tick) = if same_job by job then outside_read op outcome else None
-read_in job (Planned tx tick) = None
-read_in job (Blocked by op on ceiling tick) = None
-read_in job (Idle from to) = None
+read_in job other = None
 
 abbrev pub outside_reads_of : List Entry → JobId → List OutsideRead
 outside_reads_of entries job = filter_map (read_in job) entries
@@ -96,9 +92,7 @@ periodic first period (suc n) = first ∷ periodic (first + period) period n
 
 abbrev pub planned_tick_in : ℕ → Entry → Option ℕ
 planned_tick_in tx (Planned by tick) = if by.0 == tx then Some tick else None
-planned_tick_in tx (Step by op outcome over tick) = None
-planned_tick_in tx (Blocked by op on ceiling tick) = None
-planned_tick_in tx (Idle from to) = None
+planned_tick_in tx other = None
 
 -- the ticks up to now for which a transaction's jobs were planned
 abbrev pub planned_ticks : List Entry → ℕ → ℕ → List ℕ
@@ -112,10 +106,7 @@ IsPeriodic offset period now ticks =
 abbrev pub GaveUp : End → Type 0
 GaveUp end.Overrun = Unit {0}
 GaveUp end.Quit = Unit {0}
-GaveUp end.Committed = ⊥
-GaveUp end.Late = ⊥
-GaveUp (end.Stale item stamp) = ⊥
-GaveUp (end.Apart a b) = ⊥
+GaveUp other = ⊥
 
 pub record IsSteadyAt (set : Set) (entries : List Entry) (tx : ℕ) : Type 0 where
   pub periodic : IsPeriodic (txn_of set tx).offset (txn_of set tx).period (state_of set entries).now (planned_ticks entries (state_of set entries).now tx)

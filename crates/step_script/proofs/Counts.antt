@@ -1,7 +1,8 @@
 -- Jobs and ticks of one transaction.
-use Rattle.std.proofs.Common.{◌≡◌, ℕ, zero, suc, ◌+◌, ◌*◌, ◌<◌, ◌≤◌, List, [], ◌∷◌, length, get_or, ap, ◌∙◌, arith, zero-add}
+use Rattle.std.proofs.Common.{◌≡◌, ℕ, zero, suc, ◌<◌, ◌≤◌, List, [], ◌∷◌, length, get_or, ap, ◌∙◌, arith, zero-add}
 use Rattle.std.proofs.lemmas.List.FromFn.{get_or-map-range_with_len}
 use Rattle.txn_set.specs.declared.decl.TxnDecl.{TxnDecl}
+use Rattle.txn_set.specs.Set.{periodic_release}
 use Rattle.step_script.specs.declared.releases.Releases.{Releases}
 use Rattle.step_script.specs.declared.releases.Releases.TheVariants.{Jobs}
 use Rattle.step_script.specs.Releases.{jobs_of, total_jobs, release_at}
@@ -12,9 +13,9 @@ jobs_at [] tx d lt = absurd (omega arith)
 jobs_at (r ∷ rs) zero d lt = omega arith
 jobs_at (r ∷ rs) (suc tx) d lt = omega (arith, jobs_at rs tx d (omega arith))
 
--- a job's tick, by its offset and its periods
-pub periodic : (t : TxnDecl) (n index : ℕ) → index < n → release_at t (Jobs n) index ≡ t.offset + index * t.period
-periodic t n index lt = get_or-map-range_with_len (λ k. t.offset + k * t.period) 0 n index index 0 lt (zero-add index)
+-- a job's tick is the periodic release of its number
+pub periodic : (t : TxnDecl) (n index : ℕ) → index < n → release_at t (Jobs n) index ≡ periodic_release t index
+periodic t n index lt = get_or-map-range_with_len (λ k. periodic_release t k) 0 n index index 0 lt (zero-add index)
 
 -- at most as many as all, for releases that were looked up
 pub few_at : (rs all : List Releases) (tx : ℕ) (r : Releases) → rs ≡ all → tx < length all → r ≡ get_or rs tx r

@@ -5,6 +5,7 @@ use Rattle.std.specs.List.{range_with_len}
 use Rattle.rt_base.specs.declared.release.PlanRefused.{PlanRefused}
 use Rattle.rt_base.specs.declared.release.PlanRefused.TheVariants.{TooSoon, TooFar}
 use Rattle.txn_set.specs.declared.decl.TxnDecl.{TxnDecl}
+use Rattle.txn_set.specs.Set.{periodic_release}
 use Rattle.txn_set.specs.Ceilings.{greatest}
 use Rattle.step_script.specs.declared.releases.Releases.{Releases}
 use Rattle.step_script.specs.declared.releases.Releases.TheVariants.{At, Jobs, Eager}
@@ -17,20 +18,18 @@ jobs_of (Jobs n) = n
 jobs_of (Eager n) = n
 
 abbrev pub is_eager : Releases → Bool
-is_eager (At ticks) = false
-is_eager (Jobs n) = false
 is_eager (Eager n) = true
+is_eager other = false
 
 -- how many eager jobs there are
 abbrev pub eager_of : Releases → ℕ
-eager_of (At ticks) = 0
-eager_of (Jobs n) = 0
 eager_of (Eager n) = n
+eager_of other = 0
 
 -- the ticks at which the jobs of a transaction are planned; those of eager jobs are not fixed
 abbrev pub ticks_of : TxnDecl → Releases → List ℕ
 ticks_of t (At ticks) = ticks
-ticks_of t (Jobs n) = map (λ k. t.offset + k * t.period) (range_with_len 0 n)
+ticks_of t (Jobs n) = map (λ k. periodic_release t k) (range_with_len 0 n)
 ticks_of t (Eager n) = []
 
 -- the tick of one of them

@@ -10,7 +10,7 @@ use txn_set::TxnDecl;
 pub enum Releases {
     /// At these ticks.
     At(List<Tick>),
-    /// So many, the k-th, from 0 on, at the offset plus k periods.
+    /// So many, the k-th, from 0 on, at the k-th periodic release.
     Jobs(u32),
     /// So many, each planned when the one before it has ended.
     Eager(u32),
@@ -49,7 +49,7 @@ impl Releases {
     {
         match self {
             Releases::At(ticks) => ticks.as_slice()[index as usize],
-            Releases::Jobs(_) => txn.offset + u64::from(index) * txn.period,
+            Releases::Jobs(_) => txn.periodic_release(u64::from(index)),
             Releases::Eager(_) => 0,
         }
     }

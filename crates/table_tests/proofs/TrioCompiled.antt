@@ -9,12 +9,13 @@ use Rattle.txn_set.specs.declared.decl.TxnDecl.{TxnDecl}
 use Rattle.txn_set.specs.declared.decl.Ceilings.{Ceilings}
 use Rattle.txn_set.specs.Set.{HasGoodTimes, AreItemsOf, IsTheWriter, IsCompiled}
 use Rattle.txn_set.specs.Ceilings.{write_ceiling, absolute_ceiling, IsCeilingsOf}
+use Rattle.txn_set.proofs.Declared.{good_declared}
 use Rattle.table_tests.specs.Trio.{x, trio_items, trio_txns, trio_ceilings, trio}
 
 times : (k : ℕ) (d : TxnDecl) → k < 3 → HasGoodTimes (get_or trio_txns k d)
-times zero d lt = record { prio = (omega arith, omega arith); steps = (omega arith, omega arith); period = (omega arith, omega arith); deadline = (omega arith, omega arith); offset = omega arith; quiet = omega arith }
-times (suc zero) d lt = record { prio = (omega arith, omega arith); steps = (omega arith, omega arith); period = (omega arith, omega arith); deadline = (omega arith, omega arith); offset = omega arith; quiet = omega arith }
-times (suc (suc zero)) d lt = record { prio = (omega arith, omega arith); steps = (omega arith, omega arith); period = (omega arith, omega arith); deadline = (omega arith, omega arith); offset = omega arith; quiet = omega arith }
+times zero d lt = good_declared 3 20 4 (x ∷ []) [] (omega arith, omega arith) (omega arith, omega arith) (omega arith, omega arith)
+times (suc zero) d lt = good_declared 2 20 4 (x ∷ []) [] (omega arith, omega arith) (omega arith, omega arith) (omega arith, omega arith)
+times (suc (suc zero)) d lt = good_declared 1 40 4 [] (x ∷ []) (omega arith, omega arith) (omega arith, omega arith) (omega arith, omega arith)
 times (suc (suc (suc k))) d lt = absurd (omega arith)
 
 prios : (i j : ℕ) (d : TxnDecl) → i < j → j < 3 → (get_or trio_txns i d).prio ≢ (get_or trio_txns j d).prio

@@ -7,8 +7,7 @@ use Rattle.item_model.specs.declared.decl.ItemDecl.{ItemDecl}
 use Rattle.item_model.specs.declared.stored.Stored.{Stored}
 use Rattle.txn_set.specs.declared.decl.TxnDecl.{TxnDecl}
 use Rattle.txn_set.specs.declared.decl.Ceilings.{Ceilings}
-use Rattle.txn_set.specs.Set.{Set}
-use Rattle.test_sets.specs.Plain.{plain_txn}
+use Rattle.txn_set.specs.Set.{Set, declared}
 use Rattle.step_journal.specs.State.{Row, new_row}
 use Rattle.step_journal.specs.Instant.{with_row}
 
@@ -19,7 +18,7 @@ abbrev pub trio_items : List ItemDecl
 trio_items = record { kind = State; initial = pos 7 } ∷ []
 
 abbrev pub trio_txns : List TxnDecl
-trio_txns = plain_txn 3 20 4 (x ∷ []) [] ∷ plain_txn 2 20 4 (x ∷ []) [] ∷ plain_txn 1 40 4 [] (x ∷ []) ∷ []
+trio_txns = declared 3 20 4 (x ∷ []) [] ∷ declared 2 20 4 (x ∷ []) [] ∷ declared 1 40 4 [] (x ∷ []) ∷ []
 
 abbrev pub trio_ceilings : List Ceilings
 trio_ceilings = record { write = 1; absolute = 3 } ∷ []

@@ -1,7 +1,7 @@
 //! Two readers and a writer of one state item.
 ghost use Rattle.std.specs.Prelude.{◌≡◌, ◌++◌, [], ◌∷◌, IfOk};
 ghost use Rattle.table_tests.specs.Trio.{trio as trio_of, trio_items, trio_txns, trio_ceilings};
-ghost use Rattle.test_sets.specs.Plain.{plain_txn as plain_of};
+ghost use Rattle.txn_set.specs.Set.{declared};
 
 use item_model::{ItemDecl, ItemKind};
 use rt_base::{ItemId, OutOfMemory, Prio, Tick};
@@ -29,7 +29,7 @@ fn with_txn(
     reads: &[ItemId],
     writes: &[ItemId],
 ) -> Result<Vec<TxnDecl>, OutOfMemory>
-    ensures { IfOk result (λ v. v.items ≡ txns.items ++ plain_of prio period 4 reads.now writes.now ∷ []) }
+    ensures { IfOk result (λ v. v.items ≡ txns.items ++ declared prio period 4 reads.now writes.now ∷ []) }
 {
     let reads = list(alloc, reads)?;
     let writes = list(alloc, writes)?;

@@ -1,6 +1,6 @@
 //! Transactions of which a test gives a few numbers: what they declare besides stands here alone.
 ghost use Rattle.std.specs.Prelude.{◌≡◌, IfOk};
-ghost use Rattle.test_sets.specs.Plain.{plain_txn as plain_of, from_tick as from};
+ghost use Rattle.txn_set.specs.Set.{declared, released_from};
 
 use rt_base::{ItemId, List, OutOfMemory, Prio, Tick};
 use std::alloc::Global;
@@ -23,7 +23,7 @@ pub fn plain_txn(
     reads: List<ItemId>,
     writes: List<ItemId>,
 ) -> TxnDecl
-    ensures { result ≡ plain_of prio period steps reads writes }
+    ensures { result ≡ declared prio period steps reads writes }
 {
     TxnDecl {
         prio,
@@ -39,7 +39,7 @@ pub fn plain_txn(
 
 /// The same, first released at this tick.
 pub fn from_tick(txn: TxnDecl, tick: Tick) -> TxnDecl
-    ensures { result ≡ from txn tick }
+    ensures { result ≡ released_from tick txn }
 {
     let mut later = txn;
     later.offset = tick;

@@ -1,21 +1,16 @@
 -- The reply of `priorities` from what was found of a set.
-use Rattle.std.proofs.Common.{◌≡◌, inl, ℕ, List, ◌++◌, Result, Ok, Err, sym, ap, ap₂, subst, ◌∙◌}
+use Rattle.std.proofs.Common.{◌≡◌, inl, ℕ, List, Result, Ok, Err, sym, ap₂, subst, ◌∙◌}
 use Rattle.std.specs.Prelude.{IfOk}
 use Rattle.rt_base.specs.declared.name.Names.{Names}
 use Rattle.txn_set.specs.Set.{Set}
 use Rattle.law_times.specs.Assigned.{with_prios}
 use Rattle.law_times.proofs.Moving.{with-length}
 use Rattle.law_times.specs.Pass.{pass}
-use Rattle.law_times.specs.Laws.{IsSolved, NoneKeeps}
-use Rattle.txn_priorities.specs.declared.refusal.Unplaced.{Unplaced}
-use Rattle.txn_priorities.specs.declared.refusal.NoAssignment.{NoAssignment}
+use Rattle.law_times.specs.Laws.{IsSolved}
 use Rattle.txn_priorities.specs.Limits.{limit}
-use Rattle.txn_priorities.specs.Answers.{IsRefusal}
 use Rattle.report_text.specs.Texts.{NamesSet}
 use Rattle.io_edge.specs.declared.status.Status.{Status}
-use Rattle.io_edge.specs.declared.status.Status.TheVariants as statuses
-use Rattle.command_replies.specs.Texts.{refused_line}
-use Rattle.tool_command.specs.Priorities.{level_cause, unplaced_lines, GivenReply, Sticks, Assigning}
+use Rattle.tool_command.specs.Priorities.{GivenReply, Assigning}
 
 -- priorities of the pass
 pub solves : (names : Names) (set : Set) (prios : List ℕ) (status : Status) (text : List ℕ) → prios ≡ pass set (limit set) → IsSolved set (limit set) prios
@@ -34,17 +29,3 @@ if_ok (Err e) P Q f h = h
 -- other priorities need no other names
 pub names_with : (names : Names) (set : Set) (p : ℕ → ℕ) → NamesSet names set → NamesSet names (with_prios p set)
 names_with names set p h = record { items = h.items; txns = h.txns ∙ sym (with-length p set.txns) }
-
--- the lines of a refusal
-pub sticks : (names : Names) (set : Set) (r : NoAssignment) (status : Status) (text before : List ℕ) → IsRefusal set r → NoneKeeps set (limit set)
-    → status ≡ statuses.Refused → before ≡ refused_line (level_cause r.level) → text ≡ before ++ unplaced_lines names r.unplaced.items
-    → Sticks names set status text
-sticks names set r status text before is none refused head all = record {
-  none = none;
-  below = is.below;
-  stuck = is.stuck;
-  refused = refused;
-  lines =
-      all
-      ∙ ap₂ (λ (l : List ℕ) (rows : List Unplaced). l ++ unplaced_lines names rows) (head ∙ ap (λ (n : ℕ). refused_line (level_cause n)) is.level) is.rows;
-}

@@ -1,14 +1,14 @@
 -- Clap refuses a first word that names no command.
-use Rattle.std.proofs.Common.{◌≡◌, ◌∙◌, Bool, false, List, [], ◌∷◌, None, refl, ap, ap₂, codes}
+use Rattle.std.proofs.Common.{◌≡◌, ◌∙◌, false, [], ◌∷◌, None, refl, ap, ap₂, codes}
 use Rattle.std.specs.Prelude.{is_some}
 use Rattle.std.specs.Str.{bytes_eq}
-use Rattle.clap.specs.Walk.{Held, Names, Step, Text, Walk, idle, finished, nothing_held, settled, subcommand_met, subcommand_or_other, walk, walk_from, walked}
+use Rattle.clap.specs.Walk.{Held, Names, Step, Text, idle, nothing_held, subcommand_met, subcommand_or_other, walk}
 use Rattle.clap.specs.Simple.{Shape, built, entered, names_of}
 use Rattle.clap.specs.Kinds.{Kinds, or_else}
-use Rattle.clap.specs.Faults.{check_fault, defaults_fault, entered_fault, fault_of, level_fault, other_fault, settle_fault, step_fault, stray_fault, turn_fault, walk_fault}
-use Rattle.clap.specs.declared.error.kind.ErrorKind.{ErrorKind}
+use Rattle.clap.specs.Faults.{entered_fault, fault_of, other_fault, step_fault, stray_fault, turn_fault}
 use Rattle.clap.specs.declared.error.kind.ErrorKind.TheVariants as kind
 use Rattle.command_words.proofs.Walks.{IsPlainWord, met_plain, no_fault}
+use Rattle.command_words.proofs.Enters.{start, level_first}
 use Rattle.tool_command.specs.Shape.{tool}
 
 abbrev top : Shape
@@ -16,9 +16,6 @@ top = (built tool).top
 
 abbrev names : Names
 names = names_of (built tool)
-
-abbrev start : Walk
-start = walk_from nothing_held
 
 -- none of the commands has this name
 pub record IsNoName (name : Text) : Type 0 where
@@ -38,13 +35,6 @@ refused name unnamed plain =
     ap₂ (λ (f : Kinds) (met : Held × Step). or_else f (step_fault top 1 met.0 met.1))
     (ap (λ o. other_fault top o name nothing_held) none ∙ no_fault top idle name nothing_held plain)
     (ap (λ o. subcommand_or_other [] o idle 1 name nothing_held) none ∙ met_plain [] idle 1 name nothing_held plain)
-
-level_first : (s : Shape) (ns : Names) (word : Text) (words : List Text) (has : Bool) (below : Kinds) (k : ErrorKind) (ks : Kinds) → turn_fault s ns start word ≡ k ∷ ks → level_fault s ns nothing_held (word ∷ words) has below ≡ k ∷ ks
-unfolding walk_fault
-level_first s ns word words has below k ks e =
-    let end : Held = (walk s.rules ns nothing_held (word ∷ words)).held in
-    ap (λ t. or_else (or_else t (walk_fault s ns (walked s.rules ns start word) words))
-    (or_else below (or_else (settle_fault s.rules s.args_override_self end) (or_else (defaults_fault (settled s.rules end).rows s.rules) (check_fault s (finished s.rules end) has))))) e
 
 pub fault_there : (name : Text) → IsNoName name → IsPlainWord name → fault_of tool (name ∷ []) ≡ stray_fault top
 fault_there name unnamed plain =

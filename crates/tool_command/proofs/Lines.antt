@@ -1,19 +1,13 @@
 -- The builders of clap make the line of the definition.
 use Rattle.std.proofs.Common.{◌≡◌, ◌∙◌, true, ap, codes, refl}
-use Rattle.clap.specs.Words.{App, is_simple, is_simple_and_free, new_app}
+use Rattle.clap.specs.Words.{is_simple, is_simple_and_free, new_app}
 use Rattle.clap.specs.Simple.{app_of_fields}
 use Rattle.clap.specs.declared.builder.command.Command.{Command}
-use Rattle.clap.specs.declared.builder.command.Command.TheOpen.{Command-F}
 use Rattle.clap.specs.declared.builder.command.Command.TheViews.{out-Command}
 use Rattle.clap.proofs.OnLiterals.{clap_on_literals}
 use Rattle.command_words.specs.Shape.{IsLine}
+use Rattle.command_words.proofs.Lines.{Fields, set_bare}
 use Rattle.tool_command.specs.Shape.{bare, tool}
-
-abbrev Fields : Type 0
-Fields = Command-F Command
-
-abbrev set_bare : App → App
-set_bare a = record a { top = record a.top { no_binary_name = true; disable_help_flag = true; disable_help_subcommand = true } }
 
 pub bare_line : (c d e f : Command) → IsLine (new_app (codes "rtdb-tool")) c → out-Command d ≡ record (out-Command c) { no_binary_name = true } → out-Command e ≡ record (out-Command d) { disable_help_flag = true }
     → out-Command f ≡ record (out-Command e) { disable_help_subcommand = true } → IsLine bare f

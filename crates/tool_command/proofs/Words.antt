@@ -8,9 +8,9 @@ use Rattle.clap.specs.Kinds.{IsAmong, Kinds}
 use Rattle.clap.specs.Faults.{fault_of, walk_fault, defaults_fault}
 use Rattle.clap.specs.declared.error.kind.ErrorKind.{ErrorKind}
 use Rattle.clap.proofs.OnLiterals.{clap_on_literals}
-use Rattle.journal_text.proofs.CutLaws.{both_true}
 use Rattle.command_words.specs.Asking.{is_name}
 use Rattle.command_words.proofs.Parts.{plain_word}
+use Rattle.rt_base.proofs.Padding.{both as both_true}
 use Rattle.tool_command.specs.declared.command.ToolCommand.{ToolCommand}
 use Rattle.tool_command.specs.declared.command.ToolCommand.TheVariants.{Slack, Priorities, Summary, Json, Table, Check}
 use Rattle.tool_command.specs.Commands.{Text, named, command_of}

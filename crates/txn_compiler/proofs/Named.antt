@@ -1,6 +1,5 @@
 -- Changing the rows at named places, one after another.
-use Rattle.std.proofs.Common.{◌≡◌, ℕ, ◌+◌, ◌<◌, ◌≤◌, false, cond, eqb, List, ◌∷◌, length, get_or, set, take, drop, replicate, ◌++◌, refl, sym, ap, subst, ◌∙◌, ⊎_elim, arith, add-one, drop-cons, length-drop}
-use Rattle.std.proofs.Math.ListN.{drop_of_length-le}
+use Rattle.std.proofs.Common.{◌≡◌, ℕ, ◌+◌, ◌<◌, false, cond, eqb, List, ◌∷◌, length, get_or, set, take, drop, replicate, ◌++◌, refl, sym, ap, subst, ◌∙◌, ⊎_elim, arith, add-one, drop-cons, length-drop}
 use Rattle.std.proofs.lemmas.Bool.{cases_eq, eq-eqb, ne_eqb}
 use Rattle.std.specs.List.{All}
 use Rattle.std.proofs.lemmas.List.{get_or_default, get_or-set_same, get_or-set_other, get_or-drop, get_or-replicate, length-replicate, take-append-le}
@@ -8,7 +7,7 @@ use Rattle.std.proofs.Math.Seq.{take-length}
 use Rattle.std.proofs.lemmas.List.Folds.{list_any_none}
 use Rattle.rt_base.specs.declared.ids.ItemId.{ItemId}
 use Rattle.txn_set.specs.Set.{names_item}
-use Rattle.txn_compiler.specs.Tables.{IsList, ChangesNamed}
+use Rattle.txn_compiler.specs.Tables.{IsList}
 
 -- as many rows as are made at first, all alike
 pub all-alike : {X : Type 0} (rows : List X) (n : ℕ) (x : X) → rows ≡ replicate n x → All (λ row. row ≡ x) rows
@@ -59,11 +58,3 @@ due-more change items at d old now row e list same inside row-is due =
           (step change (get_or items at d) (drop (at + 1) items) now e below later i a ∙
           subst (λ (l : List ItemId). cond (names_item l i) (change (get_or now i a)) (get_or now i a) ≡ cond (names_item items i) (change (get_or old i a)) (get_or old i a)) rest (due.each i a within));
     }
-
-pub due-none : {X : Type 0} (change : X → X) (items : List ItemId) (old : List X) → IsDueAt change items 0 old old
-due-none change items old = record { each = λ i d below. refl }
-
-pub due-all : {X : Type 0} (change : X → X) (items : List ItemId) (at : ℕ) (old now : List X) → length items ≤ at → IsDueAt change items at old now → ChangesNamed change items old now
-due-all change items at old now past due = record {
-  each = λ i d below. subst (λ (l : List ItemId). cond (names_item l i) (change (get_or now i d)) (get_or now i d) ≡ cond (names_item items i) (change (get_or old i d)) (get_or old i d)) (drop_of_length-le items past) (due.each i d below);
-}

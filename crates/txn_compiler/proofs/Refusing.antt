@@ -54,10 +54,6 @@ none-all refuses place (x ∷ xs) each =
 
 -- where nothing is refused, a sensor or derived item has one writer
 
-no-writer-none : (item : ℕ) (writers : List ℕ) → no_writer_of item writers ≡ None → writers ≡ [] → ⊥
-no-writer-none item [] h e = cc
-no-writer-none item (a ∷ others) h e = cc
-
 one-of : (item : ℕ) (writers : List ℕ) → no_writer_of item writers ≡ None → two_writers_of item writers ≡ None → (a : ℕ) × (writers ≡ a ∷ [])
 one-of item [] h g = absurd (cc)
 one-of item (a ∷ []) h g = (a, refl)

@@ -15,11 +15,6 @@ no_writer_some item [] a h = cc
 no_writer_some item (x ∷ []) a h = refl
 no_writer_some item (x ∷ y ∷ others) a h = refl
 
-pub two_writers_first : (item : ℕ) (writers : List ℕ) → (first_two writers).first ≡ None → two_writers_of item writers ≡ None
-two_writers_first item [] h = refl
-two_writers_first item (x ∷ []) h = refl
-two_writers_first item (x ∷ y ∷ others) h = cc
-
 pub two_writers_none : (item : ℕ) (writers : List ℕ) → (first_two writers).second ≡ None → two_writers_of item writers ≡ None
 two_writers_none item [] h = refl
 two_writers_none item (x ∷ []) h = refl

@@ -1,5 +1,5 @@
 -- The writers of an item in list order, and what it means that there is one.
-use Rattle.std.proofs.Common.{◌≡◌, ℕ, zero, suc, ◌+◌, ◌-◌, ◌<◌, ◌≤◌, Bool, true, false, ◌&&◌, cond, ⊎_elim, List, [], ◌∷◌, length, get_or, drop, None, Some, refl, sym, ap, subst, ◌∙◌, arith, get_or-drop}
+use Rattle.std.proofs.Common.{◌≡◌, ℕ, zero, suc, ◌+◌, ◌-◌, ◌<◌, ◌≤◌, Bool, true, false, ◌&&◌, ⊎_elim, List, [], ◌∷◌, length, get_or, drop, Some, refl, sym, ap, subst, ◌∙◌, arith, get_or-drop}
 use Rattle.std.specs.List.{All, list_any}
 use Rattle.std.proofs.lemmas.Bool.{cases_lt, cases_Bool, both_ways, and_parts, and_from}
 use Rattle.std.proofs.lemmas.List.{get_or_default}
@@ -10,7 +10,7 @@ use Rattle.rt_base.specs.declared.ids.TxId.{TxId}
 use Rattle.rt_base.specs.declared.ids.ItemId.{ItemId}
 use Rattle.item_model.specs.declared.decl.ItemDecl.{ItemDecl}
 use Rattle.item_model.specs.Kinds.{is_derived}
-use Rattle.txn_compiler.specs.Tables.{first_two, writer_reads, reads_of_first, AreTxnsOver, IsList}
+use Rattle.txn_compiler.specs.Tables.{first_two, writer_reads, AreTxnsOver, IsList}
 use Rattle.std.proofs.lemmas.List.Elements.{All-get_or}
 use Rattle.txn_compiler.specs.Graph.{writers_from, writers_of}
 
@@ -136,15 +136,6 @@ reads-is items txns item a d derived h =
     let inside = first-inside txns item a h in
     let (others, is) = first-of (writers_of txns item) a h in
     rw (derived, is) (ap (λ (t : TxnDecl). t.reads) (get_or_default txns a.0 d no_txn inside))
-
-pub no-reads : (items : List ItemDecl) (txns : List TxnDecl) (item : ℕ) → (first_two (writers_of txns item)).first ≡ None → writer_reads items txns item ≡ []
-no-reads items txns item h = by (is_derived items item) (writers_of txns item) h
-  where
-    by : (b : Bool) (writers : List ℕ) → (first_two writers).first ≡ None → cond b (reads_of_first txns writers) [] ≡ []
-    by true [] e = refl
-    by true (x ∷ []) e = absurd (cc)
-    by true (x ∷ y ∷ others) e = absurd (cc)
-    by false writers e = refl
 
 -- the reads of a transaction are items of the set
 pub reads-inside : (count : ℕ) (txns : List TxnDecl) (a : ℕ) (d : TxnDecl) → AreTxnsOver count txns → a < length txns → All (λ i. i.0 < count) (get_or txns a d).reads

@@ -104,16 +104,8 @@ three-groups None None None None None None (Some x) = refl
 three-groups None None None None None None None = refl
 
 pub refuses-some : (found : Option CompileError) (e : CompileError) → found ≡ Some e → Refuses found e
-refuses-some found (TooManyItems count) is = is
-refuses-some found (TooManyTxns count) is = is
-refuses-some found (SamePrio a b) is = is
-refuses-some found (BadTimes tx which) is = is
-refuses-some found (NoWriter item) is = is
-refuses-some found (TwoWriters item a b) is = is
-refuses-some found (CyclicDerivation item) is = is
 refuses-some found OutOfMemory is = tt
-refuses-some found (TooManySets count) is = is
-refuses-some found (BadTogether place) is = is
+refuses-some found other is = is
 
 pub refuses-first : (found rest : Option CompileError) (e : CompileError) → Refuses found e → Refuses (first_of_both found rest) e
 refuses-first found rest (TooManyItems count) is = rw is refl

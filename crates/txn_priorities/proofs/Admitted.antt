@@ -6,7 +6,7 @@ use Rattle.std.specs.Option.{option_and_then}
 use Rattle.rt_base.specs.declared.ids.ItemId.{ItemId}
 use Rattle.item_model.specs.declared.decl.ItemDecl.{ItemDecl}
 use Rattle.item_model.specs.declared.decl.ItemKind.{ItemKind}
-use Rattle.item_model.specs.declared.decl.ItemKind.TheVariants.{Sensor, Derived, State}
+use Rattle.item_model.specs.declared.decl.ItemKind.TheVariants.{Sensor}
 use Rattle.item_model.specs.Kinds.{validity_of_kind, is_derived_kind, is_derived_decl, validity_of, is_dated, is_derived}
 use Rattle.txn_set.specs.declared.decl.TxnDecl.{TxnDecl}
 use Rattle.txn_set.specs.Set.{Set, no_txn, txn_of, names_item, may_read, may_write, IsTheWriter, IsCompiled}
@@ -26,8 +26,7 @@ no-validity v e = cc
 
 kind-validity : (k : ItemKind) (v : ℕ) → kind_validity k ≡ Some v → (validity_of_kind k ≡ Some v) × (is_derived_kind k ≡ false)
 kind-validity (Sensor w) v e = (e, refl)
-kind-validity (Derived w) v e = absurd (no-validity v e)
-kind-validity State v e = absurd (no-validity v e)
+kind-validity other v e = absurd (no-validity v e)
 
 decl-validity : (o : Option ItemDecl) (v : ℕ) → option_and_then (λ d. kind_validity d.kind) o ≡ Some v → (option_and_then (λ d. validity_of_kind d.kind) o ≡ Some v) × (is_derived_decl o ≡ false)
 decl-validity None v e = absurd (no-validity v e)

@@ -6,6 +6,7 @@ use Rattle.rt_base.specs.declared.ids.TogetherDecl.{TogetherDecl}
 use Rattle.item_model.specs.declared.decl.ItemDecl.{ItemDecl}
 use Rattle.txn_set.specs.declared.decl.TxnDecl.{TxnDecl}
 use Rattle.txn_set.specs.Set.{Set, txn_of, names_item, may_read, may_write, HasGoodTimes, AreItemsOf, IsTheWriter, DependsOn, Walk, IsCompiled}
+use Rattle.txn_set.proofs.Declared.{good_with}
 use Rattle.txn_compiler.specs.Refusal.{compile_refusal}
 use Rattle.txn_compiler.specs.Kept.{set_of, IsInRange, AreLists, kept}
 use Rattle.txn_compiler.proofs.Keeping.{kept-as-declared}
@@ -15,15 +16,8 @@ use Rattle.law_times.proofs.Moving.{with-length}
 use Rattle.txn_priorities.specs.Laws.{AreInRange, CompiledWithPrios}
 use Rattle.txn_priorities.proofs.Unchanged.{reads-with, writes-with, get-with}
 
-good-with : (t : TxnDecl) (n : ℕ) → 1 ≤ n → n ≤ 1000 → HasGoodTimes t → HasGoodTimes (record t { prio = n })
-good-with t n some few h = record {
-  prio = (some, few);
-  steps = h.steps;
-  period = h.period;
-  deadline = h.deadline;
-  offset = h.offset;
-  quiet = h.quiet;
-}
+at-priority : (t : TxnDecl) (n : ℕ) → 1 ≤ n → n ≤ 1000 → HasGoodTimes t → HasGoodTimes (record t { prio = n })
+at-priority t n some few h = good_with t n t.steps t.quiet h (some, few) h.steps h.quiet
 
 module _ (set : Set) (p : ℕ → ℕ) where
   below : (tx : ℕ) → tx < length (txns_with p set.txns) → tx < length set.txns
@@ -84,7 +78,7 @@ module _ (set : Set) (p : ℕ → ℕ) where
         times =
             λ k d lt.
             let inside = below k lt in
-            subst (λ (t : TxnDecl). HasGoodTimes t) (sym (get-with p set.txns k d inside)) (good-with (get_or set.txns k d) (p k) (is.some k inside) (range k inside) (ok.times k d inside));
+            subst (λ (t : TxnDecl). HasGoodTimes t) (sym (get-with p set.txns k d inside)) (at-priority (get_or set.txns k d) (p k) (is.some k inside) (range k inside) (ok.times k d inside));
         prios =
             λ i j d lt less e.
             let in-j = below j less in

@@ -1,5 +1,5 @@
 -- The limit of a transaction is what its deadline and the validities of what it writes leave.
-use Rattle.std.proofs.Common.{◌≡◌, ℕ, zero, suc, ◌+◌, ◌^◌, ◌<◌, ◌≤◌, inl, inr, Bool, true, false, ◌||◌, ◌==◌, List, [], ◌∷◌, map, length, get_or, Option, None, Some, refl, ◌∙◌, ap, arith}
+use Rattle.std.proofs.Common.{◌≡◌, ℕ, zero, suc, ◌+◌, ◌^◌, ◌<◌, ◌≤◌, inl, inr, Bool, true, false, ◌==◌, List, [], ◌∷◌, map, length, get_or, Option, None, Some, refl, ◌∙◌, ap, arith}
 use Rattle.std.proofs.lemmas.Bool.{or_cases, eqb-true, eq-eqb, false≢true}
 use Rattle.std.proofs.lemmas.List.{get_or-map}
 use Rattle.std.specs.Prelude.{IsTrue}
@@ -7,13 +7,12 @@ use Rattle.std.specs.List.{fold}
 use Rattle.rt_base.specs.declared.ids.ItemId.{ItemId}
 use Rattle.txn_set.specs.declared.decl.TxnDecl.{TxnDecl}
 use Rattle.txn_set.specs.Set.{Set, IsCompiled, no_txn, txn_of, names_item, may_read}
+use Rattle.response_test.proofs.Least.{some-is}
+use Rattle.law_times.proofs.Standing.{or_left as or-left, or_right as or-right}
 use Rattle.txn_priorities.specs.Limits.{sensor_validity, is_read, within_validity, limit_of, limit, LimitsAreExact}
 
 no-some : (v : ℕ) → None ≡ Some v → ⊥
 no-some v e = cc
-
-some-is : (v w : ℕ) → Some v ≡ Some w → v ≡ w
-some-is v w e = cc
 
 -- one item
 
@@ -49,14 +48,6 @@ list-room set period (x ∷ xs) most r some le =
         | inr later ↦ rest.1 item later v e so
       ],
     )
-
-or-left : (a b : Bool) → a ≡ true → (a || b) ≡ true
-or-left true b e = refl
-or-left false b e = absurd (false≢true e)
-
-or-right : (a b : Bool) → b ≡ true → (a || b) ≡ true
-or-right true b e = refl
-or-right false b e = e
 
 room-list : (set : Set) (period : ℕ) (xs : List ItemId) (most r : ℕ) → r ≤ most → AllLeaveRoom set xs period r → r ≤ fold (step set period) most xs
 room-list set period [] most r le h = le

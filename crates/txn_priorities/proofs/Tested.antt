@@ -1,7 +1,6 @@
 -- The window that is found for a transaction, and its demand, are those of the test in the middle.
-use Rattle.std.proofs.Common.{◌≡◌, ◌≢◌, ℕ, suc, ◌+◌, ◌-◌, ◌*◌, ◌^◌, ◌<◌, ◌≤◌, ◌⊎◌, inl, inr, true, false, cond, not, ◌&&◌, ◌==◌, List, [], ◌∷◌, ◌++◌, map, length, set as put, drop, subst, mul-le-mul_right, Option, None, Some, is_some, refl, sym, ◌∙◌, ap, arith, append_assoc, append-nil}
+use Rattle.std.proofs.Common.{◌≡◌, ◌≢◌, ℕ, suc, ◌+◌, ◌-◌, ◌*◌, ◌^◌, ◌<◌, ◌≤◌, ◌⊎◌, inl, inr, true, false, not, ◌&&◌, ◌==◌, List, [], ◌∷◌, ◌++◌, map, length, set as put, drop, subst, mul-le-mul_right, Option, None, Some, is_some, refl, sym, ◌∙◌, ap, arith, append_assoc}
 use Rattle.std.proofs.lemmas.Bool.{cases_lt, cases_eq, le-leb, lt-leb, leb-true, lt-ltb, le-ltb, eqb-true, eqb-false, and_parts, and_cases, not-true, not-false, true≢false}
-use Rattle.std.proofs.lemmas.List.Sums.{sum_by-drop_more}
 use Rattle.std.proofs.Math.Nat.{mul-le-mul}
 use Rattle.std.specs.Prelude.{nat_le, IsSome}
 use Rattle.std.specs.List.{filter, range_with_len}
@@ -16,7 +15,7 @@ use Rattle.response_test.specs.declared.windows.Load.{Load}
 use Rattle.response_test.specs.Loads.{uses, window}
 use Rattle.response_test.proofs.Least.{IsLeastFrom, least_from-is, least_from-fails}
 use Rattle.response_test.proofs.Quotients.{div_ceil-le}
-use Rattle.law_times.specs.Pass.{trial, prio_at, is_placed, is_within, passes, first_passing, left, pass_to, pass, AreGiven, IsStuck}
+use Rattle.law_times.specs.Pass.{trial, is_placed, is_within, passes, first_passing, left, pass_to, pass, AreGiven, IsStuck}
 use Rattle.law_times.specs.Laws.{IsSolved, NoneKeeps}
 use Rattle.law_times.proofs.Deciding.{pass-decides}
 use Rattle.law_times.proofs.PriorityLevels.{given-to, passing-is}
@@ -26,7 +25,7 @@ use Rattle.txn_priorities.specs.Limits.{limit}
 use Rattle.txn_priorities.proofs.Limited.{limit-le}
 use Rattle.txn_priorities.specs.Around.{around_set, trial_set, StandForHigher}
 use Rattle.txn_priorities.specs.declared.refusal.Unplaced.{Unplaced}
-use Rattle.txn_priorities.specs.Answers.{unplaced_at, unplaced}
+use Rattle.txn_priorities.specs.Answers.{unplaced_at}
 use Rattle.txn_priorities.proofs.Above.{rest-with, none-with, blocking-trial}
 
 -- the demand
@@ -199,25 +198,10 @@ held-passes set prios tx w most inside free is some le enough =
 abbrev pub first_from : Set → List ℕ → ℕ → Option ℕ
 first_from set prios i = least_from (passes set (limit set) prios) i (length set.txns - i)
 
-pub first-starts : (set : Set) (prios : List ℕ) → first_from set prios 0 ≡ first_passing set (limit set) prios
-first-starts set prios = ap (least_from (passes set (limit set) prios) 0) (let e : length set.txns - 0 ≡ length set.txns = omega arith in e)
-
-pub first-here : (set : Set) (prios : List ℕ) (i : ℕ) → i < length set.txns → passes set (limit set) prios i ≡ true → first_from set prios i ≡ Some i
-first-here set prios i inside so = let e : length set.txns - i ≡ suc (length set.txns - (i + 1)) = omega arith in rw (e, so) refl
-
-pub first-later : (set : Set) (prios : List ℕ) (i : ℕ) → i < length set.txns → passes set (limit set) prios i ≡ false → first_from set prios i ≡ first_from set prios (i + 1)
-first-later set prios i inside unso =
-    let e : length set.txns - i ≡ suc (length set.txns - (i + 1)) = omega arith in
-    let next : suc i ≡ i + 1 = omega arith in
-    rw (e, unso) (ap (λ (k : ℕ). least_from (passes set (limit set) prios) k (length set.txns - (i + 1))) next)
-
 pub first-none : (set : Set) (prios : List ℕ) (i : ℕ) → length set.txns ≤ i → first_from set prios i ≡ None
 first-none set prios i past = let e : length set.txns - i ≡ 0 = omega arith in rw e refl
 
 -- how many are left
-
-pub left-next : (prios : List ℕ) (i : ℕ) → i < length prios → left (drop i prios) ≡ cond (prio_at prios i == 0) 1 0 + left (drop (i + 1) prios)
-left-next prios i inside = sum_by-drop_more (λ (v : ℕ). cond (v == 0) 1 0) prios i 0 inside
 
 -- one term of a demand is small
 pub term-le : (t w steps : ℕ) → 1 ≤ t → w ≤ 2 ^ 30 → steps ≤ 10000 → div_ceil w t * steps ≤ 2 ^ 30 * 10000
@@ -236,11 +220,6 @@ rest-next i n less = let e : n - i ≡ suc (n - (i + 1)) = omega arith in rw e r
 abbrev pub left_from : Set → List ℕ → ℕ → List Unplaced
 left_from set prios i = map (unplaced_at set prios) (filter (λ tx. not (is_placed prios tx)) (rest_of i (length set.txns)))
 
-pub left-starts : (set : Set) (prios : List ℕ) → left_from set prios 0 ≡ unplaced set prios
-left-starts set prios =
-    let e : length set.txns - 0 ≡ length set.txns = omega arith in
-    ap (λ (n : ℕ). map (unplaced_at set prios) (filter (λ tx. not (is_placed prios tx)) (range_with_len 0 n))) e
-
 pub left-more : (set : Set) (prios : List ℕ) (i : ℕ) (rows : List Unplaced) (row : Unplaced) (all : List Unplaced) → i < length set.txns → is_placed prios i ≡ false → row ≡ unplaced_at set prios i
     → rows ++ left_from set prios i ≡ all → (rows ++ row ∷ []) ++ left_from set prios (i + 1) ≡ all
 left-more set prios i rows row all inside free is e =
@@ -251,12 +230,6 @@ pub left-same : (set : Set) (prios : List ℕ) (i : ℕ) (rows all : List Unplac
 left-same set prios i rows all inside so e =
     let next : left_from set prios i ≡ left_from set prios (i + 1) = rw (rest-next i (length set.txns) inside, so) refl in
     ap (λ (rs : List Unplaced). rows ++ rs) (sym next) ∙ e
-
-pub left-ends : (set : Set) (prios : List ℕ) (i : ℕ) (rows all : List Unplaced) → length set.txns ≤ i → rows ++ left_from set prios i ≡ all → rows ≡ all
-left-ends set prios i rows all past e =
-    let zero-left : length set.txns - i ≡ 0 = omega arith in
-    let none : left_from set prios i ≡ [] = rw zero-left refl in
-    sym (append-nil rows) ∙ (ap (λ (rs : List Unplaced). rows ++ rs) (sym none) ∙ e)
 
 pub row-is : (set : Set) (prios : List ℕ) (tx l d : ℕ) → l ≡ limit set tx → d ≡ demand (trial_set set prios tx) tx l → (let row : Unplaced = record { tx = record { 0 = tx }; limit = l; demand = d } in row) ≡ unplaced_at set prios tx
 row-is set prios tx l d limit-is demand-is = rw (demand-is, limit-is) refl

@@ -5,15 +5,14 @@ use Rattle.std.specs.List.{list_any, fold}
 use Rattle.std.specs.Option.{option_and_then}
 use Rattle.item_model.specs.declared.decl.ItemDecl.{ItemDecl}
 use Rattle.item_model.specs.declared.decl.ItemKind.{ItemKind}
-use Rattle.item_model.specs.declared.decl.ItemKind.TheVariants.{Sensor, Derived, State}
+use Rattle.item_model.specs.declared.decl.ItemKind.TheVariants.{Sensor}
 use Rattle.txn_set.specs.declared.decl.TxnDecl.{TxnDecl}
 use Rattle.txn_set.specs.Set.{Set, txn_of, may_read, may_write}
 
 -- the validity of a sensor item; none of another
 abbrev pub kind_validity : ItemKind → Option ℕ
 kind_validity (Sensor validity) = Some validity
-kind_validity (Derived validity) = None
-kind_validity State = None
+kind_validity other = None
 
 abbrev pub sensor_validity : List ItemDecl → ℕ → Option ℕ
 sensor_validity items item = option_and_then (λ d. kind_validity d.kind) (slice_get items item)

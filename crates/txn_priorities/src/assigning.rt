@@ -8,7 +8,7 @@ ghost use Rattle.txn_priorities.specs.Limits.{limit};
 ghost use Rattle.txn_priorities.specs.Answers.{IsRefusal};
 ghost use Rattle.txn_priorities.specs.Laws.{AreInRange};
 
-use crate::declared::{copies_of_sets, txns_with};
+use crate::declared::txns_with;
 use crate::limits::limits_of;
 use crate::refusal::NoAssignment;
 use crate::testing::{first_passing, unplaced_of};
@@ -16,7 +16,7 @@ use rt_base::{OutOfMemory, Prio, Steps};
 use std::alloc::Global;
 use std::sync::ledger::Ledger;
 use txn_compiler::{CompileError, compile};
-use txn_set::CompiledSet;
+use txn_set::{CompiledSet, copies_of_sets};
 
 /// Priorities from 1 to the number of the transactions, in list order, by which each has a response within its limit: its
 /// deadline D, and `V - T` for each sensor item of validity V that it writes and that some transaction reads. If no assignment of

@@ -1,1 +1,1 @@
-mod Declared
+pub mod Declared

@@ -1,6 +1,6 @@
 -- A set of items, transactions and relative sets, as declared, and what a compiled one meets. A transaction and an item go by
 -- their places in the lists.
-use Rattle.std.specs.Prelude.{◌≡◌, ◌≢◌, ℕ, zero, suc, ◌^◌, ◌<◌, ◌≤◌, ◌==◌, Bool, List, [], length, slice_index_or, IsTrue}
+use Rattle.std.specs.Prelude.{◌≡◌, ◌≢◌, ℕ, zero, suc, ◌+◌, ◌*◌, ◌^◌, ◌<◌, ◌≤◌, ◌==◌, Bool, List, [], length, slice_index_or, IsTrue}
 use Rattle.std.specs.List.{All, AllPairs, list_any}
 use Rattle.rt_base.specs.declared.ids.ItemId.{ItemId}
 use Rattle.rt_base.specs.declared.ids.TogetherDecl.{TogetherDecl}
@@ -13,9 +13,22 @@ pub record Set : Type 0 where
   pub txns : List TxnDecl
   pub together : List TogetherDecl
 
+-- a transaction of this priority, period and number of steps, with its deadline at its period, no offset and no quiet step
+abbrev pub declared : ℕ → ℕ → ℕ → List ItemId → List ItemId → TxnDecl
+declared prio period steps reads writes =
+    record { prio = prio; period = period; offset = 0; deadline = period; steps = steps; quiet = 0; reads = reads; writes = writes }
+
+-- the transaction with its first release at this tick
+abbrev pub released_from : ℕ → TxnDecl → TxnDecl
+released_from tick txn = record txn { offset = tick }
+
+-- the tick of a periodic release, counted from 0: the first is at the offset, each next one a period later
+abbrev pub periodic_release : TxnDecl → ℕ → ℕ
+periodic_release txn k = txn.offset + k * txn.period
+
 -- what stands for a transaction that the set does not have: it has the priority 0 and no item
 abbrev pub no_txn : TxnDecl
-no_txn = record { prio = 0; period = 0; offset = 0; deadline = 0; steps = 0; quiet = 0; reads = []; writes = [] }
+no_txn = declared 0 0 0 [] []
 
 -- the declaration of a transaction
 abbrev pub txn_of : Set → ℕ → TxnDecl

@@ -4,9 +4,10 @@ ghost use Rattle.std.specs.List.{All, list_any};
 ghost use Rattle.txn_set.specs.Set.{IsCompiled, txn_of};
 ghost use Rattle.txn_set.specs.Ceilings.{write_ceiling as write_ceiling_of, absolute_ceiling as absolute_ceiling_of, may_block, IsCeilingsOf};
 
+use crate::copies::{copies_of_sets, copies_of_txns};
 use crate::decl::{Ceilings, TxnDecl};
 use item_model::ItemDecl;
-use rt_base::{ItemId, List, OutOfMemory, Prio, TogetherDecl, TxId};
+use rt_base::{ItemId, OutOfMemory, Prio, TogetherDecl, TxId};
 use std::alloc::Global;
 use std::marker::Model;
 
@@ -29,50 +30,6 @@ impl Model for CompiledSet {
     ghost view = { λ s. record { items = s.items.items; txns = s.txns.items; together = s.together.items } };
 
     ghost invariant = { λ s. IsWithCeilings (record { items = s.items.items; txns = s.txns.items; together = s.together.items }) s.ceilings.items };
-}
-
-fn copy_of_items(alloc: Global, items: &List<ItemId>) -> Result<List<ItemId>, OutOfMemory>
-    ensures { IfOk result (λ copy. copy ≡ items.now) }
-{
-    Ok(List::of(Vec::from_slice(alloc, items.as_slice())?))
-}
-
-fn copy_of_txn(alloc: Global, txn: &TxnDecl) -> Result<TxnDecl, OutOfMemory>
-    ensures { IfOk result (λ copy. copy ≡ txn.now) }
-{
-    Ok(TxnDecl {
-        prio: txn.prio,
-        period: txn.period,
-        offset: txn.offset,
-        deadline: txn.deadline,
-        steps: txn.steps,
-        quiet: txn.quiet,
-        reads: copy_of_items(alloc, &txn.reads)?,
-        writes: copy_of_items(alloc, &txn.writes)?,
-    })
-}
-
-fn copies_of_txns(alloc: Global, txns: &[TxnDecl]) -> Result<Vec<TxnDecl>, OutOfMemory>
-    ensures { IfOk result (λ copies. copies.items ≡ txns.now) }
-{
-    let mut copies = Vec::with_capacity(alloc, txns.len())?;
-    for txn in txns {
-        copies.push(copy_of_txn(alloc, txn)?)?;
-    }
-    Ok(copies)
-}
-
-fn copies_of_sets(alloc: Global, sets: &[TogetherDecl]) -> Result<Vec<TogetherDecl>, OutOfMemory>
-    ensures { IfOk result (λ copies. copies.items ≡ sets.now) }
-{
-    let mut copies = Vec::with_capacity(alloc, sets.len())?;
-    for set in sets {
-        copies.push(TogetherDecl {
-            items: copy_of_items(alloc, &set.items)?,
-            within: set.within,
-        })?;
-    }
-    Ok(copies)
 }
 
 impl CompiledSet {

@@ -1,6 +1,6 @@
 //! Declarations of transactions, and the ceilings of an item.
-ghost use Rattle.std.specs.Prelude.{◌≡◌};
-ghost use Rattle.txn_set.specs.Set.{names_item};
+ghost use Rattle.std.specs.Prelude.{◌≡◌, ◌<◌, ◌^◌};
+ghost use Rattle.txn_set.specs.Set.{names_item, periodic_release};
 
 use rt_base::{ItemId, List, Prio, Tick};
 
@@ -17,6 +17,32 @@ pub struct TxnDecl {
     pub quiet: u64,
     pub reads: List<ItemId>,
     pub writes: List<ItemId>,
+}
+
+impl TxnDecl {
+    /// The transaction with the same numbers and these items.
+    pub fn with_items(&self, reads: List<ItemId>, writes: List<ItemId>) -> TxnDecl
+        ensures { result ≡ record self.now { reads = reads; writes = writes } }
+    {
+        TxnDecl {
+            prio: self.prio,
+            period: self.period,
+            offset: self.offset,
+            deadline: self.deadline,
+            steps: self.steps,
+            quiet: self.quiet,
+            reads,
+            writes,
+        }
+    }
+
+    /// The tick of the k-th periodic release, counted from 0: the first is at the offset, each next one a period later.
+    pub fn periodic_release(&self, k: u64) -> Tick
+        requires { periodic_release self.now k < 2 ^ 64 }
+        ensures { result ≡ periodic_release self.now k }
+    {
+        self.offset + k * self.period
+    }
 }
 
 /// The ceilings of an item, after Sha, Rajkumar, Son and Chang: the priority of the highest transaction that may write

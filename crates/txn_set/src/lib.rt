@@ -2,7 +2,9 @@
 #![tactic(auto)]
 
 mod compiled_set;
+mod copies;
 mod decl;
 
 pub use compiled_set::CompiledSet;
+pub use copies::{copies_of_sets, copies_of_txns};
 pub use decl::{Ceilings, TxnDecl, names_item};

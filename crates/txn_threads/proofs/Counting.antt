@@ -26,6 +26,7 @@ use Rattle.board.specs.Answers.{ended_number, early_or, unwritten, unwritten_or,
 use Rattle.board.specs.Stories.{ended_of}
 use Rattle.board.proofs.Overs.{arrived_ended}
 use Rattle.turn_cell.specs.Turn.{Begins}
+use Rattle.sim_run.proofs.Histories.{states_append}
 use Rattle.txn_threads.specs.Rounds.{known_after}
 
 -- the ended jobs of the one state begin those of the other
@@ -82,10 +83,6 @@ event_grows set s idle = idled_grows set s (pending s.rows)
 states_grow : (set : Set) (s : State) (es : List Entry) → Grown s (states_after set s es)
 states_grow set s [] = stays s
 states_grow set s (e ∷ es) = grown_again s (state_after set s e) (states_after set (state_after set s e) es) (event_grows set s (event_of e)) (states_grow set (state_after set s e) es)
-
-states_append : (set : Set) (s : State) (xs ys : List Entry) → states_after set s (xs ++ ys) ≡ states_after set (states_after set s xs) ys
-states_append set s [] ys = refl
-states_append set s (x ∷ xs) ys = states_append set (state_after set s x) xs ys
 
 number_grows : (s t : State) (tx : ℕ) → Grown s t → ended_number s.ended tx ≤ ended_number t.ended tx
 number_grows s t tx g =

@@ -1,5 +1,5 @@
 -- The declarations as they are judged before their rates are known.
-use Rattle.std.proofs.Common.{◌≡◌, ℕ, ◌<◌, ◌≤◌, ltb, List, [], ◌∷◌, length, Option, Some, None, sym, ap, subst, arith}
+use Rattle.std.proofs.Common.{◌≡◌, ℕ, ◌<◌, ltb, List, [], ◌∷◌, length, Option, Some, None, sym, ap, subst, arith}
 use Rattle.std.specs.List.{All}
 use Rattle.std.specs.Option.{option_map}
 use Rattle.rt_base.specs.declared.ids.TogetherDecl.{TogetherDecl}
@@ -8,12 +8,10 @@ use Rattle.item_model.specs.Work.{first_of_both}
 use Rattle.txn_set.specs.declared.decl.TxnDecl.{TxnDecl}
 use Rattle.txn_set.specs.Set.{Set, no_txn}
 use Rattle.txn_compiler.specs.declared.error.CompileError.{CompileError}
-use Rattle.txn_compiler.specs.declared.error.CompileError.TheVariants.{TooManyItems, TooManyTxns, SamePrio, BadTimes, NoWriter, TwoWriters, CyclicDerivation, OutOfMemory, TooManySets, BadTogether}
+use Rattle.txn_compiler.specs.declared.error.CompileError.TheVariants.{TooManyTxns, OutOfMemory}
 use Rattle.txn_compiler.specs.Refusal.{given, first_some, too_many_items, too_many_txns, same_prio, bad_times, no_writer, two_writers, cyclic_derivation, too_many_sets, bad_together, compile_refusal}
 use Rattle.txn_compiler.specs.Refusal.{Refuses as RefusesSet}
 use Rattle.txn_compiler.specs.Kept.{IsInRange, set_of, kept}
-use Rattle.txn_compiler.proofs.Refusing.{of-both-none}
-use Rattle.txn_compiler.proofs.Judged.{few-from}
 use Rattle.update_rates.specs.declared.rates.Rate.{Rate}
 use Rattle.update_rates.specs.declared.error.RateError.TheVariants.{Compile}
 use Rattle.update_rates.specs.RatedSet.{txns_with, plain_set}
@@ -34,9 +32,6 @@ too-many items txns seen together e same h =
     (same_prio txns ∷ bad_times txns ∷ no_writer items txns ∷ two_writers items txns ∷ cyclic_derivation items txns ∷ too_many_sets together ∷ bad_together items together ∷ []) e
     (subst (λ (o : Option CompileError). first_of_both (too_many_items items) o ≡ Some e) alike h)
 
-pub few-txns : (items : List ItemDecl) (txns : List TxnDecl) → first_of_both (too_many_items items) (too_many_txns txns) ≡ None → length txns ≤ 64
-few-txns items txns h = few-from 64 (length txns) (TooManyTxns (length txns)) (of-both-none (too_many_items items) (too_many_txns txns) h).1
-
 -- rates name no item
 pub in-range-with : (rates : ℕ → Rate) (items : List ItemDecl) (txns : List TxnDecl) (together : List TogetherDecl) → IsInRange (set_of items txns together) → IsInRange (set_of items (txns_with rates txns) together)
 in-range-with rates items txns together h = record {
@@ -50,16 +45,8 @@ in-range-with rates items txns together h = record {
 }
 
 of-compile : (found : Option CompileError) (e : CompileError) → RefusesSet found e → Refuses (option_map Compile found) (of_compile e)
-of-compile found (TooManyItems count) is = ap (option_map Compile) is
-of-compile found (TooManyTxns count) is = ap (option_map Compile) is
-of-compile found (SamePrio a b) is = ap (option_map Compile) is
-of-compile found (BadTimes tx which) is = ap (option_map Compile) is
-of-compile found (NoWriter item) is = ap (option_map Compile) is
-of-compile found (TwoWriters item a b) is = ap (option_map Compile) is
-of-compile found (CyclicDerivation item) is = ap (option_map Compile) is
 of-compile found OutOfMemory is = tt
-of-compile found (TooManySets count) is = ap (option_map Compile) is
-of-compile found (BadTogether place) is = ap (option_map Compile) is
+of-compile found other is = ap (option_map Compile) is
 
 pub refused-plain : (set : Set) (e : CompileError) → RefusesSet (compile_refusal (kept (plain_set set))) e → Refuses (option_map Compile (compile_refusal (plain_set (kept set)))) (of_compile e)
 refused-plain set e h =

@@ -70,9 +70,6 @@ load-grows us h tx w inside before some one =
 abbrev pub IsShortAt : List Updater → List Turn → ℕ → ℕ → Type 0
 IsShortAt us turns k from = (d : Turn) → k < length turns → IsTooShort us (get_or turns k d).tx from
 
-pub short-first : (us : List Updater) (turns : List Turn) (k : ℕ) → IsShortAt us turns k 1
-short-first us turns k = λ d inside. record { some = omega arith; below = λ w one less. absurd (omega arith) }
-
 pub short-next : (us : List Updater) (turns : List Turn) (k found : ℕ) (d : Turn) → AreTurns us turns → k < length turns → deadline us (get_or turns k d).tx ≡ Some found → IsShortAt us turns (k + 1) found
 short-next us turns k found d t here is = λ d2 next.
     let now = t.each k d here in

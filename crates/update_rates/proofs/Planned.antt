@@ -169,11 +169,9 @@ no-other (Some x) tx demand e = cc
 
 pub tells : (set : Set) (e : RateError) → Refuses (rate_refusal set) e → TellsTight set e
 unfolding rate_refusal
-tells set OutOfMemory h = tt
-tells set (Compile error) h = tt
-tells set (NotAnUpdater tx) h = tt
 tells set (TooTight tx demand) h =
     tight-unless-kept set
     (tight-last (option_map Compile (compile_refusal (plain_set set))) (not_an_updater set) (too_tight (updaters set)) tx demand
     (no-compile (compile_refusal (plain_set set)) tx demand)
     (no-other (least_from (is_other set) 0 (length set.txns)) tx demand) h)
+tells set other h = tt

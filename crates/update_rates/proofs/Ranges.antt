@@ -1,5 +1,5 @@
 -- Counts and sums over the numbers that pass a test, as a loop over the numbers takes them.
-use Rattle.std.proofs.Common.{◌≡◌, ℕ, suc, ◌+◌, ◌-◌, ◌*◌, ◌^◌, ◌<◌, ◌≤◌, Bool, true, false, List, [], ◌∷◌, length, refl, ap, arith}
+use Rattle.std.proofs.Common.{◌≡◌, ℕ, suc, ◌+◌, ◌-◌, ◌*◌, ◌^◌, ◌<◌, ◌≤◌, Bool, true, false, List, ◌∷◌, length, refl, ap, arith}
 use Rattle.std.specs.List.{filter, range_with_len, sum_by}
 use Rattle.std.specs.Int.{div_ceil}
 use Rattle.std.proofs.Math.Nat.{mul-le-mul}
@@ -15,9 +15,6 @@ rest-next i n less = let e : n - i ≡ suc (n - (i + 1)) = omega arith in rw e r
 
 pub rest-start : (n : ℕ) → rest_of 0 n ≡ range_with_len 0 n
 rest-start n = let e : n - 0 ≡ n = omega arith in ap (range_with_len 0) e
-
-pub rest-end : (i n : ℕ) → n ≤ i → rest_of i n ≡ []
-rest-end i n le = let e : n - i ≡ 0 = omega arith in rw e refl
 
 pub count-passes : (p : ℕ → Bool) (i n place all : ℕ) → i < n → p i ≡ true → place + length (filter p (rest_of i n)) ≡ all → (place + 1) + length (filter p (rest_of (i + 1) n)) ≡ all
 count-passes p i n place all less passes e =
@@ -39,16 +36,6 @@ pub sum-fails : (p : ℕ → Bool) (f : ℕ → ℕ) (i n total all : ℕ) → i
 sum-fails p f i n total all less fails e =
     let next : filter p (rest_of i n) ≡ filter p (rest_of (i + 1) n) = rw (rest-next i n less, fails) refl in
     omega (arith, ap (λ (xs : List ℕ). sum_by f xs) next, e)
-
-pub sum-ends : (p : ℕ → Bool) (f : ℕ → ℕ) (i n total all : ℕ) → n ≤ i → total + sum_by f (filter p (rest_of i n)) ≡ all → total ≡ all
-sum-ends p f i n total all le e =
-    let none : filter p (rest_of i n) ≡ [] = rw (rest-end i n le) refl in
-    omega (arith, ap (λ (xs : List ℕ). sum_by f xs) none, e)
-
-pub count-ends : (p : ℕ → Bool) (i n place all : ℕ) → n ≤ i → place + length (filter p (rest_of i n)) ≡ all → place ≡ all
-count-ends p i n place all le e =
-    let none : length (filter p (rest_of i n)) ≡ 0 = rw (rest-end i n le) refl in
-    omega (arith, none, e)
 
 -- one term of a load is small
 pub term-le : (t w steps : ℕ) → 1 ≤ t → w ≤ 2 ^ 30 → steps ≤ 10000 → div_ceil w t * steps ≤ 2 ^ 30 * 10000

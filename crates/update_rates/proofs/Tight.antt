@@ -7,6 +7,7 @@ use Rattle.std.proofs.lemmas.List.{length-map}
 use Rattle.response_test.specs.Response.{least_from}
 use Rattle.response_test.proofs.Least.{least_from-found, least_from-none, least_from-fails}
 use Rattle.txn_set.specs.Set.{Set}
+use Rattle.set_admission.proofs.Admitted.{map-none}
 use Rattle.update_rates.specs.declared.updaters.Updater.{Updater}
 use Rattle.update_rates.specs.declared.error.RateError.TheVariants.{TooTight}
 use Rattle.update_rates.specs.Updaters.{updater_of, updaters}
@@ -102,10 +103,6 @@ too_tight-none us each =
     ap (option_map (λ i. TooTight (record { 0 = i }) (last_load us i)))
     (least_from-none (is_tight us) 0 (length us)
     (λ v low high. false_from_ne_true (is_tight us v) (λ e. each v (omega arith) (tight-is us v e).none)))
-
-map-none : {A B : Type 0} (f : A → B) (o : Option A) → option_map f o ≡ None → o ≡ None
-map-none f None h = refl
-map-none f (Some x) h = absurd cc
 
 -- where no updater is the first without a deadline, each has one
 each-below : (us : List Updater) → ((tx : ℕ) → tx < length us → is_tight us tx ≡ false) → (n tx : ℕ) → tx < length us → place_of us tx < n → deadline us tx ≡ None → ⊥

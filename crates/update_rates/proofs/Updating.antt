@@ -11,6 +11,7 @@ use Rattle.txn_set.specs.declared.decl.TxnDecl.{TxnDecl}
 use Rattle.txn_set.specs.Set.{Set, no_txn, txn_of, IsCompiled}
 use Rattle.response_test.specs.Response.{least_from}
 use Rattle.response_test.proofs.Least.{least_from-found, least_from-none, least_from-fails}
+use Rattle.set_admission.proofs.Admitted.{map-none}
 use Rattle.update_rates.specs.declared.updaters.Updater.{Updater}
 use Rattle.update_rates.specs.declared.error.RateError.TheVariants.{NotAnUpdater}
 use Rattle.update_rates.specs.Updaters.{sensor_validity, lone_sensor, written_validity, updater_validity, updater_of, updaters}
@@ -45,10 +46,6 @@ updater-is items (i ∷ reads) writes v e = absurd cc
 there-is : {A : Type 0} (o : Option A) → is_none o ≡ false → (x : A) × (o ≡ Some x)
 there-is None e = absurd cc
 there-is (Some x) e = (x, refl)
-
-map-none : {A B : Type 0} (f : A → B) (o : Option A) → option_map f o ≡ None → o ≡ None
-map-none f None h = refl
-map-none f (Some x) h = absurd cc
 
 -- where none is the first that is no updater, each is one
 pub updater-each : (set : Set) → not_an_updater set ≡ None → (tx : ℕ) → tx < length set.txns → IsUpdater set.items (txn_of set tx).reads (txn_of set tx).writes

@@ -4,7 +4,7 @@ use Rattle.std.specs.Option.{option_and_then, unwrap_or}
 use Rattle.rt_base.specs.declared.ids.ItemId.{ItemId}
 use Rattle.item_model.specs.declared.decl.ItemDecl.{ItemDecl}
 use Rattle.item_model.specs.declared.decl.ItemKind.{ItemKind}
-use Rattle.item_model.specs.declared.decl.ItemKind.TheVariants.{Sensor, Derived, State}
+use Rattle.item_model.specs.declared.decl.ItemKind.TheVariants.{Sensor}
 use Rattle.txn_set.specs.declared.decl.TxnDecl.{TxnDecl}
 use Rattle.txn_set.specs.Set.{Set}
 use Rattle.update_rates.specs.declared.updaters.Updater.{Updater}
@@ -12,8 +12,7 @@ use Rattle.update_rates.specs.declared.updaters.Updater.{Updater}
 -- the validity of a sensor item; none of another
 abbrev pub sensor_validity : ItemKind → Option ℕ
 sensor_validity (Sensor validity) = Some validity
-sensor_validity (Derived validity) = None
-sensor_validity State = None
+sensor_validity other = None
 
 -- the validity of the sensor item that stands alone in a list
 abbrev pub lone_sensor : List ItemDecl → List ItemId → Option ℕ

@@ -18,11 +18,11 @@ use crate::error::RateError;
 use crate::rates::{Rate, rates_of};
 use crate::updaters::updaters_of;
 use item_model::ItemDecl;
-use rt_base::{ItemId, List, OutOfMemory, TogetherDecl};
+use rt_base::{OutOfMemory, TogetherDecl};
 use set_admission::{AdmitError, AdmittedSet, admit};
 use std::alloc::Global;
 use txn_compiler::{CompileError, compile};
-use txn_set::{CompiledSet, TxnDecl};
+use txn_set::{CompiledSet, TxnDecl, copies_of_sets};
 
 // The numbers of items and of transactions are judged before the transactions get priorities.
 fn too_many(items: &[ItemDecl], txns: &[TxnDecl]) -> Option<CompileError>
@@ -84,25 +84,12 @@ fn plain(
     Ok(compile(alloc, items, txns, together)?)
 }
 
-fn copy_of_items(alloc: Global, items: &List<ItemId>) -> Result<List<ItemId>, OutOfMemory>
-    ensures { IfOk result (λ copy. copy ≡ items.now) }
-{
-    Ok(List::of(Vec::from_slice(alloc, items.as_slice())?))
-}
-
 fn rated_txn(alloc: Global, txn: &TxnDecl, rate: Rate) -> Result<TxnDecl, OutOfMemory>
     ensures { IfOk result (λ t. t ≡ with_rate rate txn.now) }
 {
-    Ok(TxnDecl {
-        prio: rate.prio,
-        period: rate.period,
-        offset: 0,
-        deadline: rate.deadline,
-        steps: txn.steps,
-        quiet: txn.quiet,
-        reads: copy_of_items(alloc, &txn.reads)?,
-        writes: copy_of_items(alloc, &txn.writes)?,
-    })
+    let mut rated = txn.copy(alloc)?;
+    give(&mut rated, rate);
+    Ok(rated)
 }
 
 // The transactions of a set with these rates.
@@ -115,22 +102,6 @@ fn rated_txns(alloc: Global, set: &CompiledSet, rates: &[Rate]) -> Result<Vec<Tx
         txns.push(rated_txn(alloc, txn, rates[tx])?)?;
     }
     Ok(txns)
-}
-
-fn copies_of_groups(
-    alloc: Global,
-    groups: &[TogetherDecl],
-) -> Result<Vec<TogetherDecl>, OutOfMemory>
-    ensures { IfOk result (λ copies. copies.items ≡ groups.now) }
-{
-    let mut copies = Vec::with_capacity(alloc, groups.len())?;
-    for group in groups {
-        copies.push(TogetherDecl {
-            items: copy_of_items(alloc, &group.items)?,
-            within: group.within,
-        })?;
-    }
-    Ok(copies)
 }
 
 // Where no rule refuses a set, a compilation fails for want of memory alone.
@@ -162,7 +133,7 @@ fn compiled(alloc: Global, set: &CompiledSet, rates: &[Rate]) -> Result<Compiled
     set.is_compiled();
     let items = Vec::from_slice(alloc, set.items())?;
     let txns = rated_txns(alloc, set, rates)?;
-    let together = copies_of_groups(alloc, set.together())?;
+    let together = copies_of_sets(alloc, set.together())?;
     match compile(alloc, items, txns, together) {
         Ok(rated) => Ok(rated),
         Err(error) => Err(compile_memory(error)),

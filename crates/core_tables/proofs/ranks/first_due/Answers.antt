@@ -1,6 +1,6 @@
 use Rattle.std.proofs.Common.{◌<◌, length, subst}
 use Rattle.core_tables.specs.PendingTables.{HasDeadline}
-use Rattle.core_tables.proofs.RankSets.{count_less}
+use Rattle.rt_base.proofs.Ranks.{count_less}
 use Rattle.core_tables.proofs.Dues.{rank_low, taken, first_found}
 use Rattle.core_tables.proofs.ranks.first_due.Goals as goal
 

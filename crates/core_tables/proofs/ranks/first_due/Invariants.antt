@@ -1,7 +1,7 @@
 use Rattle.std.proofs.Common.{◌≡◌, ℕ, true, false, length}
 use Rattle.rt_base.specs.Ranks.{has_rank}
 use Rattle.core_tables.specs.PendingTables.{NotDue}
-use Rattle.core_tables.proofs.RankSets.{count_ranks}
+use Rattle.rt_base.proofs.Ranks.{count_ranks}
 use Rattle.core_tables.proofs.ranks.first_due.Given as goal
 
 abbrev pub invariant-loop-rank : goal.invariant-loop-rank

@@ -1,6 +1,6 @@
 use Rattle.std.proofs.Common.{◌<◌, ◌+◌, length, Some, get_or, sym, ap, ◌∙◌, subst}
 use Rattle.core_tables.specs.PendingTables.{IsLeastPassed}
-use Rattle.core_tables.proofs.RankSets.{count_less}
+use Rattle.rt_base.proofs.Ranks.{count_less}
 use Rattle.core_tables.proofs.Dues.{rank_low, still_left, taken, not_there, least_none, least_some, least_all}
 use Rattle.core_tables.proofs.ranks.least_deadline.Goals as goal
 use Rattle.core_tables.proofs.ranks.least_deadline.Goals.{in-Some-heads, in_default-heads}

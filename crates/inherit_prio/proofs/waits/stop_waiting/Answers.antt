@@ -2,7 +2,8 @@ use Rattle.std.proofs.Common.{◌≡◌, ◌∙◌, List, Option, ap, length, su
 use Rattle.std.proofs.lemmas.List.{length-set}
 use Rattle.rt_base.specs.declared.ids.TxId.{TxId}
 use Rattle.inherit_prio.specs.Waits.{on_of, unless_on, AreRanksOn}
-use Rattle.inherit_prio.proofs.Ranks.{count_less, least_within, ranking_of, ranks_step, remains_all, remains_step}
+use Rattle.rt_base.proofs.Ranks.{count_less}
+use Rattle.inherit_prio.proofs.Ranks.{least_within, ranking_of, ranks_step, remains_all, remains_step}
 use Rattle.inherit_prio.proofs.waits.stop_waiting.Goals as goal
 
 pub loop-rank-preserved : goal.loop-rank-preserved

@@ -1,6 +1,6 @@
 use Rattle.std.proofs.Common.{◌≡◌, ℕ, length}
 use Rattle.inherit_prio.specs.Waits.{on_of, unless_on, AreRanksOn}
-use Rattle.inherit_prio.proofs.Ranks.{count_ranks}
+use Rattle.rt_base.proofs.Ranks.{count_ranks}
 use Rattle.inherit_prio.proofs.waits.stop_waiting.Given as goal
 
 abbrev pub invariant-loop-rank : goal.invariant-loop-rank

@@ -1,6 +1,6 @@
 use Rattle.std.proofs.Common.{codes, ◌++◌, ◌≡◌}
+use Rattle.picture_text.proofs.Sums.{back}
 use Rattle.picture_command.specs.Page.{body_part, legend_part, names_part}
-use Rattle.picture_command.proofs.Sums.{back}
 use Rattle.picture_command.proofs.figure.add_figure.Goals as goal
 
 pub returns : goal.returns

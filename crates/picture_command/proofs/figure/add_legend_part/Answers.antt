@@ -1,8 +1,8 @@
 use Rattle.std.proofs.Common.{codes, ◌++◌, ◌≡◌}
+use Rattle.picture_text.proofs.Sums.{back}
 use Rattle.picture_command.specs.Page.{closing, lower, opening}
 use Rattle.schedule_marks.specs.Svg.{rect}
 use Rattle.picture_text.specs.Legend.{arrows, legend, style}
-use Rattle.picture_command.proofs.Sums.{back}
 use Rattle.picture_command.proofs.figure.add_legend_part.Goals as goal
 
 pub returns : goal.returns

@@ -1,8 +1,8 @@
 use Rattle.std.proofs.Common.{ℕ, ap, ◌∙◌, codes, ◌++◌, ◌-◌, ◌≡◌}
+use Rattle.picture_text.proofs.Sums.{back}
 use Rattle.picture_command.specs.Page.{closing, cut, lower, opening}
 use Rattle.schedule_marks.specs.Svg.{rect}
 use Rattle.picture_text.specs.Texts.{titles_text, whole_height}
-use Rattle.picture_command.proofs.Sums.{back}
 use Rattle.picture_command.proofs.figure.add_names_part.Goals as goal
 
 pub returns : goal.returns

@@ -1,8 +1,8 @@
 use Rattle.std.proofs.Common.{rules, slice_get, ◌++◌, ◌≡◌}
 use Rattle.item_model.specs.Kinds.{validity_of}
 use Rattle.journal_text.specs.Ids.{name_at}
+use Rattle.picture_text.proofs.Sums.{back}
 use Rattle.picture_command.specs.Tables.{age_bound_of, cell, kind_of, maybe_cell}
-use Rattle.picture_command.proofs.Sums.{back}
 use Rattle.picture_command.proofs.items.add_item.Goals as goal
 
 pub returns : goal.returns

@@ -1,6 +1,6 @@
 use Rattle.std.proofs.Common.{◌++◌, ◌≡◌}
+use Rattle.picture_text.proofs.Sums.{back}
 use Rattle.picture_command.specs.Tables.{item_head, item_lines, table_end}
-use Rattle.picture_command.proofs.Sums.{back}
 use Rattle.picture_command.proofs.items.add_items.Goals as goal
 
 pub returns : goal.returns

@@ -1,7 +1,7 @@
 use Rattle.std.proofs.Common.{codes, rules, ◌++◌, ◌≡◌}
 use Rattle.item_model.specs.Work.{stored_of}
+use Rattle.picture_text.proofs.Sums.{back}
 use Rattle.picture_command.specs.Tables.{item_cells, value_cells}
-use Rattle.picture_command.proofs.Sums.{back}
 use Rattle.picture_command.proofs.items.add_line.Goals as goal
 
 pub returns : goal.returns

@@ -1,8 +1,8 @@
 use Rattle.std.proofs.Common.{rules, ◌++◌, ◌≡◌}
 use Rattle.journal_text.specs.Ids.{name_at}
+use Rattle.picture_text.proofs.Sums.{back}
 use Rattle.picture_command.specs.Tables.{cell, number_cell}
 use Rattle.txn_set.specs.Set.{txn_of}
-use Rattle.picture_command.proofs.Sums.{back}
 use Rattle.picture_command.proofs.jobs.add_declared.Goals as goal
 
 pub returns : goal.returns

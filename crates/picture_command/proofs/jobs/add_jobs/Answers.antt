@@ -1,6 +1,6 @@
 use Rattle.std.proofs.Common.{rules, slice_get, ◌++◌, ◌≡◌}
+use Rattle.picture_text.proofs.Sums.{back}
 use Rattle.picture_command.specs.Tables.{committed_in, delay_in, ended_in, maybe_cell, number_cell, response_in, total, worst}
-use Rattle.picture_command.proofs.Sums.{back}
 use Rattle.picture_command.proofs.jobs.add_jobs.Goals as goal
 
 pub returns : goal.returns

@@ -1,6 +1,6 @@
 use Rattle.std.proofs.Common.{codes, ◌++◌, ◌≡◌}
+use Rattle.picture_text.proofs.Sums.{back}
 use Rattle.picture_command.specs.Tables.{declared_cells, job_cells}
-use Rattle.picture_command.proofs.Sums.{back}
 use Rattle.picture_command.proofs.jobs.add_line.Goals as goal
 
 pub returns : goal.returns

@@ -1,6 +1,6 @@
 use Rattle.std.proofs.Common.{◌++◌, ◌≡◌}
+use Rattle.picture_text.proofs.Sums.{back}
 use Rattle.picture_command.specs.Tables.{table_end, txn_head, txn_lines}
-use Rattle.picture_command.proofs.Sums.{back}
 use Rattle.picture_command.proofs.jobs.add_txns.Goals as goal
 
 pub returns : goal.returns

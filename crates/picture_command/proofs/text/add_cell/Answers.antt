@@ -1,5 +1,5 @@
 use Rattle.std.proofs.Common.{codes, ◌++◌, ◌≡◌}
-use Rattle.picture_command.proofs.Sums.{back}
+use Rattle.picture_text.proofs.Sums.{back}
 use Rattle.picture_command.proofs.text.add_cell.Goals as goal
 
 pub returns : goal.returns

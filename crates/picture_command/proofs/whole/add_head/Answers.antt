@@ -1,6 +1,6 @@
 use Rattle.std.proofs.Common.{codes, ◌++◌, ◌≡◌}
+use Rattle.picture_text.proofs.Sums.{back}
 use Rattle.picture_command.specs.Page.{page_title, safe_head, sheet_style}
-use Rattle.picture_command.proofs.Sums.{back}
 use Rattle.picture_command.proofs.whole.add_head.Goals as goal
 
 pub returns : goal.returns

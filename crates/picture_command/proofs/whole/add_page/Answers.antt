@@ -1,9 +1,9 @@
 use Rattle.std.proofs.Common.{ℕ, List, ap, ◌∙◌, codes, ◌++◌, ◌≡◌}
 use Rattle.item_model.specs.declared.stored.Stored.{Stored}
 use Rattle.job_rows.specs.declared.row.JobRow.{JobRow}
+use Rattle.picture_text.proofs.Sums.{back}
 use Rattle.picture_command.specs.Page.{figure, page_head}
 use Rattle.picture_command.specs.Tables.{item_table, txn_table}
-use Rattle.picture_command.proofs.Sums.{back}
 use Rattle.picture_command.proofs.whole.add_page.Goals as goal
 
 pub returns : goal.returns

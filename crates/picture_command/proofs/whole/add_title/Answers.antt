@@ -1,6 +1,6 @@
 use Rattle.std.proofs.Common.{codes, ◌++◌, ◌≡◌}
 use Rattle.schedule_marks.specs.Svg.{counted}
-use Rattle.picture_command.proofs.Sums.{back}
+use Rattle.picture_text.proofs.Sums.{back}
 use Rattle.picture_command.proofs.whole.add_title.Goals as goal
 
 pub returns : goal.returns

@@ -1,7 +1,6 @@
 use Rattle.step_script.specs.Shown.{Shown, shown}
 use Rattle.command_replies.specs.declared.reply.Reply.{Reply}
-use Rattle.command_replies.proofs.Replying.{taken}
-use Rattle.scenario_run.proofs.Summaries.{refused_by}
+use Rattle.command_replies.proofs.Replying.{taken, refused_by}
 use Rattle.scenario_run.proofs.JournalBegun.{journal_reply, journaled_begun, if_ok_map}
 use Rattle.scenario_run.proofs.Kept.{kept_none}
 use Rattle.scenario_run.proofs.journaled.run_journal.Goals as goal

@@ -8,8 +8,7 @@ use Rattle.step_journal.specs.History.{state_of}
 use Rattle.io_edge.specs.Causes.{Rose}
 use Rattle.scenario_run.specs.Ran.{HaltedBy}
 use Rattle.command_replies.specs.declared.reply.Reply.{Reply}
-use Rattle.command_replies.proofs.Replying.{taken}
-use Rattle.scenario_run.proofs.Summaries.{refused_by}
+use Rattle.command_replies.proofs.Replying.{taken, refused_by}
 use Rattle.scenario_run.proofs.JournalBegun.{short, set_is_w, journaled, journaled_halted, journaled_named, halted_not_ok, if_ok_map}
 use Rattle.scenario_run.proofs.Kept.{kept_refused, kept_run_over}
 use Rattle.scenario_run.proofs.journaled.run_over.Goals as goal

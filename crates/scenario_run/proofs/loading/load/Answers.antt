@@ -2,10 +2,10 @@ use Rattle.std.proofs.Common.{◌≡◌, Some, map, refl}
 use Rattle.step_script.specs.Shown.{Shown, shown, set_of}
 use Rattle.step_script.specs.Releases.{fixed_ticks, eager_of}
 use Rattle.txn_compiler.specs.Refusal.{compile_refusal}
-use Rattle.command_replies.proofs.Replying.{taken}
+use Rattle.command_replies.proofs.Replying.{taken, refused_by}
 use Rattle.scenario_run.specs.Runs.{Declares}
 use Rattle.scenario_run.proofs.Ready.{room_is}
-use Rattle.scenario_run.proofs.Summaries.{not_refused, refused_by, never, summary_as, load_text, generated_own}
+use Rattle.scenario_run.proofs.Summaries.{not_refused, never, summary_as, load_text, generated_own}
 use Rattle.scenario_run.proofs.loading.load.Goals as goal
 
 pub unreachable-requires : goal.unreachable-requires

@@ -3,7 +3,7 @@ use Rattle.std.specs.List.{position}
 use Rattle.step_script.specs.declared.releases.Releases.{Releases}
 use Rattle.step_script.specs.Releases.{is_eager}
 use Rattle.step_script.specs.Shown.{Shown, shown, set_of}
-use Rattle.scenario_run.proofs.Summaries.{refused_by}
+use Rattle.command_replies.proofs.Replying.{refused_by}
 use Rattle.scenario_run.specs.JournalReplies.{IsRefusal}
 use Rattle.scenario_run.proofs.Refusing.{turned_away}
 use Rattle.scenario_run.proofs.plan.planned.Goals as goal

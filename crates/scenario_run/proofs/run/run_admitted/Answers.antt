@@ -4,10 +4,9 @@ use Rattle.set_admission.specs.Admission.{refusal}
 use Rattle.step_script.specs.Shown.{Shown, shown, set_of}
 use Rattle.scenario_run.proofs.Parts.{wrote_of, front_of, kept_or_front}
 use Rattle.io_edge.specs.declared.status.Status.TheVariants as statuses
-use Rattle.command_replies.proofs.Replying.{taken}
+use Rattle.command_replies.proofs.Replying.{taken, refused_by}
 use Rattle.scenario_run.specs.Runs.{Declares}
 use Rattle.scenario_run.specs.Replies.{RunText}
-use Rattle.scenario_run.proofs.Summaries.{refused_by}
 use Rattle.scenario_run.proofs.Started.{names_set, text_is}
 use Rattle.scenario_run.proofs.Replying.{admitted_reply, refused_run, same_error}
 use Rattle.scenario_run.proofs.run.run_admitted.Goals as goal

@@ -1,4 +1,4 @@
-use Rattle.set_admission.proofs.Admitted.{reads_in}
+use Rattle.txn_set.proofs.Declared.{reads_in}
 use Rattle.set_admission.proofs.refuse.reads_of.Goals as goal
 
 pub returns-clause-in_range : goal.returns-clause-in_range

@@ -4,11 +4,11 @@ use Rattle.step_journal.specs.declared.entry.Entry.{Entry}
 use Rattle.journal_text.specs.Lines.{IsWritable}
 use Rattle.durable_disk.specs.Records.{HasFirst, Reads}
 use Rattle.durable_disk.specs.Standing.{Stands}
-use Rattle.durable_disk.proofs.Calls.{at_rest}
+use Rattle.durable_disk.proofs.Calls.{at_rest, each_told}
 use Rattle.durable_journal.specs.Format.{bodies_of, entry_bodies}
 use Rattle.durable_journal.specs.Log.{HasSome, IsLeft}
 use Rattle.durable_journal.proofs.Crash.{is_left, weaken}
-use Rattle.durable_journal.proofs.Runs.{some_none, each_told, started, run_on}
+use Rattle.durable_journal.proofs.Runs.{some_none, started, run_on}
 use Rattle.durable_journal.proofs.Pieces.{bodies_append, fit_append, length-bodies, none_opens, nothing_staged, on_ok_going, some_opens}
 use Rattle.durable_journal.proofs.log.Log.append_all.Goals as goal
 

@@ -1,6 +1,7 @@
-//! A run of the generated set on a board: its scripts, and the loop.
+//! A run of the generated set on a board.
+use crate::script::{AT_START, Progress, go_on, op_at};
 use board::{Board, IdleReply, StepReply};
-use rt_base::{ItemId, JobId, Op, OutOfMemory, Outcome, Tick, TxId, Value};
+use rt_base::{JobId, OutOfMemory, Tick, TxId};
 use std::alloc::Global;
 
 /// What a run came to: the entries of its history, the last tick, and the turns that it took.
@@ -17,44 +18,6 @@ pub struct Plan {
     pub n: u32,
     pub jobs: u32,
     pub is_eager: bool,
-}
-
-// How far the pending job of a transaction is, what it read last, and how many jobs of the transaction were planned.
-#[derive(Clone, Copy)]
-struct Progress {
-    place: u32,
-    planned: u32,
-    last: Value,
-}
-
-// A transaction of which nothing is planned.
-const AT_START: Progress = Progress {
-    place: 0,
-    planned: 0,
-    last: 0,
-};
-
-// What a job asks for at its place: one of an even transaction i writes item i, computes twice and commits; one of an odd
-// i reads item i - 1, writes the items i and n, and commits.
-fn op_at(n: u32, job: JobId, progress: Progress) -> Op {
-    let i = job.tx.0;
-    let item = ItemId(i);
-    match (i % 2, progress.place) {
-        (0, 0) => Op::Write(item, job.serial as Value),
-        (0, 1 | 2) => Op::Compute,
-        (1, 0) => Op::Read(ItemId(i.saturating_sub(1))),
-        (1, 1) => Op::Write(item, progress.last),
-        (1, 2) => Op::Write(ItemId(n), progress.last.saturating_add(i as Value)),
-        _ => Op::Commit,
-    }
-}
-
-// The job goes on after a granted operation.
-fn go_on(progress: &mut Progress, outcome: Outcome) {
-    progress.place = progress.place.saturating_add(1);
-    if let Outcome::Got { value, .. } = outcome {
-        progress.last = value;
-    }
 }
 
 // Plans the transaction's next job, where it is one of the set. False where it is not planned.

@@ -1,5 +1,5 @@
 use Rattle.std.proofs.Common.{◌≡◌, take}
-use Rattle.txn_set.proofs.compiled_set.copies_of_txns.Given as goal
+use Rattle.txn_set.proofs.copies.copies_of_txns.Given as goal
 
 abbrev pub invariant-loop-txn : goal.invariant-loop-txn
 invariant-loop-txn l = l.copies.items ≡ take l.txn-index l.txns

@@ -1,5 +1,5 @@
 use Rattle.std.proofs.Common.{◌≡◌, take}
-use Rattle.txn_set.proofs.compiled_set.copies_of_sets.Given as goal
+use Rattle.txn_set.proofs.copies.copies_of_sets.Given as goal
 
 abbrev pub invariant-loop-set : goal.invariant-loop-set
 invariant-loop-set l = l.copies.items ≡ take l.set-index l.sets
