@@ -18,7 +18,7 @@ use command_replies::{
 use command_words::{Command, PlainCommand, read_command};
 use io_edge::{ReadError, Sink, Source, Status, Word, read_all, write_all};
 use rt_base::OutOfMemory;
-use scenario_run::{load, run_admitted, run_trial};
+use scenario_run::{RunMode, load, run_scenario};
 use scenario_writer::{generated, write_scenario};
 use sim_run::{RunFault, Workers};
 use std::alloc::Global;
@@ -171,26 +171,14 @@ fn answer_run<R: Threads + Wait + Sync, S: Source, K: Sink, G: Gate + Sync>(
         Err(Unanswered::Reading) => return Status::ReadFault,
         Err(Unanswered::Memory) => return Status::OutOfMemory,
     };
-    if mode.trial {
-        match run_trial(rt, alloc, mode.workers, scenario, sink, gate) {
-            Ok(None) => Status::Ok,
-            Ok(Some(reply)) => match write_all(sink, &reply.text) {
-                Ok(()) => reply.status,
-                Err(_) => Status::WriteFault,
-            },
-            Err(RunFault::Writing) => Status::WriteFault,
-            Err(RunFault::Memory) => Status::OutOfMemory,
-        }
-    } else {
-        match run_admitted(rt, alloc, mode.workers, scenario, sink, gate) {
-            Ok(None) => Status::Ok,
-            Ok(Some(reply)) => match write_all(sink, &reply.text) {
-                Ok(()) => reply.status,
-                Err(_) => Status::WriteFault,
-            },
-            Err(RunFault::Writing) => Status::WriteFault,
-            Err(RunFault::Memory) => Status::OutOfMemory,
-        }
+    match run_scenario(rt, alloc, mode, scenario, sink, gate) {
+        Ok(None) => Status::Ok,
+        Ok(Some(reply)) => match write_all(sink, &reply.text) {
+            Ok(()) => reply.status,
+            Err(_) => Status::WriteFault,
+        },
+        Err(RunFault::Writing) => Status::WriteFault,
+        Err(RunFault::Memory) => Status::OutOfMemory,
     }
 }
 
@@ -244,13 +232,6 @@ pub fn rtdb_plain<S: Source, K: Sink>(
         Ok(None) => answer_no_command(sink),
         Err(OutOfMemory) => Status::OutOfMemory,
     }
-}
-
-// How a scenario is run: on trial, or admitted, and by so many workers.
-#[derive(Clone, Copy)]
-struct RunMode {
-    trial: bool,
-    workers: Workers,
 }
 
 // So many workers.

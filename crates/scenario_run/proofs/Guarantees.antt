@@ -1,5 +1,5 @@
 -- What the laws say of the run of a scenario.
-use Rattle.std.proofs.Common.{◌≡◌, ℕ, ◌<◌, Bool, true, false, not, List, None, length, arith}
+use Rattle.std.proofs.Common.{ℕ, ◌<◌, Bool, true, false, not, List, length, arith}
 use Rattle.txn_set.specs.Set.{Set, IsCompiled}
 use Rattle.step_journal.specs.declared.entry.Entry.{Entry}
 use Rattle.step_journal.specs.History.{IsLegal}
@@ -7,12 +7,11 @@ use Rattle.law_histories.proofs.SerialAll.{serial}
 use Rattle.law_histories.proofs.DelayAll.{one_delay}
 use Rattle.law_histories.proofs.CountingAll.{entries_few}
 use Rattle.law_histories.proofs.Commits.{fresh_commits}
-use Rattle.set_admission.specs.Admission.{refusal}
 use Rattle.set_admission.proofs.Admitted.{decided}
 use Rattle.set_admission.proofs.Kept.{keeps_bounds}
 use Rattle.step_script.specs.Shown.{Shown, set_of}
 use Rattle.step_script.specs.Scenarios.{IsScenario}
-use Rattle.scenario_run.specs.Runs.{IsGuaranteed, KeepsBoundsUnless, IsRunText}
+use Rattle.scenario_run.specs.Runs.{IsGuaranteed, KeepsBoundsUnless, IsAdmittedUnless, IsRunText}
 use Rattle.law_runs.specs.Plannable.{own_of}
 use Rattle.law_runs.proofs.Scenario.{none_eager}
 use Rattle.law_runs.proofs.Fits.{run_fits, scenario_room}
@@ -28,11 +27,6 @@ guaranteed set history ok legal = record {
   delayed_by_one = λ job. one_delay set history job ok legal;
   commits = fresh_commits set history ok legal;
 }
-
--- what a run as a trial or admitted knows of its set
-abbrev pub IsAdmittedUnless : Bool → Set → Type 0
-IsAdmittedUnless true set = Unit {0}
-IsAdmittedUnless false set = refusal set ≡ None
 
 bounded : (trial : Bool) (set : Set) (history : List Entry) → IsCompiled set → IsLegal set history → IsAdmittedUnless trial set → KeepsBoundsUnless trial set history
 bounded true set history ok legal h = tt

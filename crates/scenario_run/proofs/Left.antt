@@ -9,9 +9,7 @@ use Rattle.step_journal.specs.declared.entry.Entry.{Entry}
 use Rattle.law_histories.specs.Sim.{Workload, IsSim}
 use Rattle.durable_disk.specs.Images.{Torn}
 use Rattle.durable_disk.specs.Device.{LeavesOnly, WritesWithin, BothTold}
-use Rattle.durable_disk.proofs.Writes.{torn_none}
 use Rattle.durable_disk.specs.Records.{slot_at}
-use Rattle.durable_disk.proofs.Within.{within_then}
 use Rattle.durable_journal.specs.Log.{OpensAs, HasSome}
 use Rattle.durable_journal.specs.Texts.{IsHeader}
 use Rattle.durable_journal.specs.Opened.{Passes, ClosesEnd, Touches, TouchesAt, HasByteMore, with_gate, IsUnended}
@@ -50,24 +48,6 @@ front_with names set there history more image begins (n, within, opens) =
 module _ {D : Type 0} (seen : D → Option (List ℕ)) (may_leave : D → List ℕ → Type 0) (moment : D → ℕ) (left_since : D → ℕ → List ℕ → Type 0) where
   abbrev Within : D → D → Type 0
   Within a b = WritesWithin seen may_leave moment left_since 0 257 a b
-
-  same_told : (a b : Option (List ℕ)) → b ≡ a → BothTold (Torn 0 257) a b
-  same_told a b is = subst (λ (o : Option (List ℕ)). BothTold (Torn 0 257) a o) (sym is) (here a)
-    where
-      here : (o : Option (List ℕ)) → BothTold (Torn 0 257) o o
-      here None = tt
-      here (Some file) = torn_none 0 257 file
-
-  -- what was read alone was not written
-  passes_within : (a b : D) → Passes seen may_leave moment left_since a b → Within a b
-  passes_within a b p = record {
-    reads = same_told (seen a) (seen b) p.same;
-    crash = λ c left. (c, p.fewer c left, torn_none 0 257 c);
-    moments = weaken moment left_since a b (may_leave a) _ p.moments (λ c left. (c, left, torn_none 0 257 c));
-  }
-
-  pub then_within : (a b c : D) → Passes seen may_leave moment left_since a b → Within b c → Within a c
-  then_within a b c p w = within_then seen may_leave moment left_since 0 257 a b c (passes_within a b p) w
 
   module _ (names : Names) (set : Set) (room : ℕ) (file : List ℕ) where
     pub then_touches : (P : List ℕ → Type 0) (a b c : D) → Passes seen may_leave moment left_since a b → Touches seen may_leave moment left_since names set room file P b c

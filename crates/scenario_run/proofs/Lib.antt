@@ -6,7 +6,6 @@ pub mod Started
 pub mod Replying
 pub mod Summaries
 pub mod Outs
-pub mod FirstByte
 pub mod JournalBegun
 pub mod Refusing
 pub mod Left

@@ -1,6 +1,6 @@
 -- A run whose entries go to an out over a journal.
 use Rattle.std.proofs.Common.{◌≡◌, ◌⊎◌, ⊎_elim, ℕ, ◌+◌, ◌<◌, ◌≤◌, List, [], ◌++◌, take, drop, length, Option, None, Some, Bool, false, inl, inr, refl, sym, ap, subst, ◌∙◌, arith, append_assoc, append-nil, length-append}
-use Rattle.std.specs.Prelude.{IfSome, IsSome, ◌↔◌}
+use Rattle.std.specs.Prelude.{IfSome, IsSome}
 use Rattle.std.proofs.lemmas.List.{take-append-drop, length-take}
 use Rattle.std.proofs.Math.ListN.{drop_of_length-le}
 use Rattle.std.proofs.Math.Seq.{take-nil}
@@ -99,12 +99,6 @@ module _ {D : Type 0} (seen : D → Option (List ℕ)) (may_leave : D → List �
               (subst (λ (l : List Entry). TakenAt standing' (IsGoing seen may_leave moment left_since begun.names begun.set begun.disk log' begun.there l)) (sym is) it.2));
           left = subst P of (subst (λ (l : List Entry). LeftAt seen moment left_since begun.names begun.set begun.disk log'.disk standing' l kept' piece) there_is h.is_lost.1);
         }
-
-    -- an out whose disk tells goes on so
-    pub tells_on : (disk : D) (names : Names) (there : List Entry) (room : ℕ) (story : List Entry) → begun ≡ made names w.set there room disk → Got' story → IsSome (seen disk) ↔ IsSome (seen log'.disk)
-    tells_on disk names there room story of g =
-        let P : Begun D → Type 0 = λ x. IfSome x.disk (λ d. IsSome (seen d) ↔ IsSome (seen log'.disk)) in
-        subst P of g.1.tells
 
 -- ---- what the disk holds after a whole run
 

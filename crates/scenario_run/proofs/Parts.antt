@@ -1,5 +1,5 @@
 -- The report of a history, in the parts in which it is written.
-use Rattle.std.proofs.Common.{◌≡◌, ◌⊎◌, inl, inr, ℕ, Bool, List, ◌++◌, take, drop, Option, Result, Ok, Err, IfOk, OnErr, sym, ap, subst, ◌∙◌, append_assoc}
+use Rattle.std.proofs.Common.{◌≡◌, ◌⊎◌, inl, inr, ℕ, Bool, List, ◌++◌, take, drop, Option, Result, Ok, Err, OnErr, sym, ap, subst, ◌∙◌, append_assoc}
 use Rattle.std.specs.Prelude.{IsErrOf}
 use Rattle.std.specs.Io.KnownBytes.{Appends, Keeps}
 use Rattle.std.proofs.lemmas.List.{take-append-drop}
@@ -90,11 +90,3 @@ kept_or_front P Q taken taken' f (inr h) = inr (front_of P Q taken taken' f h)
 pub of_err : {A E P : Type 0} (r : Result A E) (e : E) → OnErr r P → IsErrOf r e → P
 of_err (Ok x) e h is = absurd cc
 of_err (Err f) e h is = h
-
-pub by_answer : {A E P Q R : Type 0} (r : Result A E) → (P → R) → (Q → R) → IfOk r (λ _. P) → OnErr r Q → R
-by_answer (Ok x) f k h e = f h
-by_answer (Err x) f k h e = k e
-
-pub err_both : {A E P Q R : Type 0} (r : Result A E) → (P → Q → R) → OnErr r P → OnErr r Q → OnErr r R
-err_both (Ok x) f h k = tt
-err_both (Err e) f h k = f h k

@@ -1,5 +1,5 @@
 -- What has begun for a scenario can be run, and the text of its run is the scenario's.
-use Rattle.std.proofs.Common.{◌≡◌, ℕ, ◌+◌, ◌≤◌, Bool, List, sym, ap, subst, ◌∙◌, length}
+use Rattle.std.proofs.Common.{◌≡◌, ℕ, ◌+◌, ◌≤◌, Bool, not, List, sym, ap, subst, ◌∙◌, length}
 use Rattle.rt_base.specs.declared.name.Names.{Names}
 use Rattle.txn_set.specs.Set.{Set}
 use Rattle.step_journal.specs.declared.entry.Entry.{Entry}
@@ -9,16 +9,21 @@ use Rattle.law_histories.specs.Sim.{Workload}
 use Rattle.sim_run.specs.Workloads.{workload, ticks_of}
 use Rattle.plant_run.specs.Runs.{own_at}
 use Rattle.law_runs.specs.Plannable.{own_of}
-use Rattle.step_script.specs.Shown.{Shown, set_of}
+use Rattle.step_script.specs.Shown.{Shown}
 use Rattle.step_script.specs.Scenarios.{IsScenario}
-use Rattle.report_text.specs.Texts.{NamesSet}
 use Rattle.law_runs.specs.Runs.{workload_of}
 use Rattle.scenario_run.specs.Opened.{IsOpened}
 use Rattle.scenario_run.specs.Eager.{IsRunTextBy}
-use Rattle.scenario_run.specs.declared.begun.Tasks.{Tasks}
+use Rattle.run_report.specs.declared.judged.ReportedSet.{ReportedSet}
+use Rattle.run_report.specs.Judged.{set_in, is_admitted}
+use Rattle.command_replies.specs.declared.accepted.Tasks.{Tasks}
+use Rattle.command_replies.specs.declared.accepted.Accepted.{Accepted}
+use Rattle.command_replies.specs.Accepted.{IsOf}
 use Rattle.scenario_run.specs.declared.begun.Begun.{Begun}
 use Rattle.scenario_run.specs.Runs.{Declares, IsReady, functions_of}
-use Rattle.scenario_run.specs.Begun.{HasBegun, IsBegun, BegunText}
+use Rattle.scenario_run.specs.Begun.{AreTasks, HasBegun, IsBegun, BegunText}
+use Rattle.scenario_run.specs.Replies.{IsJudged, RunText}
+use Rattle.scenario_run.proofs.Replying.{run_reply}
 use Rattle.scenario_run.proofs.Ready.{moved, room_is, text_of, text_as}
 
 module _ {B : Type 0} (stands : B → List Entry → Type 0) (set_on : B → Set) (room : B → ℕ) (names : Names) (admitted : Bool) (set : Set) (tasks : Tasks) (begun : Begun B)
@@ -71,6 +76,17 @@ room_as room set set' ticks ticks' own own' e f g h =
     (subst (λ (t : List (List ℕ)). room_of_jobs set.txns (λ tx. length (ticks_of t tx) + own_at own' tx) ≤ room) (sym f)
     (subst (λ (o : List ℕ). room_of_jobs set.txns (λ tx. length (ticks_of ticks tx) + own_at o tx) ≤ room) (sym g) h))
 
--- the names of a scenario are those of its set
-pub names_set : (s : Shown) (set : Set) → IsScenario s → set ≡ set_of s → NamesSet s.names set
-names_set s set is e = subst (NamesSet s.names) (sym e) (record { items = is.named_items; txns = is.named_txns })
+-- the tasks of a scenario
+abbrev pub tasks_of : (s : Shown) (names : Names) (set : Set) (tasks : Tasks) → IsScenario s → IsOf s names set tasks → AreTasks set tasks
+tasks_of s names set tasks is of = record {
+  declares = record { scenario = s; is = is; set_is = of.set_is; programs_are = of.programs_are; releases_are = of.releases_are };
+  room = of.room_is;
+}
+
+-- the text of a run of what has begun for it
+pub run_text_is : {B : Type 0} (stands : B → List Entry → Type 0) (set_on : B → Set) (room : B → ℕ) (trial : Bool) (s : Shown) (a : Accepted ReportedSet) (begun : Begun B) → IsScenario s → IsJudged trial s a
+    → HasBegun stands set_on room a.names (is_admitted a.set) (set_in a.set) a.tasks begun → (text : List ℕ) → BegunText set_on begun text → RunText trial s text
+run_text_is stands set_on room trial s a begun is j h text t =
+    let d = (tasks_of s a.names (set_in a.set) a.tasks is j.parts).declares in
+    run_reply trial s text is j.compiles j.admits
+    (text_as a.names s.names (is_admitted a.set) (not trial) (workload_of s) (own_of s) text j.parts.names_are j.mode_is (text_is stands set_on room a.names (is_admitted a.set) (set_in a.set) a.tasks begun d h text t))

@@ -1,5 +1,5 @@
 -- The run of a generated scenario, whose entries are kept, and in which no transaction is eager.
-use Rattle.std.proofs.Common.{◌≡◌, ℕ, ◌+◌, ◌<◌, ◌≤◌, length, arith, false, List, [], ◌∷◌, map, Option, None, Some, Result, Ok, Err, IfOk, refl, sym, ap, subst, ◌∙◌}
+use Rattle.std.proofs.Common.{◌≡◌, ℕ, ◌+◌, ◌<◌, ◌≤◌, length, arith, false, List, [], ◌∷◌, map, None, Result, Ok, Err, IfOk, refl, sym, ap, subst, ◌∙◌}
 use mathlib.Core.Path.{fun_ext}
 use Rattle.std.specs.List.{list_any, range_with_len}
 use Rattle.txn_set.specs.Set.{Set, IsCompiled}
@@ -31,9 +31,6 @@ use Rattle.command_replies.proofs.Compiles.{lists}
 
 pub not_refused : (s : Shown) → IsScenario s → IsCompiled (set_of s) → compile_refusal (set_of s) ≡ None
 not_refused s is ok = (compiled-unless-refused (set_of s) (lists s is)).1 ok
-
-pub never : {A : Type 0} (o : Option A) (x : A) → o ≡ None → o ≡ Some x → ⊥
-never o x none some = cc
 
 pub summarized : {A E : Type 0} (items : A → List ℕ) (r : Result A E) (w : Workload) (set : Set) (history kept : List Entry) → set ≡ w.set → kept ≡ history → IsSim w history
     → length history ≤ room_of_jobs w.set.txns (λ tx. length (ticks_of w.releases tx))

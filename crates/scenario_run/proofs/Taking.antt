@@ -119,9 +119,6 @@ module _ (begun : Begun) (out : OutSeen) (entries : List Entry) where
         taken_going out.standing begun After (story ++ entries) (goes begun out h)
         (going_after story (going story h t legal) legal room follows has none places few bytes short)
 
-    pub lost_none : IsLost begun out [] → IsLost begun After []
-    lost_none h = subst (λ (s : ReportStanding). LostAt s begun After []) (sym (goes begun out h)) refl
-
   -- after a fault of the sink
   module _ (rows' : RowsSeen) (lines' : List ℕ) (taken' : Option (List ℕ)) (n : ℕ) (has : Appends out.taken taken' (take n (entries_text out.names entries))) where
     abbrev Off : OutSeen
@@ -149,21 +146,6 @@ module _ (begun : Begun) (out : OutSeen) (entries : List Entry) where
   -- where places are wanting
   abbrev Over : OutSeen
   Over = record { standing = Full; names = out.names; rows = out.rows; lines = out.lines; bytes = out.bytes; taken = out.taken }
-
-  pub over_taken : IsLost begun out [] → (story : List Entry) → HasTaken begun out story → HasTaken begun Over story
-  over_taken h story t = λ legal.
-      let was : IsGoing begun out story = going_at out.standing begun out story h (t legal) in
-      record {
-        names_are = was.names_are;
-        room_is = was.room_is;
-        one_each = was.one_each;
-        follows = was.follows;
-        few = was.few;
-        sent = was.sent;
-        has = was.has;
-        bytes_are = was.bytes_are;
-        short = was.short;
-      }
 
   pub over_lost : (story : List Entry) (left : ℕ) → IsGoing begun out story → out.rows.planned + left ≡ out.rows.room → left < planned_jobs entries → IsLost begun Over entries
   over_lost story left t places over = record {

@@ -1,5 +1,5 @@
 -- The report of a run, in the parts in which it is written.
-use Rattle.std.proofs.Common.{◌≡◌, ℕ, Bool, List, [], ◌++◌, take, drop, Option, Result, Ok, Err, OnOk, OnErr, refl, sym, ap, subst, ◌∙◌, append_assoc}
+use Rattle.std.proofs.Common.{◌≡◌, ℕ, Bool, List, ◌++◌, take, drop, Option, Result, Ok, Err, OnOk, OnErr, sym, ap, subst, ◌∙◌, append_assoc}
 use Rattle.std.specs.Io.KnownBytes.{Appends}
 use Rattle.std.proofs.lemmas.List.{take-append-drop}
 use Rattle.io_edge.proofs.Known.{appends_then}
@@ -12,7 +12,6 @@ use Rattle.sim_run.proofs.Exist.{runs_are as runs}
 use Rattle.job_rows.specs.Upkeep.{RowsSeen, Follows}
 use Rattle.report_text.specs.Texts.{entries_text}
 use Rattle.run_report.specs.Report.{opening_text}
-use Rattle.scenario_run.proofs.Texts.{appends_none}
 use Rattle.scenario_run.specs.Lines.{IsTextBy}
 use Rattle.scenario_run.specs.Written.{Wrote, WroteFront}
 use Rattle.scenario_run.specs.Lines.{HasLines, HasFirstLines}
@@ -33,17 +32,6 @@ module _ (names : Names) (admitted : Bool) (w : Workload) (head : List ℕ) (tak
     sim = sim;
     written = is ∙ ap (λ (h : List ℕ). h ++ (entries_text names history ++ closing history)) is_head;
   }
-
-  -- nothing is written yet
-  pub none_yet : IsCompiled w.set → AreAccepted w.set w.releases → IsObedient w → WroteFront IsText taken taken
-  none_yet ok accepted obedient =
-      let run = runs w ok accepted obedient in
-      record {
-        front = [];
-        left = head ++ (entries_text names run.0 ++ closing run.0);
-        is = by_parts run.0 _ run.1 refl;
-        written = appends_none taken;
-      }
 
   -- the front of the head
   pub in_head : (taken' : Option (List ℕ)) (n : ℕ) → IsCompiled w.set → AreAccepted w.set w.releases → IsObedient w → Appends taken taken' (take n head)

@@ -13,7 +13,7 @@ use Rattle.scenario_run.specs.declared.report.Report.{Report}
 use Rattle.scenario_run.specs.Opened.{IsOpened}
 use Rattle.scenario_run.specs.Eager.{IsRunTextBy}
 use Rattle.scenario_run.specs.declared.making.Bodies.{Bodies}
-use Rattle.scenario_run.specs.declared.begun.Tasks.{Tasks}
+use Rattle.command_replies.specs.declared.accepted.Tasks.{Tasks}
 use Rattle.scenario_run.specs.declared.begun.Begun.{Begun}
 use Rattle.scenario_run.specs.Runs.{Declares, IsReady, functions_of}
 

@@ -13,9 +13,7 @@ use Rattle.refusal_lines.specs.Causes.{txn}
 use Rattle.io_edge.specs.declared.status.Status.{Status}
 use Rattle.io_edge.specs.declared.status.Status.TheVariants as statuses
 use Rattle.command_replies.specs.Replies.{Reply, Refused, Compiling, Admitting}
-use Rattle.txn_set.specs.Set.{Set}
 use Rattle.scenario_run.specs.Runs.{IsRunText}
-use Rattle.scenario_run.specs.Replies.{Never}
 use Rattle.scenario_run.specs.Found.{TakesUp, IsBadFor, Holds}
 
 -- the first eager transaction, if there is one
@@ -29,11 +27,6 @@ eager_cause names tx = codes "EagerJournal" ++ txn names (record { 0 = tx })
 abbrev pub Unhurried : Reply → Names → Option ℕ → Reply
 Unhurried goes names None status text = goes status text
 Unhurried goes names (Some tx) status text = Refused (eager_cause names tx) status text
-
--- the declarations of a set are refused, or the first eager transaction is
-abbrev pub IsRefusal : Names → Set → Option ℕ → Reply
-IsRefusal names set eager =
-    Compiling (Admitting (Unhurried Never names eager) names (refusal set)) names (compile_refusal set)
 
 -- the line of a bad record
 abbrev pub bad_line : ℕ → List ℕ
@@ -68,15 +61,11 @@ JournalReply s told =
 -- a status before which nothing was done to the disk
 abbrev pub LeavesDisk : Status → Type 0
 LeavesDisk statuses.Ok = ⊥
-LeavesDisk statuses.Refused = ⊤
-LeavesDisk statuses.Usage = ⊤
-LeavesDisk statuses.ReadFault = ⊤
 LeavesDisk statuses.WriteFault = ⊥
 LeavesDisk statuses.OutOfMemory = ⊥
-LeavesDisk statuses.TooLong = ⊤
-LeavesDisk statuses.NotLegal = ⊤
 LeavesDisk statuses.DiskFault = ⊥
 LeavesDisk statuses.BadJournal = ⊥
+LeavesDisk status = ⊤
 
 -- a disk that tells holds the run of the scenario, and so does what a crash leaves of it
 pub record HoldsRun (s : Shown) (seen : Option (List ℕ)) (may_leave : List ℕ → Type 0) : Type 0 where

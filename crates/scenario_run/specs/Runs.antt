@@ -1,5 +1,5 @@
 -- The run of a scenario, what holds of it, and the text that it has.
-use Rattle.std.specs.Prelude.{◌≡◌, ℕ, ◌<◌, ◌≤◌, Bool, true, false, not, List, [], map, length}
+use Rattle.std.specs.Prelude.{◌≡◌, ℕ, ◌<◌, ◌≤◌, Bool, true, false, not, List, [], map, length, None}
 use Rattle.std.specs.List.{list_any}
 use Rattle.rt_base.specs.declared.ids.JobId.{JobId}
 use Rattle.txn_set.specs.Set.{Set}
@@ -8,6 +8,7 @@ use Rattle.step_journal.specs.Serial.{IsSerial}
 use Rattle.law_histories.specs.Protocol.{DelayedByOne}
 use Rattle.law_histories.specs.Counting.{refusal_count, room_of_jobs}
 use Rattle.law_histories.specs.Commits.{CommitsAreFresh}
+use Rattle.set_admission.specs.Admission.{refusal}
 use Rattle.set_admission.specs.Laws.{KeepsBounds}
 use Rattle.law_histories.specs.Sim.{Body, Workload, IsSim}
 use Rattle.sim_run.specs.Workloads.{workload, ticks_of, AreAccepted, IsObedient}
@@ -42,6 +43,11 @@ pub record IsGuaranteed (set : Set) (history : List Entry) : Type 0 where
 abbrev pub KeepsBoundsUnless : Bool → Set → List Entry → Type 0
 KeepsBoundsUnless true set history = Unit {0}
 KeepsBoundsUnless false set history = KeepsBounds set history
+
+-- what a run as a trial or admitted knows of its set
+abbrev pub IsAdmittedUnless : Bool → Set → Type 0
+IsAdmittedUnless true set = Unit {0}
+IsAdmittedUnless false set = refusal set ≡ None
 
 -- the set, scripts and releases of a scenario
 pub record Declares (set : Set) (scripts : List Script) (releases : List Releases) : Type 0 where

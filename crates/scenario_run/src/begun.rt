@@ -1,8 +1,9 @@
 //! What the run of a scenario begins with: a board, bodies, and a report.
-ghost use Rattle.std.specs.Prelude.{◌≡◌, ◌⊎◌, IfOk, IfSome, IsErrOf, OnOk, true, false, is_some};
+ghost use Rattle.std.specs.Prelude.{◌≡◌, ◌⊎◌, IfOk, IfSome, IsErrOf, OnOk, is_some};
 ghost use Rattle.std.specs.Io.KnownBytes.{Keeps};
 ghost use Rattle.io_edge.specs.Causes.{Rose};
 ghost use Rattle.report_text.specs.Texts.{NamesSet};
+ghost use Rattle.run_report.specs.Judged.{is_admitted, set_in};
 ghost use Rattle.scenario_run.specs.Written.{Wrote, WroteFront};
 ghost use Rattle.scenario_run.specs.Runs.{Declares};
 ghost use Rattle.scenario_run.specs.Begun.{AreTasks, AreBegun, HasBegun, IsBegun, BegunText};
@@ -10,28 +11,19 @@ ghost use Rattle.scenario_run.specs.Begun.{AreTasks, AreBegun, HasBegun, IsBegun
 use crate::making::{BOARD_ROOM, Bodies, prepared, run_on};
 use crate::report::Report;
 use crate::written::write_run;
-use admitted_core::AdmittedCore;
 use board::Board;
+use command_replies::Tasks;
 use io_edge::Sink;
 use lock_core::Core;
-use rt_base::{List, Names, OutOfMemory};
+use rt_base::{Names, OutOfMemory};
+use run_report::ReportedSet;
 use set_admission::AdmittedSet;
 use sim_run::{RunFault, Workers};
 use std::alloc::Global;
 use std::sync::Wait;
 use std::thread::Threads;
-use step_script::{Releases, Script};
 use txn_set::CompiledSet;
 use txn_threads::Gate;
-
-/// What the transactions of a set are to do.
-#[derive(Drop)]
-pub(crate) struct Tasks {
-    pub scripts: List<Script>,
-    pub releases: List<Releases>,
-    /// For how many entries there is to be room.
-    pub room: usize,
-}
 
 /// A new board, the bodies that run on it, and the report of its set.
 #[derive(Drop)]
@@ -41,27 +33,40 @@ pub(crate) struct Begun<'a, B> {
     pub report: Report<'a>,
 }
 
+fn bounds_of(set: &ReportedSet) -> Option<&AdmittedSet>
+    ensures which { is_some result ≡ is_admitted set.now }
+    ensures same { IfSome result (λ b. b.now ≡ set_in set.now) }
+{
+    match set {
+        ReportedSet::Trial(_) => None,
+        ReportedSet::Admitted(set) => Some(set),
+    }
+}
+
+fn into_set(set: ReportedSet) -> CompiledSet
+    ensures { result ≡ set_in set }
+{
+    match set {
+        ReportedSet::Trial(set) => set,
+        ReportedSet::Admitted(set) => set.into_set(),
+    }
+}
+
 // The bodies of tasks, and a report with a place for each of their jobs.
 fn bodies_and_report<'a>(
     alloc: Global,
     names: &'a Names,
-    set: &CompiledSet,
-    bounds: Option<&AdmittedSet>,
+    set: &ReportedSet,
     tasks: Tasks,
 ) -> Result<(Bodies, Report<'a>), OutOfMemory>
-    requires names { NamesSet names.now set.now }
-    requires tasks { Declares set.now tasks.scripts tasks.releases }
-    requires bounds { IfSome bounds (λ b. b.now ≡ set.now) }
-    ensures { IfOk result (λ p. AreBegun names.now (is_some bounds.entry) set.now tasks p.0 p.1) }
+    requires names { NamesSet names.now (set_in set.now) }
+    requires tasks { Declares (set_in set.now) tasks.scripts tasks.releases }
+    ensures { IfOk result (λ p. AreBegun names.now (is_admitted set.now) (set_in set.now) tasks p.0 p.1) }
 {
-    let Tasks {
-        scripts,
-        releases,
-        room,
-    } = tasks;
-    let bodies = prepared(alloc, set, scripts, &releases);
-    drop(releases);
-    let bodies = bodies?;
+    let room = tasks.room;
+    let bounds = bounds_of(set);
+    let set = set.set();
+    let bodies = prepared(alloc, set, tasks)?;
     match Report::begin(alloc, names, set, bounds, bodies.jobs(), room) {
         Ok(report) => Ok((bodies, report)),
         Err(OutOfMemory) => {
@@ -71,60 +76,26 @@ fn bodies_and_report<'a>(
     }
 }
 
-/// Tasks on a new core, as a trial.
-pub(crate) fn begun_trial<'a>(
+/// Tasks on a new core, as admitted or on trial.
+pub(crate) fn begun_on_core<'a>(
     alloc: Global,
     names: &'a Names,
-    set: CompiledSet,
+    set: ReportedSet,
     tasks: Tasks,
 ) -> Result<Begun<'a, Core>, OutOfMemory>
-    requires names { NamesSet names.now set }
-    requires tasks { AreTasks set tasks }
-    ensures begun { IfOk result (HasBegun ⟦<Core as Board>⟧.stands ⟦<Core as Board>⟧.set ⟦<Core as Board>⟧.room names.now false set tasks) }
+    requires names { NamesSet names.now (set_in set) }
+    requires tasks { AreTasks (set_in set) tasks }
+    ensures begun { IfOk result (HasBegun ⟦<Core as Board>⟧.stands ⟦<Core as Board>⟧.set ⟦<Core as Board>⟧.room names.now (is_admitted set) (set_in set) tasks) }
     ensures ready { IfOk result (IsBegun ⟦<Core as Board>⟧.stands ⟦<Core as Board>⟧.set ⟦<Core as Board>⟧.room) }
 {
-    let (bodies, report) = match bodies_and_report(alloc, names, &set, None, tasks) {
+    let (bodies, report) = match bodies_and_report(alloc, names, &set, tasks) {
         Ok(parts) => parts,
         Err(OutOfMemory) => {
             drop(set);
             return Err(OutOfMemory);
         }
     };
-    match Core::new(alloc, set, BOARD_ROOM) {
-        Ok(board) => Ok(Begun {
-            board,
-            bodies,
-            report,
-        }),
-        Err((set, _)) => {
-            drop(set);
-            drop(bodies);
-            drop(report);
-            Err(OutOfMemory)
-        }
-    }
-}
-
-/// Tasks on a new core over an admitted set.
-pub(crate) fn begun_admitted<'a>(
-    alloc: Global,
-    names: &'a Names,
-    set: AdmittedSet,
-    tasks: Tasks,
-) -> Result<Begun<'a, AdmittedCore>, OutOfMemory>
-    requires names { NamesSet names.now set }
-    requires tasks { AreTasks set tasks }
-    ensures begun { IfOk result (HasBegun ⟦<AdmittedCore as Board>⟧.stands ⟦<AdmittedCore as Board>⟧.set ⟦<AdmittedCore as Board>⟧.room names.now true set tasks) }
-    ensures ready { IfOk result (IsBegun ⟦<AdmittedCore as Board>⟧.stands ⟦<AdmittedCore as Board>⟧.set ⟦<AdmittedCore as Board>⟧.room) }
-{
-    let (bodies, report) = match bodies_and_report(alloc, names, set.set(), Some(&set), tasks) {
-        Ok(parts) => parts,
-        Err(OutOfMemory) => {
-            drop(set);
-            return Err(OutOfMemory);
-        }
-    };
-    match AdmittedCore::new(alloc, set, BOARD_ROOM) {
+    match Core::new(alloc, into_set(set), BOARD_ROOM) {
         Ok(board) => Ok(Begun {
             board,
             bodies,

@@ -1,15 +1,11 @@
 //! The run of a scenario over a journal.
-ghost use Rattle.std.specs.Prelude.{◌≡◌, ◌≤◌, ◌<◌, ◌↔◌, [], length, true, IfOk, IfSome, IsSome, IsErrOf};
+ghost use Rattle.std.specs.Prelude.{◌≡◌, ◌<◌, ◌↔◌, length, IfOk, IfSome, IsSome, IsErrOf};
 ghost use Rattle.std.specs.Prelude.{List as Many};
 ghost use Rattle.io_edge.specs.Causes.{Rose};
 ghost use Rattle.step_journal.specs.declared.entry.Entry.{Entry as Noted};
-ghost use Rattle.step_journal.specs.History.{IsLegal, state_of};
 ghost use Rattle.step_script.specs.Shown.{Shown, shown};
 ghost use Rattle.step_script.specs.Scenarios.{IsScenario};
 ghost use Rattle.law_histories.specs.Sim.{IsSim};
-ghost use Rattle.job_rows.specs.Upkeep.{Follows, planned_jobs};
-ghost use Rattle.report_text.specs.Texts.{NamesSet};
-ghost use Rattle.run_report.specs.Report.{opening_text, report_of};
 ghost use Rattle.durable_journal.specs.Opened.{IfFull};
 ghost use Rattle.scenario_run.specs.JournalReady.{CanRun, workload_in};
 ghost use Rattle.scenario_run.specs.Plans.{HasBegun};
@@ -19,7 +15,6 @@ ghost use Rattle.scenario_run.specs.JournalLeft.{IsKept, IsSameFile, LeavesSo};
 
 use crate::beside::number_beside;
 use crate::equip::{Begun, equipped};
-use crate::journal_report::ended_report;
 use crate::opening::opened;
 use crate::over::{Halt, run_log};
 use crate::plan::planned;
@@ -30,14 +25,11 @@ use command_replies::{Reply, written};
 use durable_disk::Disk;
 use durable_journal::LogError;
 use io_edge::Status;
-use item_model::Items;
-use rt_base::Names;
-use run_report::ReportWriter;
+use rt_base::OutOfMemory;
+use run_report::report_with_items;
 use sim_run::{KeptEntries, RunFault};
 use std::alloc::Global;
-use step_journal::Entry;
 use step_script::{Body, Scenario};
-use txn_set::CompiledSet;
 
 // The reply that names a bad record.
 fn bad(alloc: Global, number: u64) -> Result<Reply, RunFault>
@@ -56,26 +48,6 @@ fn halted(alloc: Global, halt: Halt) -> Result<Reply, RunFault>
         Halt::Other { number } => bad(alloc, number),
         Halt::Fault => Err(RunFault::Writing),
     }
-}
-
-// The report of a run that the disk holds.
-fn reported(
-    names: &Names,
-    set: &CompiledSet,
-    report: (ReportWriter, Vec<u8>),
-    history: &[Entry],
-    items: &Items,
-) -> Result<Reply, RunFault>
-    requires names { NamesSet names.now set.now }
-    requires rows { Follows set.now report.0 [] }
-    requires head { report.1.items ≡ opening_text names.now set.now true }
-    requires legal { IsLegal set.now history.now }
-    requires places { planned_jobs history.now ≤ report.0.room }
-    requires last { items.now ≡ (state_of set.now history.now).items }
-    ensures reply { IfOk result (λ r. (r.status ≡ Status.Ok) × (r.text.items ≡ report_of names.now set.now true history.now)) }
-    ensures memory { IsErrOf result RunFault.Writing → ⊥ }
-{
-    Ok(written(ended_report(names, set, report, history, items)?))
 }
 
 // What is answered where a journal is not opened: the reply names the record that was refused, or the first of those that
@@ -121,39 +93,40 @@ fn run_over<B: Board + Drop, Y: Body + Drop, D: Disk>(
     let Begun {
         names,
         set,
-        report,
         kept,
         room,
     } = begun;
+    let declared = set.set();
     let mut runner = runner;
-    let found = match opened(alloc, disk, &names, &set, room) {
+    let found = match opened(alloc, disk, &names, declared, room) {
         Ok(found) => found,
         Err((disk, error)) => {
             let reply = unopened(alloc, &mut runner, room, error);
             drop(runner);
             drop(names);
             drop(set);
-            drop(report);
             drop(kept);
             return (reply, disk);
         }
     };
-    let (ran, disk) = run_log(&mut runner, &names, &set, found, kept, room);
+    let (ran, disk) = run_log(&mut runner, &names, declared, found, kept, room);
     match ran {
         Ok(history) => {
             let items = runner.into_items();
-            let reply = reported(&names, &set, report, &history, &items);
+            let text = report_with_items(alloc, &names, declared, Some(&set), &history, &items);
             drop(names);
             drop(set);
             drop(history);
             drop(items);
-            (reply, disk)
+            match text {
+                Ok(text) => (Ok(written(text)), disk),
+                Err(OutOfMemory) => (Err(RunFault::Memory), disk),
+            }
         }
         Err(halt) => {
             drop(runner);
             drop(names);
             drop(set);
-            drop(report);
             (halted(alloc, halt), disk)
         }
     }

@@ -9,11 +9,10 @@ ghost use Rattle.scenario_run.specs.Runs.{Declares, IsReady, asked_by, functions
 ghost use Rattle.scenario_run.specs.Begun.{workload_by, own_by};
 ghost use Rattle.scenario_run.specs.Replies.{LoadReply};
 
-use crate::begun::Tasks;
 use crate::making::{BOARD_ROOM, Bodies, prepared, run_on};
 use crate::worked::keep_run;
 use board::Board;
-use command_replies::{Reply, compiled, written};
+use command_replies::{Accepted, Reply, Tasks, compiled_scenario, written};
 use lock_core::Core;
 use plant_run::Run;
 use rt_base::OutOfMemory;
@@ -23,7 +22,7 @@ use sim_run::Workers;
 use std::alloc::Global;
 use std::sync::Wait;
 use std::thread::Threads;
-use step_script::{Scenario, Script};
+use step_script::Script;
 use txn_set::CompiledSet;
 use txn_threads::Gate;
 
@@ -107,14 +106,8 @@ fn loaded<R: Threads + Wait + Sync, G: Gate + Sync>(
     ensures { IfOk result (λ text. IsSummaryBy (workload_by set tasks) text.items) }
 {
     set.is_compiled();
-    let Tasks {
-        scripts,
-        releases,
-        room,
-    } = tasks;
-    let bodies = prepared(alloc, &set, scripts, &releases);
-    drop(releases);
-    let bodies = match bodies {
+    let room = tasks.room;
+    let bodies = match prepared(alloc, &set, tasks) {
         Ok(bodies) => bodies,
         Err(OutOfMemory) => {
             drop(set);
@@ -150,27 +143,11 @@ pub fn load<R: Threads + Wait + Sync, G: Gate + Sync>(
     requires n { (1 ≤ n) × (n ≤ 64) }
     ensures { IfOk result (λ r. LoadReply n r.status r.text.items) }
 {
-    let Scenario {
-        names,
-        items,
-        txns,
-        together,
-        scripts,
-        releases,
-        room,
-    } = generated(alloc, n)?;
-    drop(names);
-    let tasks = Tasks {
-        scripts,
-        releases,
-        room,
-    };
-    match compiled(alloc, items, txns, together) {
-        Ok(Ok(set)) => Ok(written(loaded(rt, alloc, workers, set, tasks, gate)?)),
-        Ok(Err(_)) => unreachable!(),
-        Err(OutOfMemory) => {
-            drop(tasks);
-            Err(OutOfMemory)
+    match compiled_scenario(alloc, generated(alloc, n)?)? {
+        Ok(Accepted { names, set, tasks }) => {
+            drop(names);
+            Ok(written(loaded(rt, alloc, workers, set, tasks, gate)?))
         }
+        Err(_) => unreachable!(),
     }
 }

@@ -1,25 +1,23 @@
 //! What a run has before it begins.
-ghost use Rattle.std.specs.Prelude.{◌≡◌, ◌+◌, ◌<◌, ◌≤◌, [], map, length, IfOk, IfErr, None};
+ghost use Rattle.std.specs.Prelude.{◌≡◌, ◌+◌, ◌<◌, ◌≤◌, [], map, length, IfOk, IfErr};
 ghost use Rattle.std.specs.List.{sum};
-ghost use Rattle.txn_compiler.specs.Kept.{AreLists};
-ghost use Rattle.txn_compiler.specs.Refusal.{compile_refusal};
-ghost use Rattle.set_admission.specs.Admission.{refusal};
 ghost use Rattle.step_script.specs.Releases.{fixed_ticks, eager_of};
+ghost use Rattle.step_script.specs.Shown.{shown};
+ghost use Rattle.step_script.specs.Scenarios.{IsScenario};
 ghost use Rattle.plant_run.specs.Ready.{CanRun};
 ghost use Rattle.scenario_run.specs.Runs.{Declares, IsReady, asked_by};
-ghost use Rattle.scenario_run.specs.Replies.{IsRefusal};
+ghost use Rattle.scenario_run.specs.Replies.{IsJudged, RunReply};
 
 use crate::ticks::{all_fixed, all_own, count, count_own};
 use board::Board;
-use command_replies::{Reply, admitted, compiled, refused_admission, refused_set};
-use item_model::ItemDecl;
+use command_replies::{Accepted, Reply, Tasks, admitted_scenario, compiled_scenario};
 use plant_run::Run;
-use rt_base::{List, Names, OutOfMemory, Tick, TogetherDecl};
-use set_admission::AdmittedSet;
+use rt_base::{List, OutOfMemory, Tick};
+use run_report::ReportedSet;
 use sim_run::Workers;
 use std::alloc::Global;
-use step_script::{Releases, Script};
-use txn_set::{CompiledSet, TxnDecl};
+use step_script::{Scenario, Script};
+use txn_set::CompiledSet;
 
 /// How many entries the board of a run keeps at most.
 pub const BOARD_ROOM: usize = 4_096;
@@ -43,51 +41,79 @@ impl Bodies {
     }
 }
 
-/// The admitted set of declarations, or the reply that refuses them.
-pub fn judged(
+/// A scenario whose set is admitted, or compiles where it is run on trial, or the reply that refuses it.
+pub(crate) fn judged(
     alloc: Global,
-    names: &Names,
-    items: List<ItemDecl>,
-    txns: List<TxnDecl>,
-    together: List<TogetherDecl>,
-) -> Result<Result<AdmittedSet, Reply>, OutOfMemory>
-    requires { AreLists (record { items = items; txns = txns; together = together }) }
-    ensures set { IfOk result (λ r. IfOk r (λ a. a ≡ record { items = items; txns = txns; together = together })) }
-    ensures compiles { IfOk result (λ r. IfOk r (λ a. compile_refusal (record { items = items; txns = txns; together = together }) ≡ None)) }
-    ensures admits { IfOk result (λ r. IfOk r (λ a. refusal (record { items = items; txns = txns; together = together }) ≡ None)) }
-    ensures refused { IfOk result (λ r. IfErr r (λ reply. IsRefusal names.now (record { items = items; txns = txns; together = together }) reply.status reply.text.items)) }
+    trial: bool,
+    scenario: Scenario,
+) -> Result<Result<Accepted<ReportedSet>, Reply>, OutOfMemory>
+    requires { IsScenario (shown scenario) }
+    ensures accepted { IfOk result (λ r. IfOk r (IsJudged trial (shown scenario))) }
+    ensures refused { IfOk result (λ r. IfErr r (λ p. RunReply trial (shown scenario) p.status p.text.items)) }
 {
-    match compiled(alloc, items, txns, together)? {
-        Ok(set) => match admitted(alloc, set)? {
-            Ok(set) => Ok(Ok(set)),
-            Err(error) => Ok(Err(refused_admission(alloc, names, error)?)),
-        },
-        Err(error) => Ok(Err(refused_set(alloc, names, error)?)),
+    if trial {
+        match compiled_scenario(alloc, scenario)? {
+            Ok(Accepted { names, set, tasks }) => Ok(Ok(Accepted {
+                names,
+                set: ReportedSet::Trial(set),
+                tasks,
+            })),
+            Err(reply) => Ok(Err(reply)),
+        }
+    } else {
+        match admitted_scenario(alloc, scenario)? {
+            Ok(Accepted { names, set, tasks }) => Ok(Ok(Accepted {
+                names,
+                set: ReportedSet::Admitted(set),
+                tasks,
+            })),
+            Err(reply) => Ok(Err(reply)),
+        }
     }
 }
 
-/// The scripts, the fixed ticks of the releases, and the eager jobs.
-pub fn prepared(
+// The fixed ticks of tasks, and their eager jobs.
+fn jobs_of(
     alloc: Global,
     set: &CompiledSet,
-    scripts: List<Script>,
-    releases: &List<Releases>,
-) -> Result<Bodies, OutOfMemory>
-    requires { Declares set.now scripts releases.now }
-    ensures scripts { IfOk result (λ b. b.scripts.items ≡ scripts) }
-    ensures ticks { IfOk result (λ b. b.ticks.items ≡ fixed_ticks set.now.txns releases.now) }
-    ensures own { IfOk result (λ b. b.own.items ≡ map eager_of releases.now) }
+    tasks: &Tasks,
+) -> Result<(Vec<List<Tick>>, Vec<u32>), OutOfMemory>
+    requires { Declares set.now tasks.now.scripts tasks.now.releases }
+    ensures { IfOk result (λ r. (r.0.items ≡ fixed_ticks set.now.txns tasks.now.releases) × (r.1.items ≡ map eager_of tasks.now.releases)) }
+{
+    set.is_compiled();
+    let ticks = all_fixed(alloc, set.txns(), tasks.releases.as_slice())?;
+    let own = all_own(alloc, tasks.releases.as_slice())?;
+    Ok((ticks, own))
+}
+
+/// The scripts, the fixed ticks of the releases, and the eager jobs.
+pub fn prepared(alloc: Global, set: &CompiledSet, tasks: Tasks) -> Result<Bodies, OutOfMemory>
+    requires { Declares set.now tasks.scripts tasks.releases }
+    ensures scripts { IfOk result (λ b. b.scripts.items ≡ tasks.scripts) }
+    ensures ticks { IfOk result (λ b. b.ticks.items ≡ fixed_ticks set.now.txns tasks.releases) }
+    ensures own { IfOk result (λ b. b.own.items ≡ map eager_of tasks.releases) }
     ensures ready { IfOk result (λ b. IsReady set.now b.scripts.items b.ticks.items b.own.items) }
 {
     set.is_compiled();
-    let scripts = scripts.into_vec();
-    let ticks = all_fixed(alloc, set.txns(), releases.as_slice())?;
-    let own = all_own(alloc, releases.as_slice())?;
-    Ok(Bodies {
+    let jobs = jobs_of(alloc, set, &tasks);
+    let Tasks {
         scripts,
-        ticks,
-        own,
-    })
+        releases,
+        room: _,
+    } = tasks;
+    drop(releases);
+    match jobs {
+        Ok((ticks, own)) => Ok(Bodies {
+            scripts: scripts.into_vec(),
+            ticks,
+            own,
+        }),
+        Err(OutOfMemory) => {
+            drop(scripts);
+            Err(OutOfMemory)
+        }
+    }
 }
 
 /// The run of scripts on a new board, by so many workers, with a place for all that the board keeps.

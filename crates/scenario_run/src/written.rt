@@ -62,7 +62,14 @@ fn write_fixed<
         lines,
         entries: _,
     } = report;
-    write_all(sink, head.as_slice())?;
+    if let Err(fault) = write_all(sink, head.as_slice()) {
+        drop(run);
+        drop(writer);
+        drop(head);
+        drop(lines);
+        return Err(RunFault::from(fault));
+    }
+    drop(head);
     let mut out: ReportOut<K, Brand> = ReportOut::new(names, writer, lines, sink);
     let ran = run_lines::<R, B, Y, G, K, Brand>(rt, alloc, run, gate, &mut out);
     let ReportOut {

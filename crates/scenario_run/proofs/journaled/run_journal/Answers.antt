@@ -1,7 +1,8 @@
 use Rattle.step_script.specs.Shown.{Shown, shown}
 use Rattle.command_replies.specs.declared.reply.Reply.{Reply}
+use Rattle.std.proofs.lemmas.Result.{IfOk-weaker}
 use Rattle.command_replies.proofs.Replying.{taken, refused_by}
-use Rattle.scenario_run.proofs.JournalBegun.{journal_reply, journaled_begun, if_ok_map}
+use Rattle.scenario_run.proofs.JournalBegun.{journal_reply, journaled_begun}
 use Rattle.scenario_run.proofs.Kept.{kept_none}
 use Rattle.scenario_run.proofs.journaled.run_journal.Goals as goal
 
@@ -14,7 +15,7 @@ pub returns-in-Ok-clause-reply : goal.returns-in-Ok-clause-reply
 returns-in-Ok-clause-reply g c =
     let s : Shown = shown c.args.scenario in
     let begun = c.in-Ok.ensures.begun s (taken _ _ _ c.in-Ok-Ok.field-0-is c.in-Ok-Ok.ensures.plan) in
-    if_ok_map c.run_over.result.0 (λ (r : Reply) h. journal_reply s (g.D.Disk.seen c.args.disk) r.status r.text.items begun.calm h) (c.run_over.ensures.reply s begun)
+    IfOk-weaker c.run_over.result.0 _ _ (λ (r : Reply) h. journal_reply s (g.D.Disk.seen c.args.disk) r.status r.text.items begun.calm h) (c.run_over.ensures.reply s begun)
 
 pub returns-in-Ok-clause-holds : goal.returns-in-Ok-clause-holds
 returns-in-Ok-clause-holds g c =
@@ -28,7 +29,7 @@ pub returns-in-Ok-clause-untouched : goal.returns-in-Ok-clause-untouched
 returns-in-Ok-clause-untouched g c =
     let s : Shown = shown c.args.scenario in
     let begun = c.in-Ok.ensures.begun s (taken _ _ _ c.in-Ok-Ok.field-0-is c.in-Ok-Ok.ensures.plan) in
-    if_ok_map c.run_over.result.0 (λ (r : Reply) h. λ leaves. absurd (journaled_begun s (g.D.Disk.seen c.args.disk) r.status r.text.items h leaves)) (c.run_over.ensures.reply s begun)
+    IfOk-weaker c.run_over.result.0 _ _ (λ (r : Reply) h. λ leaves. absurd (journaled_begun s (g.D.Disk.seen c.args.disk) r.status r.text.items h leaves)) (c.run_over.ensures.reply s begun)
 
 pub returns-in-Ok-clause-left : goal.returns-in-Ok-clause-left
 returns-in-Ok-clause-left g c =
