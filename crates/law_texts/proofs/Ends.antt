@@ -42,7 +42,7 @@ plain_steps false false = λ named. named
 
 ends_by : (set : Set) (x : Row) (tick : ℕ) (op : Op) (due : Bool) → EndsBy op (over_of (end_by set x tick op) due)
 ends_by set x tick Commit due = tt
-ends_by set x tick Quit due = tt
+ends_by set x tick Quit due = λ named. named
 ends_by set x tick other due = plain_steps _ due
 
 ends_well : (set : Set) (es : List Entry) (e : Entry) → IsCompiled set → IsLegal set es

@@ -46,12 +46,10 @@ late_at set t rows r i =
 
 late_in_time : (set : Set) (t : ℕ) (rows : List (Option Row)) (r : Row) → In r (gone_at set t rows)
     → IsInTime set (late_job t r)
-unfolding late_job
 late_in_time set t rows r i =
     let due = late_at set t rows r i in record { after = omega (arith, due); before = omega (arith, due) }
 
 arrived_in_time : (set : Set) (t : ℕ) (s : State) → AreInTime set s.ended → AreInTime set (arrived set t s).ended
-unfolding late_job
 arrived_in_time set t s h =
     subst (AreInTime set) (sym (arrived_ended set t s)) (λ e i. elim (append_in e s.ended (map (late_job t) (gone_at set t s.rows)) i) [
       | inl old ↦ h e old
