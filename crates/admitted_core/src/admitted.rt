@@ -2,7 +2,7 @@
 ghost use Rattle.std.specs.Prelude.{◌≡◌, ◌≤◌, ◌+◌, ◌<◌, ◌^◌, List, [], length, Some, IfOk, IfErr};
 ghost use Rattle.std.specs.Prelude.{◌-◌, ◌++◌, min, take, drop, vec_capacity, vec_len};
 ghost use Rattle.step_journal.specs.declared.entry.Entry.{Entry as Noted};
-ghost use Rattle.board.specs.Stories.{noted, plan_entry, plan_next_entry, step_entry, idle_entry, plan_answer, plan_next_answer, step_answer, idle_answer, now_of};
+ghost use Rattle.board.specs.Histories.{noted, plan_entry, plan_next_entry, step_entry, idle_entry, plan_answer, plan_next_answer, step_answer, idle_answer, now_of};
 ghost use Rattle.set_admission.specs.Laws.{KeepsBounds};
 ghost use Rattle.lock_core.specs.Stands.{Stands};
 ghost use Rattle.lock_core.specs.Promises.{IsLawful, IsLawfulStep};
@@ -64,7 +64,7 @@ impl<B: Board> AdmittedBoard<B> {
     /// That each history of the board keeps the bounds of the admitted set: a caller learns it by this call, which does
     /// nothing.
     pub fn keeps_bounds(&self)
-        ensures { (story : List Noted) → B.stands self.now.board story → KeepsBounds self.now.admitted story }
+        ensures { (history : List Noted) → B.stands self.now.board history → KeepsBounds self.now.admitted history }
     {
         self.admitted.is_admitted();
     }
@@ -72,7 +72,7 @@ impl<B: Board> AdmittedBoard<B> {
     /// That the laws hold of each history of the board, as `Core::is_lawful` says of a core: a caller learns it by this call,
     /// which does nothing.
     pub fn is_lawful(&self)
-        ensures { (story : List Noted) → B.stands self.now.board story → IsLawful (B.set self.now.board) story }
+        ensures { (history : List Noted) → B.stands self.now.board history → IsLawful (B.set self.now.board) history }
     {
         let _board = &self.board;
     }
@@ -82,9 +82,9 @@ impl<B: Board> AdmittedBoard<B> {
         requires { tx.0 < length (B.set self.old.board).txns }
         ensures fixed { (B.set self.new.board ≡ B.set self.old.board) × (B.room self.new.board ≡ B.room self.old.board) × (B.first self.new.board ≡ B.first self.old.board) }
         ensures admitted { self.new.admitted ≡ self.old.admitted }
-        ensures answer { (story : List Noted) → B.stands self.old.board story → result ≡ plan_answer (B.set self.old.board) story (length (B.kept self.old.board)) (B.room self.old.board) tx.0 tick }
-        ensures after { (story : List Noted) → B.stands self.old.board story → B.stands self.new.board (noted story (plan_entry tx tick result)) }
-        ensures bounds { (story : List Noted) → B.stands self.new.board story → KeepsBounds self.new.admitted story }
+        ensures answer { (history : List Noted) → B.stands self.old.board history → result ≡ plan_answer (B.set self.old.board) history (length (B.kept self.old.board)) (B.room self.old.board) tx.0 tick }
+        ensures after { (history : List Noted) → B.stands self.old.board history → B.stands self.new.board (noted history (plan_entry tx tick result)) }
+        ensures bounds { (history : List Noted) → B.stands self.new.board history → KeepsBounds self.new.admitted history }
     {
         let reply = self.board.plan(tx, tick);
         self.keeps_bounds();
@@ -96,9 +96,9 @@ impl<B: Board> AdmittedBoard<B> {
         requires { tx.0 < length (B.set self.old.board).txns }
         ensures fixed { (B.set self.new.board ≡ B.set self.old.board) × (B.room self.new.board ≡ B.room self.old.board) × (B.first self.new.board ≡ B.first self.old.board) }
         ensures admitted { self.new.admitted ≡ self.old.admitted }
-        ensures answer { (story : List Noted) → B.stands self.old.board story → result ≡ plan_next_answer (B.set self.old.board) story (length (B.kept self.old.board)) (B.room self.old.board) tx.0 }
-        ensures after { (story : List Noted) → B.stands self.old.board story → B.stands self.new.board (noted story (plan_next_entry tx result)) }
-        ensures bounds { (story : List Noted) → B.stands self.new.board story → KeepsBounds self.new.admitted story }
+        ensures answer { (history : List Noted) → B.stands self.old.board history → result ≡ plan_next_answer (B.set self.old.board) history (length (B.kept self.old.board)) (B.room self.old.board) tx.0 }
+        ensures after { (history : List Noted) → B.stands self.old.board history → B.stands self.new.board (noted history (plan_next_entry tx result)) }
+        ensures bounds { (history : List Noted) → B.stands self.new.board history → KeepsBounds self.new.admitted history }
     {
         let reply = self.board.plan_next(tx);
         self.keeps_bounds();
@@ -115,10 +115,10 @@ impl<B: Board> AdmittedBoard<B> {
         requires { job.tx.0 < length (B.set self.old.board).txns }
         ensures fixed { (B.set self.new.board ≡ B.set self.old.board) × (B.room self.new.board ≡ B.room self.old.board) × (B.first self.new.board ≡ B.first self.old.board) }
         ensures admitted { self.new.admitted ≡ self.old.admitted }
-        ensures answer { (story : List Noted) → B.stands self.old.board story → result ≡ step_answer (B.set self.old.board) story (length (B.kept self.old.board)) (B.room self.old.board) job op }
-        ensures after { (story : List Noted) → B.stands self.old.board story → B.stands self.new.board (noted story (step_entry (now_of (B.set self.old.board) story) job op result)) }
-        ensures lawful { IsLawfulStep (λ a story. B.stands a.board story) (λ a. B.set a.board) (λ a. B.kept a.board) self.old self.new job op result }
-        ensures bounds { (story : List Noted) → B.stands self.new.board story → KeepsBounds self.new.admitted story }
+        ensures answer { (history : List Noted) → B.stands self.old.board history → result ≡ step_answer (B.set self.old.board) history (length (B.kept self.old.board)) (B.room self.old.board) job op }
+        ensures after { (history : List Noted) → B.stands self.old.board history → B.stands self.new.board (noted history (step_entry (now_of (B.set self.old.board) history) job op result)) }
+        ensures lawful { IsLawfulStep (λ a history. B.stands a.board history) (λ a. B.set a.board) (λ a. B.kept a.board) self.old self.new job op result }
+        ensures bounds { (history : List Noted) → B.stands self.new.board history → KeepsBounds self.new.admitted history }
     {
         let reply = self.board.step(job, op);
         self.keeps_bounds();
@@ -129,9 +129,9 @@ impl<B: Board> AdmittedBoard<B> {
     pub fn idle(&mut self) -> IdleReply
         ensures fixed { (B.set self.new.board ≡ B.set self.old.board) × (B.room self.new.board ≡ B.room self.old.board) × (B.first self.new.board ≡ B.first self.old.board) }
         ensures admitted { self.new.admitted ≡ self.old.admitted }
-        ensures answer { (story : List Noted) → B.stands self.old.board story → result ≡ idle_answer (B.set self.old.board) story (length (B.kept self.old.board)) (B.room self.old.board) }
-        ensures after { (story : List Noted) → B.stands self.old.board story → B.stands self.new.board (noted story (idle_entry (now_of (B.set self.old.board) story) result)) }
-        ensures bounds { (story : List Noted) → B.stands self.new.board story → KeepsBounds self.new.admitted story }
+        ensures answer { (history : List Noted) → B.stands self.old.board history → result ≡ idle_answer (B.set self.old.board) history (length (B.kept self.old.board)) (B.room self.old.board) }
+        ensures after { (history : List Noted) → B.stands self.old.board history → B.stands self.new.board (noted history (idle_entry (now_of (B.set self.old.board) history) result)) }
+        ensures bounds { (history : List Noted) → B.stands self.new.board history → KeepsBounds self.new.admitted history }
     {
         let reply = self.board.idle();
         self.keeps_bounds();
@@ -147,8 +147,8 @@ impl<B: Board> AdmittedBoard<B> {
         ensures places { vec_capacity into.new ≡ vec_capacity into.old }
         ensures fixed { (B.set self.new.board ≡ B.set self.old.board) × (B.room self.new.board ≡ B.room self.old.board) × (B.first self.new.board ≡ B.first self.old.board + result) }
         ensures admitted { self.new.admitted ≡ self.old.admitted }
-        ensures after { (story : List Noted) → B.stands self.old.board story → B.stands self.new.board story }
-        ensures bounds { (story : List Noted) → B.stands self.new.board story → KeepsBounds self.new.admitted story }
+        ensures after { (history : List Noted) → B.stands self.old.board history → B.stands self.new.board history }
+        ensures bounds { (history : List Noted) → B.stands self.new.board history → KeepsBounds self.new.admitted history }
     {
         let count = self.board.drain(most, into);
         self.keeps_bounds();
@@ -161,8 +161,8 @@ impl<B: Board> AdmittedBoard<B> {
         ensures left { B.kept self.new.board ≡ [] }
         ensures fixed { (B.set self.new.board ≡ B.set self.old.board) × (B.room self.new.board ≡ B.room self.old.board) × (B.first self.new.board ≡ B.first self.old.board + length (B.kept self.old.board)) }
         ensures admitted { self.new.admitted ≡ self.old.admitted }
-        ensures after { (story : List Noted) → B.stands self.old.board story → B.stands self.new.board story }
-        ensures bounds { (story : List Noted) → B.stands self.new.board story → KeepsBounds self.new.admitted story }
+        ensures after { (history : List Noted) → B.stands self.old.board history → B.stands self.new.board history }
+        ensures bounds { (history : List Noted) → B.stands self.new.board history → KeepsBounds self.new.admitted history }
     {
         self.board.discard();
         self.keeps_bounds();
@@ -170,7 +170,7 @@ impl<B: Board> AdmittedBoard<B> {
 }
 
 impl<B: Board> Board for AdmittedBoard<B> {
-    ghost stands = { λ a story. B.stands a.board story };
+    ghost stands = { λ a history. B.stands a.board history };
 
     ghost set = { λ a. B.set a.board };
 
@@ -180,7 +180,7 @@ impl<B: Board> Board for AdmittedBoard<B> {
 
     ghost kept = { λ a. B.kept a.board };
 
-    ghost is_story = { λ a story h. B.is_story a.board story h };
+    ghost is_history = { λ a history h. B.is_history a.board history h };
 
     fn plan(&mut self, tx: TxId, tick: Tick) -> Result<JobId, PlanRefused> {
         self.plan(tx, tick)

@@ -28,7 +28,7 @@ use Rattle.board.specs.declared.replies.StepReply.{StepReply}
 use Rattle.board.specs.declared.replies.StepReply.TheVariants as reply
 use Rattle.board.specs.declared.replies.IdleReply.TheVariants as answer
 use Rattle.board.specs.Answers.{step_reply, running_reply, asked_reply, checked, early_or, unwritten_or, unwritten, is_missed, lock_reply, ended_number, last_end, idle_reply, idle_reply_at, waiting_reply}
-use Rattle.board.specs.Stories.{step_entry, idle_entry}
+use Rattle.board.specs.Histories.{step_entry, idle_entry}
 use Rattle.board.proofs.Tests.{le_not_lt, lt_false, all_none, missed_not}
 
 pub job_row_here : (rows : List (Option Row)) (y : Row) → IsPending rows y → job_row rows y.job ≡ Some y
@@ -106,14 +106,14 @@ module _ (set : Set) (s : State) (kept room : ℕ) (job : JobId) (op : Op) (lt :
 
 -- a running job is pending, and where there is none nothing is
 
-pub running_here : (set : Set) (story : List Entry) → IsCompiled set → IsLegal set story → (x : Row) → running set (state_of set story).rows ≡ Some x → IsPending (state_of set story).rows x
-running_here set story ok legal x e =
-    let sound = legal_sound set story ok legal in
-    (running_is set (state_of set story).rows (refused_all (λ _. false) story) x (named_from set (state_of set story).rows ok sound.frame) sound.protocol e).here
+pub running_here : (set : Set) (history : List Entry) → IsCompiled set → IsLegal set history → (x : Row) → running set (state_of set history).rows ≡ Some x → IsPending (state_of set history).rows x
+running_here set history ok legal x e =
+    let sound = legal_sound set history ok legal in
+    (running_is set (state_of set history).rows (refused_all (λ _. false) history) x (named_from set (state_of set history).rows ok sound.frame) sound.protocol e).here
 
-pub steps_are_steps : (set : Set) (story : List Entry) (kept room : ℕ) (job : JobId) (op : Op) → IsCompiled set → IsLegal set story → kept < room
-    → step_entry (state_of set story).now job op (step_reply set (state_of set story) kept room job op) ≡ entry_given (step set (state_of set story) (ask job op))
-steps_are_steps set story kept room job op ok legal lt = step_is set (state_of set story) kept room job op lt (running_here set story ok legal)
+pub steps_are_steps : (set : Set) (history : List Entry) (kept room : ℕ) (job : JobId) (op : Op) → IsCompiled set → IsLegal set history → kept < room
+    → step_entry (state_of set history).now job op (step_reply set (state_of set history) kept room job op) ≡ entry_given (step set (state_of set history) (ask job op))
+steps_are_steps set history kept room job op ok legal lt = step_is set (state_of set history) kept room job op lt (running_here set history ok legal)
 
 idle_next : (set : Set) (s : State) (kept room : ℕ) (o : Option ℕ) → kept < room → idle_entry s.now (waiting_reply kept room o) ≡ entry_given (option_map (λ t. (Idle s.now t, arrived set t s)) o)
 idle_next set s kept room None lt = refl
@@ -128,8 +128,8 @@ idle_at : (set : Set) (s : State) (kept room : ℕ) (o : Option Row) → kept < 
 idle_at set s kept room None lt here none = idle_next set s kept room (next_tick s.planned) lt ∙ ap (λ (l : List Row). entry_given (idled set s l)) (sym (none refl))
 idle_at set s kept room (Some x) lt here none = not_idle set s x (pending s.rows) (in_pending s.rows x.job.tx.0 x (here x refl))
 
-pub idles_are_steps : (set : Set) (story : List Entry) (kept room : ℕ) → IsCompiled set → IsLegal set story → kept < room
-    → idle_entry (state_of set story).now (idle_reply set (state_of set story) kept room) ≡ entry_given (step set (state_of set story) idle)
+pub idles_are_steps : (set : Set) (history : List Entry) (kept room : ℕ) → IsCompiled set → IsLegal set history → kept < room
+    → idle_entry (state_of set history).now (idle_reply set (state_of set history) kept room) ≡ entry_given (step set (state_of set history) idle)
 unfolding step
-idles_are_steps set story kept room ok legal lt =
-    idle_at set (state_of set story) kept room (running set (state_of set story).rows) lt (running_here set story ok legal) ((never_stuck set story ok legal).runs)
+idles_are_steps set history kept room ok legal lt =
+    idle_at set (state_of set history) kept room (running set (state_of set history).rows) lt (running_here set history ok legal) ((never_stuck set history ok legal).runs)

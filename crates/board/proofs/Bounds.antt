@@ -95,13 +95,13 @@ opening_early : (set : Set) → AreEarly (opening set)
 unfolding opening
 opening_early set n = nothing_early set.txns n
 
-pub plans_early : (set : Set) (story : List Entry) (n : ℕ) → (plans_of (state_of set story) n).last ≤ 2 ^ 40
-plans_early set story n = after_early set (opening set) story (opening_early set) n
+pub plans_early : (set : Set) (history : List Entry) (n : ℕ) → (plans_of (state_of set history) n).last ≤ 2 ^ 40
+plans_early set history n = after_early set (opening set) history (opening_early set) n
 
 -- where a job is pending the next tick is at most its release and its deadline
-pub pending_early : (set : Set) (story : List Entry) (x : Row) → IsCompiled set → IsLegal set story → IsPending (state_of set story).rows x → (state_of set story).now + 1 ≤ 2 ^ 40 + 2 ^ 30
-pending_early set story x ok legal here =
-    let sound = legal_sound set story ok legal in
-    let lt : x.job.tx.0 < length set.txns = omega (arith, in_range (state_of set story).rows _ x here, sound.frame.count) in
+pub pending_early : (set : Set) (history : List Entry) (x : Row) → IsCompiled set → IsLegal set history → IsPending (state_of set history).rows x → (state_of set history).now + 1 ≤ 2 ^ 40 + 2 ^ 30
+pending_early set history x ok legal here =
+    let sound = legal_sound set history ok legal in
+    let lt : x.job.tx.0 < length set.txns = omega (arith, in_range (state_of set history).rows _ x here, sound.frame.count) in
     let t = times_at set x.job.tx.0 ok lt in
-    omega (arith, sound.calendar.alive x here, (sound.calendar.released x here).0, plans_early set story x.job.tx.0, t.deadline.1, t.period.1)
+    omega (arith, sound.calendar.alive x here, (sound.calendar.released x here).0, plans_early set history x.job.tx.0, t.deadline.1, t.period.1)

@@ -79,5 +79,5 @@ opening_count : (set : Set) → length (opening set).items ≡ length set.items
 unfolding opening
 opening_count set = length-map set.items (λ d. record { value = d.initial; stamp = 0 })
 
-pub items_count : (set : Set) (story : List Entry) → length (state_of set story).items ≡ length set.items
-items_count set story = after_all set (opening set) story ∙ opening_count set
+pub items_count : (set : Set) (history : List Entry) → length (state_of set history).items ≡ length set.items
+items_count set history = after_all set (opening set) history ∙ opening_count set

@@ -361,7 +361,7 @@ opening_counts set = record {
   few = λ n. omega (arith, nothing set.txns n);
 }
 
-pub ended_few : (set : Set) (story : List Entry) (n : ℕ) → IsCompiled set → IsLegal set story → ended_number (state_of set story).ended n < 2 ^ 32
-ended_few set story n ok legal =
-    let c = history_counts set (λ _. false) (opening set) story ok (opening_sound set) (opening_counts set) legal in
+pub ended_few : (set : Set) (history : List Entry) (n : ℕ) → IsCompiled set → IsLegal set history → ended_number (state_of set history).ended n < 2 ^ 32
+ended_few set history n ok legal =
+    let c = history_counts set (λ _. false) (opening set) history ok (opening_sound set) (opening_counts set) legal in
     omega (arith, c.fits n, c.few n)

@@ -1,4 +1,4 @@
--- One more entry of a story, and what a plan that is not refused meets.
+-- One more entry of a history, and what a plan that is not refused meets.
 use Rattle.std.proofs.Common.{◌≡◌, ℕ, ◌<◌, ◌≤◌, Bool, true, false, cond, not, ◌&&◌, List, [], ◌∷◌, ◌++◌, length, Option, None, Some, refl, ap, sym, ◌∙◌, inl, inr, arith, length-append}
 use Rattle.std.proofs.lemmas.Bool.{ltb-false}
 use Rattle.std.proofs.lemmas.Bool.Decides.{leb_tells}
@@ -16,25 +16,25 @@ use Rattle.law_histories.proofs.Pushes.{pushed}
 use Rattle.rt_base.specs.declared.release.PlanRefused.{PlanRefused}
 use Rattle.rt_base.specs.Planning.{calendar_refusal, last_tick, most_serials}
 use Rattle.board.specs.Answers.{plan_judged, plan_reply, unless_refused, most_planned}
-use Rattle.board.specs.Stories.{IsStory}
+use Rattle.board.specs.Histories.{IsHistory}
 use Rattle.board.proofs.Plans.{may_plan_as}
 
--- the story with one more legal entry, and the state after it
-pub record StoryMore (set : Set) (room first : ℕ) (kept story : List Entry) (e : Entry) (next : State) : Type 0 where
-  pub is_story : IsStory set room first (kept ++ e ∷ []) (story ++ e ∷ [])
-  pub state : next ≡ state_of set (story ++ e ∷ [])
+-- the history with one more legal entry, and the state after it
+pub record HistoryMore (set : Set) (room first : ℕ) (kept history : List Entry) (e : Entry) (next : State) : Type 0 where
+  pub is_history : IsHistory set room first (kept ++ e ∷ []) (history ++ e ∷ [])
+  pub state : next ≡ state_of set (history ++ e ∷ [])
 
-pub story_more : (set : Set) (room first : ℕ) (kept story : List Entry) (e : Entry) (next : State) → IsStory set room first kept story → step set (state_of set story) (event_of e) ≡ Some (e, next) → length kept < room
-    → StoryMore set room first kept story e next
-story_more set room first kept story e next is steps lt =
-    let p = pushed set story e next is.legal steps in
-    let le : first ≤ length story = omega (arith, is.counted) in
+pub history_more : (set : Set) (room first : ℕ) (kept history : List Entry) (e : Entry) (next : State) → IsHistory set room first kept history → step set (state_of set history) (event_of e) ≡ Some (e, next) → length kept < room
+    → HistoryMore set room first kept history e next
+history_more set room first kept history e next is steps lt =
+    let p = pushed set history e next is.legal steps in
+    let le : first ≤ length history = omega (arith, is.counted) in
     record {
-      is_story = record {
+      is_history = record {
         compiled = is.compiled;
         legal = p.legal;
-        rest = ap (λ (l : List Entry). l ++ e ∷ []) is.rest ∙ sym (drop-append-le first story (e ∷ []) le);
-        counted = omega (arith, is.counted, length-append kept (e ∷ []), length-append story (e ∷ []));
+        rest = ap (λ (l : List Entry). l ++ e ∷ []) is.rest ∙ sym (drop-append-le first history (e ∷ []) le);
+        counted = omega (arith, is.counted, length-append kept (e ∷ []), length-append history (e ∷ []));
         fits = omega (arith, length-append kept (e ∷ []));
         small = is.small;
       };

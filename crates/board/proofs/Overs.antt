@@ -128,16 +128,16 @@ module _ (set : Set) (s : State) (x : Row) (op : Op) (frame : Frame set s.rows) 
   over_is = over_at (s.now + 1) (end_by set next (s.now + 1) op)
 
 -- no ended job has the name of a pending one
-pub ended_others : (set : Set) (story : List Entry) (x : Row) → IsCompiled set → IsLegal set story → IsPending (state_of set story).rows x → (e : EndedJob) → In e (state_of set story).ended → named x.job e ≡ false
-ended_others set story x ok legal here e i =
+pub ended_others : (set : Set) (history : List Entry) (x : Row) → IsCompiled set → IsLegal set history → IsPending (state_of set history).rows x → (e : EndedJob) → In e (state_of set history).ended → named x.job e ≡ false
+ended_others set history x ok legal here e i =
     not_true (named x.job e) (λ same.
     let is : e.job ≡ x.job = same_job_is e.job x.job same in
-    let less = (legal_serial set story ok legal).done_row e x i here (ap (λ (j : JobId). j.tx.0) is) in
+    let less = (legal_serial set history ok legal).done_row e x i here (ap (λ (j : JobId). j.tx.0) is) in
     absurd (omega (arith, less, ap (λ (j : JobId). j.serial) is)))
 
 -- after every legal history
-pub over_after : (set : Set) (story : List Entry) (x : Row) (op : Op) → IsCompiled set → IsLegal set story → running set (state_of set story).rows ≡ Some x
-    → over_of (end_by set (row_after (state_of set story) x op) ((state_of set story).now + 1) op) (is_due set ((state_of set story).now + 1) x) ≡ end_of (with_step set (state_of set story) x op) x.job
-over_after set story x op ok legal runs =
-    let here = running_here set story ok legal x runs in
-    over_is set (state_of set story) x op (legal_sound set story ok legal).frame here (ended_others set story x ok legal here)
+pub over_after : (set : Set) (history : List Entry) (x : Row) (op : Op) → IsCompiled set → IsLegal set history → running set (state_of set history).rows ≡ Some x
+    → over_of (end_by set (row_after (state_of set history) x op) ((state_of set history).now + 1) op) (is_due set ((state_of set history).now + 1) x) ≡ end_of (with_step set (state_of set history) x op) x.job
+over_after set history x op ok legal runs =
+    let here = running_here set history ok legal x runs in
+    over_is set (state_of set history) x op (legal_sound set history ok legal).frame here (ended_others set history x ok legal here)

@@ -13,7 +13,7 @@ use Rattle.rt_base.specs.declared.release.PlanRefused.{PlanRefused}
 use Rattle.rt_base.specs.declared.release.PlanRefused.TheVariants as refusal
 use Rattle.rt_base.specs.Planning.{last_tick, most_serials}
 use Rattle.board.specs.Answers.{plan_reply, unless_refused, most_planned}
-use Rattle.board.specs.Stories.{plan_entry}
+use Rattle.board.specs.Histories.{plan_entry}
 use Rattle.board.proofs.Tests.{le_not_lt, lt_not_le, lt_false, lt_true}
 
 -- five tests in a row and the room against one test of all

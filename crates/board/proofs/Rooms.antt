@@ -19,7 +19,7 @@ use Rattle.board.specs.declared.replies.StepReply.{StepReply}
 use Rattle.board.specs.declared.replies.StepReply.TheVariants as reply
 use Rattle.board.specs.declared.replies.IdleReply.TheVariants as answer
 use Rattle.board.specs.Answers.{plan_reply, step_reply, running_reply, asked_reply, checked, unwritten, unwritten_or, lock_reply, ended_number, last_end, idle_reply, idle_reply_at, waiting_reply}
-use Rattle.board.specs.Stories.{plan_entry, step_entry, idle_entry}
+use Rattle.board.specs.Histories.{plan_entry, step_entry, idle_entry}
 use Rattle.board.proofs.Plans.{plans_are_steps, plans_full}
 use Rattle.board.proofs.Asks.{steps_are_steps, idles_are_steps}
 
@@ -71,12 +71,12 @@ roomy kept room x y e full free is = elim (leb_tells room kept) [
   nothing : {A : Type 0} (x : Option A) (e : A) → x ≡ None → x ≡ Some e → ⊥
   nothing x e a b = cc
 
-pub appends_are_steps : (set : Set) (story : List Entry) (kept room : ℕ) (tx : TxId) (tick : ℕ) (job : JobId) (op : Op) (e : Entry) → IsCompiled set → IsLegal set story → tx.0 < length set.txns
-    → (plan_entry tx tick (plan_reply set (state_of set story) kept room tx.0 tick) ≡ Some e → entry_given (step set (state_of set story) (plan tx.0 tick)) ≡ Some e)
-    × (step_entry (state_of set story).now job op (step_reply set (state_of set story) kept room job op) ≡ Some e → entry_given (step set (state_of set story) (ask job op)) ≡ Some e)
-    × (idle_entry (state_of set story).now (idle_reply set (state_of set story) kept room) ≡ Some e → entry_given (step set (state_of set story) idle) ≡ Some e)
-appends_are_steps set story kept room tx tick job op e ok legal in_set = (
-  roomy kept room _ _ e (λ f. plans_full set (state_of set story) kept room tx tick f) (λ lt. plans_are_steps set (state_of set story) kept room tx tick lt in_set),
-  roomy kept room _ _ e (λ f. steps_full set (state_of set story) kept room job op f) (λ lt. steps_are_steps set story kept room job op ok legal lt),
-  roomy kept room _ _ e (λ f. idles_full_at (state_of set story) kept room (running set (state_of set story).rows) (next_tick (state_of set story).planned) f refl) (λ lt. idles_are_steps set story kept room ok legal lt),
+pub appends_are_steps : (set : Set) (history : List Entry) (kept room : ℕ) (tx : TxId) (tick : ℕ) (job : JobId) (op : Op) (e : Entry) → IsCompiled set → IsLegal set history → tx.0 < length set.txns
+    → (plan_entry tx tick (plan_reply set (state_of set history) kept room tx.0 tick) ≡ Some e → entry_given (step set (state_of set history) (plan tx.0 tick)) ≡ Some e)
+    × (step_entry (state_of set history).now job op (step_reply set (state_of set history) kept room job op) ≡ Some e → entry_given (step set (state_of set history) (ask job op)) ≡ Some e)
+    × (idle_entry (state_of set history).now (idle_reply set (state_of set history) kept room) ≡ Some e → entry_given (step set (state_of set history) idle) ≡ Some e)
+appends_are_steps set history kept room tx tick job op e ok legal in_set = (
+  roomy kept room _ _ e (λ f. plans_full set (state_of set history) kept room tx tick f) (λ lt. plans_are_steps set (state_of set history) kept room tx tick lt in_set),
+  roomy kept room _ _ e (λ f. steps_full set (state_of set history) kept room job op f) (λ lt. steps_are_steps set history kept room job op ok legal lt),
+  roomy kept room _ _ e (λ f. idles_full_at (state_of set history) kept room (running set (state_of set history).rows) (next_tick (state_of set history).planned) f refl) (λ lt. idles_are_steps set history kept room ok legal lt),
 )

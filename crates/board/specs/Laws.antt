@@ -9,7 +9,7 @@ use Rattle.step_journal.specs.State.{State}
 use Rattle.step_journal.specs.Step.{plan, ask, idle, step}
 use Rattle.step_journal.specs.History.{IsLegal, state_of, entry_given}
 use Rattle.board.specs.Answers.{plan_reply, step_reply, idle_reply}
-use Rattle.board.specs.Stories.{plan_entry, step_entry, idle_entry}
+use Rattle.board.specs.Histories.{plan_entry, step_entry, idle_entry}
 
 -- the entry of the answer is that of the step, where there is room
 abbrev pub PlansAreSteps : Type 0
@@ -20,25 +20,25 @@ PlansAreSteps =
 -- after a legal history there is a running job where one is pending
 abbrev pub StepsAreSteps : Type 0
 StepsAreSteps =
-    (set : Set) (story : List Entry) (kept room : ℕ) (job : JobId) (op : Op)
-    → IsCompiled set → IsLegal set story → kept < room
-    → step_entry (state_of set story).now job op (step_reply set (state_of set story) kept room job op)
-    ≡ entry_given (step set (state_of set story) (ask job op))
+    (set : Set) (history : List Entry) (kept room : ℕ) (job : JobId) (op : Op)
+    → IsCompiled set → IsLegal set history → kept < room
+    → step_entry (state_of set history).now job op (step_reply set (state_of set history) kept room job op)
+    ≡ entry_given (step set (state_of set history) (ask job op))
 
 abbrev pub IdlesAreSteps : Type 0
 IdlesAreSteps =
-    (set : Set) (story : List Entry) (kept room : ℕ) → IsCompiled set → IsLegal set story → kept < room
-    → idle_entry (state_of set story).now (idle_reply set (state_of set story) kept room)
-    ≡ entry_given (step set (state_of set story) idle)
+    (set : Set) (history : List Entry) (kept room : ℕ) → IsCompiled set → IsLegal set history → kept < room
+    → idle_entry (state_of set history).now (idle_reply set (state_of set history) kept room)
+    ≡ entry_given (step set (state_of set history) idle)
 
 -- the entry of an answer is always that of the step, with room or without: what is appended is legal
 abbrev pub AppendsAreSteps : Type 0
 AppendsAreSteps =
-    (set : Set) (story : List Entry) (kept room : ℕ) (tx : TxId) (tick : ℕ) (job : JobId) (op : Op) (e : Entry)
-    → IsCompiled set → IsLegal set story → tx.0 < length set.txns
-    → (plan_entry tx tick (plan_reply set (state_of set story) kept room tx.0 tick) ≡ Some e
-    → entry_given (step set (state_of set story) (plan tx.0 tick)) ≡ Some e)
-    × (step_entry (state_of set story).now job op (step_reply set (state_of set story) kept room job op) ≡ Some e
-    → entry_given (step set (state_of set story) (ask job op)) ≡ Some e)
-    × (idle_entry (state_of set story).now (idle_reply set (state_of set story) kept room) ≡ Some e
-    → entry_given (step set (state_of set story) idle) ≡ Some e)
+    (set : Set) (history : List Entry) (kept room : ℕ) (tx : TxId) (tick : ℕ) (job : JobId) (op : Op) (e : Entry)
+    → IsCompiled set → IsLegal set history → tx.0 < length set.txns
+    → (plan_entry tx tick (plan_reply set (state_of set history) kept room tx.0 tick) ≡ Some e
+    → entry_given (step set (state_of set history) (plan tx.0 tick)) ≡ Some e)
+    × (step_entry (state_of set history).now job op (step_reply set (state_of set history) kept room job op) ≡ Some e
+    → entry_given (step set (state_of set history) (ask job op)) ≡ Some e)
+    × (idle_entry (state_of set history).now (idle_reply set (state_of set history) kept room) ≡ Some e
+    → entry_given (step set (state_of set history) idle) ≡ Some e)

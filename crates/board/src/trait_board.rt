@@ -5,7 +5,7 @@ ghost use Rattle.step_journal.specs.History.{state_of};
 ghost use Rattle.step_journal.specs.declared.entry.Entry.{Entry as Noted};
 ghost use Rattle.step_journal.specs.declared.entry.Entry.TheVariants.{Step};
 ghost use Rattle.board.specs.Answers.{IsAsking, told_by};
-ghost use Rattle.board.specs.Stories.{IsStory, IsRefusal, noted, plan_entry, plan_next_entry, step_entry, idle_entry, plan_answer, plan_next_answer, step_answer, idle_answer, now_of, running_of, pending_of, ended_of, planned_of};
+ghost use Rattle.board.specs.Histories.{IsHistory, IsRefusal, noted, plan_entry, plan_next_entry, step_entry, idle_entry, plan_answer, plan_next_answer, step_answer, idle_answer, now_of, running_of, pending_of, ended_of, planned_of};
 
 use crate::replies::{IdleReply, StepReply};
 use item_model::Items;
@@ -33,76 +33,76 @@ pub trait Board {
     fn plan(&mut self, tx: TxId, tick: Tick) -> Result<JobId, PlanRefused>
         requires { tx.0 < length (set self.old).txns }
         ensures fixed { (set self.new ≡ set self.old) × (room self.new ≡ room self.old) × (first self.new ≡ first self.old) }
-        ensures answer { (story : List Noted) → stands self.old story → result ≡ plan_answer (set self.old) story (length (kept self.old)) (room self.old) tx.0 tick }
-        ensures after { (story : List Noted) → stands self.old story → stands self.new (noted story (plan_entry tx tick result)) };
+        ensures answer { (history : List Noted) → stands self.old history → result ≡ plan_answer (set self.old) history (length (kept self.old)) (room self.old) tx.0 tick }
+        ensures after { (history : List Noted) → stands self.old history → stands self.new (noted history (plan_entry tx tick result)) };
 
     /// Plans the transaction's next job for the earliest tick at which it may be planned, and answers that tick too.
     fn plan_next(&mut self, tx: TxId) -> Result<(JobId, Tick), PlanRefused>
         requires { tx.0 < length (set self.old).txns }
         ensures fixed { (set self.new ≡ set self.old) × (room self.new ≡ room self.old) × (first self.new ≡ first self.old) }
-        ensures answer { (story : List Noted) → stands self.old story → result ≡ plan_next_answer (set self.old) story (length (kept self.old)) (room self.old) tx.0 }
-        ensures after { (story : List Noted) → stands self.old story → stands self.new (noted story (plan_next_entry tx result)) };
+        ensures answer { (history : List Noted) → stands self.old history → result ≡ plan_next_answer (set self.old) history (length (kept self.old)) (room self.old) tx.0 }
+        ensures after { (history : List Noted) → stands self.old history → stands self.new (noted history (plan_next_entry tx result)) };
 
     /// A job asks for an operation. A granted one takes one tick. The item may be any: one that is no item of the set is
     /// Undeclared. A refusal other than Blocked changes nothing.
     fn step(&mut self, job: JobId, op: Op) -> StepReply
         requires { job.tx.0 < length (set self.old).txns }
         ensures fixed { (set self.new ≡ set self.old) × (room self.new ≡ room self.old) × (first self.new ≡ first self.old) }
-        ensures answer { (story : List Noted) → stands self.old story → result ≡ step_answer (set self.old) story (length (kept self.old)) (room self.old) job op }
-        ensures after { (story : List Noted) → stands self.old story → stands self.new (noted story (step_entry (now_of (set self.old) story) job op result)) }
+        ensures answer { (history : List Noted) → stands self.old history → result ≡ step_answer (set self.old) history (length (kept self.old)) (room self.old) job op }
+        ensures after { (history : List Noted) → stands self.old history → stands self.new (noted history (step_entry (now_of (set self.old) history) job op result)) }
         ensures refused { IsRefusal result → self.new ≡ self.old };
 
     /// The same as `step`, for a caller that knows that this job runs, that it may ask for the operation, and that there is
     /// room for the entry: what the job is told, or None where it is blocked. It is spared the tests of all this.
     fn ask(&mut self, job: JobId, op: Op) -> Option<Outcome>
         requires in_set { job.tx.0 < length (set self.old).txns }
-        requires asks { (story : List Noted) × stands self.old story × IsAsking (set self.old) (state_of (set self.old) story) job op }
+        requires asks { (history : List Noted) × stands self.old history × IsAsking (set self.old) (state_of (set self.old) history) job op }
         requires room { length (kept self.old) < room self.old }
         ensures fixed { (set self.new ≡ set self.old) × (room self.new ≡ room self.old) × (first self.new ≡ first self.old) }
-        ensures answer { (story : List Noted) → stands self.old story → result ≡ told_by (step_answer (set self.old) story (length (kept self.old)) (room self.old) job op) }
-        ensures after { (story : List Noted) → stands self.old story → stands self.new (noted story (step_entry (now_of (set self.old) story) job op (step_answer (set self.old) story (length (kept self.old)) (room self.old) job op))) };
+        ensures answer { (history : List Noted) → stands self.old history → result ≡ told_by (step_answer (set self.old) history (length (kept self.old)) (room self.old) job op) }
+        ensures after { (history : List Noted) → stands self.old history → stands self.new (noted history (step_entry (now_of (set self.old) history) job op (step_answer (set self.old) history (length (kept self.old)) (room self.old) job op))) };
 
     /// The job computes for a tick, if it runs, there is room for the entry, and it is known that no job ends and none is
     /// released by that: whether it did. It is then what `step` does. Else nothing changes; a board may always say so.
     fn compute(&mut self, job: JobId) -> bool
         requires { job.tx.0 < length (set self.old).txns }
         ensures fixed { (set self.new ≡ set self.old) × (room self.new ≡ room self.old) × (first self.new ≡ first self.old) }
-        ensures answer { IsTrue result → (story : List Noted) → stands self.old story → step_answer (set self.old) story (length (kept self.old)) (room self.old) job Op.Compute ≡ StepReply.Done Outcome.Computed None }
-        ensures after { IsTrue result → (story : List Noted) → stands self.old story → stands self.new (story ++ Step job Op.Compute Outcome.Computed None (now_of (set self.old) story) ∷ []) }
+        ensures answer { IsTrue result → (history : List Noted) → stands self.old history → step_answer (set self.old) history (length (kept self.old)) (room self.old) job Op.Compute ≡ StepReply.Done Outcome.Computed None }
+        ensures after { IsTrue result → (history : List Noted) → stands self.old history → stands self.new (history ++ Step job Op.Compute Outcome.Computed None (now_of (set self.old) history) ∷ []) }
         ensures unchanged { result ≡ false → self.new ≡ self.old };
 
     /// With nothing pending, the time goes on to the least planned tick.
     fn idle(&mut self) -> IdleReply
         ensures fixed { (set self.new ≡ set self.old) × (room self.new ≡ room self.old) × (first self.new ≡ first self.old) }
-        ensures answer { (story : List Noted) → stands self.old story → result ≡ idle_answer (set self.old) story (length (kept self.old)) (room self.old) }
-        ensures after { (story : List Noted) → stands self.old story → stands self.new (noted story (idle_entry (now_of (set self.old) story) result)) };
+        ensures answer { (history : List Noted) → stands self.old history → result ≡ idle_answer (set self.old) history (length (kept self.old)) (room self.old) }
+        ensures after { (history : List Noted) → stands self.old history → stands self.new (noted history (idle_entry (now_of (set self.old) history) result)) };
 
     /// An item's installed value and stamp.
     fn peek(&self, item: ItemId) -> (Value, Tick)
         requires { item.0 < length (set self.now).items }
-        ensures { (story : List Noted) → stands self.now story → slice_get (state_of (set self.now) story).items item.0 ≡ Some (record { value = result.0; stamp = result.1 }) };
+        ensures { (history : List Noted) → stands self.now history → slice_get (state_of (set self.now) history).items item.0 ≡ Some (record { value = result.0; stamp = result.1 }) };
 
     /// The present tick.
     fn now(&self) -> Tick
-        ensures { (story : List Noted) → stands self.now story → result ≡ now_of (set self.now) story };
+        ensures { (history : List Noted) → stands self.now history → result ≡ now_of (set self.now) history };
 
     /// The running job; None exactly where nothing is pending.
     fn running(&self) -> Option<JobId>
-        ensures { (story : List Noted) → stands self.now story → result ≡ running_of (set self.now) story };
+        ensures { (history : List Noted) → stands self.now history → result ≡ running_of (set self.now) history };
 
     /// The transaction's pending job.
     fn pending(&self, tx: TxId) -> Option<JobId>
         requires { tx.0 < length (set self.now).txns }
-        ensures { (story : List Noted) → stands self.now story → result ≡ pending_of (set self.now) story tx.0 };
+        ensures { (history : List Noted) → stands self.now history → result ≡ pending_of (set self.now) history tx.0 };
 
     /// How many jobs of the transaction have ended.
     fn ended(&self, tx: TxId) -> u32
         requires { tx.0 < length (set self.now).txns }
-        ensures { (story : List Noted) → stands self.now story → result ≡ ended_of (set self.now) story tx.0 };
+        ensures { (history : List Noted) → stands self.now history → result ≡ ended_of (set self.now) history tx.0 };
 
     /// How many releases are planned and did not take place yet.
     fn planned(&self) -> usize
-        ensures { (story : List Noted) → stands self.now story → result ≡ planned_of (set self.now) story };
+        ensures { (history : List Noted) → stands self.now history → result ≡ planned_of (set self.now) history };
 
     /// How many entries can be kept at once.
     fn room(&self) -> usize
@@ -123,13 +123,13 @@ pub trait Board {
         ensures left { kept self.new ≡ drop result (kept self.old) }
         ensures places { vec_capacity into.new ≡ vec_capacity into.old }
         ensures fixed { (set self.new ≡ set self.old) × (room self.new ≡ room self.old) × (first self.new ≡ first self.old + result) }
-        ensures after { (story : List Noted) → stands self.old story → stands self.new story };
+        ensures after { (history : List Noted) → stands self.old history → stands self.new history };
 
     /// Lets go of all kept entries. It takes no memory.
     fn discard(&mut self)
         ensures left { kept self.new ≡ [] }
         ensures fixed { (set self.new ≡ set self.old) × (room self.new ≡ room self.old) × (first self.new ≡ first self.old + length (kept self.old)) }
-        ensures after { (story : List Noted) → stands self.old story → stands self.new story };
+        ensures after { (history : List Noted) → stands self.old history → stands self.new history };
 
     /// How many entries were drained in all.
     fn first(&self) -> u64
@@ -137,13 +137,13 @@ pub trait Board {
 
     /// How many entries the history has, the drained ones too.
     fn count(&self) -> u64
-        ensures { (story : List Noted) → stands self.now story → length story ≡ result };
+        ensures { (history : List Noted) → stands self.now history → length history ≡ result };
 
     /// The items as they are installed, and the kept entries.
     fn into_parts(self) -> (Items, Vec<Entry>)
         ensures entries { result.1.items ≡ kept self }
-        ensures items { (story : List Noted) → stands self story → result.0 ≡ (state_of (set self) story).items };
+        ensures items { (history : List Noted) → stands self history → result.0 ≡ (state_of (set self) history).items };
 
     // What a board stands for is legal for a compiled set, and its kept entries are the history from first on.
-    ghost is_story: { (b : Self) (story : List Noted) → stands b story → IsStory (set b) (room b) (first b) (kept b) story };
+    ghost is_history: { (b : Self) (history : List Noted) → stands b history → IsHistory (set b) (room b) (first b) (kept b) history };
 }

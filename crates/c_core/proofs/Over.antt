@@ -9,8 +9,8 @@ use Rattle.lock_core.specs.Seen.{CoreSeen}
 use Rattle.lock_core.specs.Stands.{Stands}
 use Rattle.c_core.specs.Open.{IsOver, KeepsBoundsOf}
 
-pub kept : (board : CoreSeen) (admitted : Option Set) (story : List Entry) → IsOver (record { board = board; admitted = admitted }) → Stands board story
-    → KeepsBoundsOf (record { board = board; admitted = admitted }) story
-kept board None story over stands = tt
-kept board (Some set) story over stands =
-    keeps_bounds set story (over.compiled set refl) (over.meets set refl) (subst (λ (s : Set). IsLegal s story) (over.same set refl) stands.is_story.legal)
+pub kept : (board : CoreSeen) (admitted : Option Set) (history : List Entry) → IsOver (record { board = board; admitted = admitted }) → Stands board history
+    → KeepsBoundsOf (record { board = board; admitted = admitted }) history
+kept board None history over stands = tt
+kept board (Some set) history over stands =
+    keeps_bounds set history (over.compiled set refl) (over.meets set refl) (subst (λ (s : Set). IsLegal s history) (over.same set refl) stands.is_history.legal)

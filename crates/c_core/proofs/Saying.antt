@@ -13,7 +13,7 @@ use Rattle.set_admission.proofs.Kept.{keeps_bounds}
 use Rattle.board.proofs.Tests.{lt_true}
 use Rattle.board.specs.declared.replies.StepReply.{StepReply}
 use Rattle.board.specs.declared.replies.IdleReply.{IdleReply}
-use Rattle.board.specs.Stories.{plan_entry, plan_next_entry, step_entry, idle_entry, plan_answer, plan_next_answer, step_answer, idle_answer, now_of}
+use Rattle.board.specs.Histories.{plan_entry, plan_next_entry, step_entry, idle_entry, plan_answer, plan_next_answer, step_answer, idle_answer, now_of}
 use Rattle.shared_plant.specs.Seats.{PlantFacts, SeatFacts}
 use Rattle.shared_plant.specs.Answers.{Answered, Drained, nothing}
 use Rattle.c_core.specs.Calls.{in_set}
@@ -44,50 +44,50 @@ turn_of F O p q old new left same compiled meets a =
 
 pub idled : {K : Type 0} (p q : PlantFacts) (old new : SeatFacts) (left : ℕ) (was : SeatSeen) (r : IdleReply) (form : TimeForm)
     → seen_of q old left ≡ was → p ≡ q → IsCompiled q.set → MeetsAdmission q.set → form ≡ form_of_idle r
-    → Answered p.set (λ story base. r ≡ idle_answer p.set story (length story - base) p.room) (λ story. idle_entry (now_of p.set story) r) old new
+    → Answered p.set (λ history base. r ≡ idle_answer p.set history (length history - base) p.room) (λ history. idle_entry (now_of p.set history) r) old new
     → Tries 0 0 K (IdleSaid form) was (seen_of q new left)
 idled {K} p q old new left was r form view same compiled meets is a =
     subst (λ (s : SeatSeen). Tries 0 0 K (IdleSaid form) s (seen_of q new left)) view (tells 0 (seen_of q old left) (seen_of q new left) refl (record {
       reply = r;
       form = is;
-      turn = turn_of (λ set room story base. r ≡ idle_answer set story (length story - base) room) (λ set story. idle_entry (now_of set story) r) p q old new left same compiled meets a;
+      turn = turn_of (λ set room history base. r ≡ idle_answer set history (length history - base) room) (λ set history. idle_entry (now_of set history) r) p q old new left same compiled meets a;
     }))
 
 pub planned : {K : Type 0} (p q : PlantFacts) (old new : SeatFacts) (left : ℕ) (was : SeatSeen) (tx tick : ℕ) (r : Result JobId PlanRefused) (form : TimeForm)
     → seen_of q old left ≡ was → p ≡ q → IsCompiled q.set → MeetsAdmission q.set → tx < length q.set.txns → form ≡ form_of_plan tick r
-    → Answered p.set (λ story base. r ≡ plan_answer p.set story (length story - base) p.room tx tick) (λ story. plan_entry (record { 0 = tx }) tick r) old new
+    → Answered p.set (λ history base. r ≡ plan_answer p.set history (length history - base) p.room tx tick) (λ history. plan_entry (record { 0 = tx }) tick r) old new
     → Tries (in_set was.plant.set tx) 0 K (PlanSaid tx tick form) was (seen_of q new left)
 planned {K} p q old new left was tx tick r form view same compiled meets lt is a =
     subst (λ (s : SeatSeen). Tries (in_set s.plant.set tx) 0 K (PlanSaid tx tick form) s (seen_of q new left)) view (tells (in_set q.set tx) (seen_of q old left) (seen_of q new left) (in_zero q.set tx lt) (record {
       reply = r;
       form = is;
-      turn = turn_of (λ set room story base. r ≡ plan_answer set story (length story - base) room tx tick) (λ set story. plan_entry (record { 0 = tx }) tick r) p q old new left same compiled meets a;
+      turn = turn_of (λ set room history base. r ≡ plan_answer set history (length history - base) room tx tick) (λ set history. plan_entry (record { 0 = tx }) tick r) p q old new left same compiled meets a;
     }))
 
 pub planned_next : {K : Type 0} (p q : PlantFacts) (old new : SeatFacts) (left : ℕ) (was : SeatSeen) (tx : ℕ) (r : Result (JobId × ℕ) PlanRefused) (form : TimeForm)
     → seen_of q old left ≡ was → p ≡ q → IsCompiled q.set → MeetsAdmission q.set → tx < length q.set.txns → form ≡ form_of_plan_next r
-    → Answered p.set (λ story base. r ≡ plan_next_answer p.set story (length story - base) p.room tx) (λ story. plan_next_entry (record { 0 = tx }) r) old new
+    → Answered p.set (λ history base. r ≡ plan_next_answer p.set history (length history - base) p.room tx) (λ history. plan_next_entry (record { 0 = tx }) r) old new
     → Tries (in_set was.plant.set tx) 0 K (PlanNextSaid tx form) was (seen_of q new left)
 planned_next {K} p q old new left was tx r form view same compiled meets lt is a =
     subst (λ (s : SeatSeen). Tries (in_set s.plant.set tx) 0 K (PlanNextSaid tx form) s (seen_of q new left)) view (tells (in_set q.set tx) (seen_of q old left) (seen_of q new left) (in_zero q.set tx lt) (record {
       reply = r;
       form = is;
-      turn = turn_of (λ set room story base. r ≡ plan_next_answer set story (length story - base) room tx) (λ set story. plan_next_entry (record { 0 = tx }) r) p q old new left same compiled meets a;
+      turn = turn_of (λ set room history base. r ≡ plan_next_answer set history (length history - base) room tx) (λ set history. plan_next_entry (record { 0 = tx }) r) p q old new left same compiled meets a;
     }))
 
 pub peeked : {K : Type 0} (p q : PlantFacts) (old new : SeatFacts) (left : ℕ) (was : SeatSeen) (item : ℕ) (stored : StoredForm) (value : ℤ)
     → seen_of q old left ≡ was → p ≡ q → IsCompiled q.set → MeetsAdmission q.set → item < length q.set.items → stored.value ≡ value
-    → Answered p.set (λ story base. slice_get (state_of p.set story).items item ≡ Some (record { value = value; stamp = stored.stamp })) nothing old new
-    → Tries (item_refusal was item) 0 K (HadItsTurn (λ story base. slice_get (state_of was.plant.set story).items item ≡ Some (record { value = stored.value; stamp = stored.stamp })) nothing) was (seen_of q new left)
+    → Answered p.set (λ history base. slice_get (state_of p.set history).items item ≡ Some (record { value = value; stamp = stored.stamp })) nothing old new
+    → Tries (item_refusal was item) 0 K (HadItsTurn (λ history base. slice_get (state_of was.plant.set history).items item ≡ Some (record { value = stored.value; stamp = stored.stamp })) nothing) was (seen_of q new left)
 peeked {K} p q old new left was item stored value view same compiled meets lt is a =
-    let b = subst (λ (z : ℤ). Answered p.set (λ story base. slice_get (state_of p.set story).items item ≡ Some (record { value = z; stamp = stored.stamp })) nothing old new) (sym is) a in
-    subst (λ (s : SeatSeen). Tries (item_refusal s item) 0 K (HadItsTurn (λ story base. slice_get (state_of s.plant.set story).items item ≡ Some (record { value = stored.value; stamp = stored.stamp })) nothing) s (seen_of q new left)) view
+    let b = subst (λ (z : ℤ). Answered p.set (λ history base. slice_get (state_of p.set history).items item ≡ Some (record { value = z; stamp = stored.stamp })) nothing old new) (sym is) a in
+    subst (λ (s : SeatSeen). Tries (item_refusal s item) 0 K (HadItsTurn (λ history base. slice_get (state_of s.plant.set history).items item ≡ Some (record { value = stored.value; stamp = stored.stamp })) nothing) s (seen_of q new left)) view
     (tells (item_refusal (seen_of q old left) item) (seen_of q old left) (seen_of q new left) (item_zero (seen_of q old left) item lt)
-    (turn_of (λ set room story base. slice_get (state_of set story).items item ≡ Some (record { value = stored.value; stamp = stored.stamp })) (λ set. nothing) p q old new left same compiled meets b))
+    (turn_of (λ set room history base. slice_get (state_of set history).items item ≡ Some (record { value = stored.value; stamp = stored.stamp })) (λ set. nothing) p q old new left same compiled meets b))
 
 pub stepped : {K : Type 0} (p q : PlantFacts) (old new : SeatFacts) (left : ℕ) (was : SeatSeen) (tx : TxId) (serial : ℕ) (op : OpForm) (asked : Op) (r : StepReply) (form : StepForm)
     → seen_of q old left ≡ was → p ≡ q → IsCompiled q.set → MeetsAdmission q.set → old.tx ≡ Some tx → op_named op ≡ Some asked → form ≡ form_of_step r
-    → Answered p.set (λ story base. r ≡ step_answer p.set story (length story - base) p.room (job_at tx serial) asked) (λ story. step_entry (now_of p.set story) (job_at tx serial) asked r) old new
+    → Answered p.set (λ history base. r ≡ step_answer p.set history (length history - base) p.room (job_at tx serial) asked) (λ history. step_entry (now_of p.set history) (job_at tx serial) asked r) old new
     → Tries (step_refusal was.seat.tx op) 0 K (StepSaid serial op form) was (seen_of q new left)
 stepped {K} p q old new left was tx serial op asked r form view same compiled meets own named is a =
     subst (λ (s : SeatSeen). Tries (step_refusal s.seat.tx op) 0 K (StepSaid serial op form) s (seen_of q new left)) view
@@ -98,13 +98,13 @@ stepped {K} p q old new left was tx serial op asked r form view same compiled me
       own = own;
       named = named;
       form = is;
-      turn = turn_of (λ set room story base. r ≡ step_answer set story (length story - base) room (job_at tx serial) asked) (λ set story. step_entry (now_of set story) (job_at tx serial) asked r) p q old new left same compiled meets a;
+      turn = turn_of (λ set room history base. r ≡ step_answer set history (length history - base) room (job_at tx serial) asked) (λ set history. step_entry (now_of set history) (job_at tx serial) asked r) p q old new left same compiled meets a;
     }))
 
 drained_many : (p : PlantFacts) (most places n : ℕ) (entries : List Entry) (old new : SeatFacts) → Drained p most places [] entries n old new → length entries ≡ n
 drained_many p most places n entries old new d =
-    let long : length (drop old.drained d.story) ≡ length d.story - old.drained = length-drop old.drained d.story in let within : old.drained + n ≤ length d.story = d.within in
-    ap length d.moved ∙ length-take-le n (drop old.drained d.story) (omega arith)
+    let long : length (drop old.drained d.history) ≡ length d.history - old.drained = length-drop old.drained d.history in let within : old.drained + n ≤ length d.history = d.within in
+    ap length d.moved ∙ length-take-le n (drop old.drained d.history) (omega arith)
 
 pub drained : {K : Type 0} (p q : PlantFacts) (old new : SeatFacts) (left : ℕ) (was : SeatSeen) (n places : ℕ) (kept entries : List Entry) (before after : List EntryForm)
     → seen_of q old left ≡ was → p ≡ q → IsCompiled q.set → MeetsAdmission q.set → old.tx ≡ None → places ≡ 64 → kept ≡ [] → after ≡ map form_of_entry entries ++ drop (length entries) before

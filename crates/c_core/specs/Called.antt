@@ -4,7 +4,7 @@ use Rattle.rt_base.specs.declared.ids.JobId.{JobId}
 use Rattle.rt_base.specs.declared.operation.Op.{Op}
 use Rattle.step_journal.specs.declared.entry.Entry.{Entry}
 use Rattle.step_journal.specs.History.{state_of}
-use Rattle.board.specs.Stories.{noted, plan_entry, plan_next_entry, step_entry, idle_entry, now_of, running_of, pending_of, ended_of, IfBlocked}
+use Rattle.board.specs.Histories.{noted, plan_entry, plan_next_entry, step_entry, idle_entry, now_of, running_of, pending_of, ended_of, IfBlocked}
 use Rattle.law_times.specs.Response.{response}
 use Rattle.law_times.specs.Ages.{IsAdmitted}
 use Rattle.law_histories.specs.Protocol.{IsFirstRefusal}
@@ -51,15 +51,15 @@ pub record Keeps (s t : OpenSeen) : Type 0 where
   pub set : t.board.set ≡ s.board.set
   pub admitted : t.admitted ≡ s.admitted
   pub room : t.board.journal.room ≡ s.board.journal.room
-  pub bounds : (story : List Entry) → Stands t.board story → KeepsBoundsOf t story
+  pub bounds : (history : List Entry) → Stands t.board history → KeepsBoundsOf t history
 
 -- a job asked for an operation: what that came to, and the record of what was answered
 pub record AskedOf (job : JobId) (op : Op) (after : StepForm) (s t : OpenSeen) : Type 0 where
   pub keeps : Keeps s t
   pub first : t.board.journal.first ≡ s.board.journal.first
-  pub answer : (story : List Entry) → Stands s.board story → after ≡ form_of_step (step_reply_of s.board story job op)
-  pub stands : (story : List Entry) → Stands s.board story → Stands t.board (noted story (step_entry (now_of s.board.set story) job op (step_reply_of s.board story job op)))
-  pub blocked_once : (story : List Entry) → Stands s.board story → IfBlocked (step_reply_of s.board story job op) (IsFirstRefusal s.board.set story job)
+  pub answer : (history : List Entry) → Stands s.board history → after ≡ form_of_step (step_reply_of s.board history job op)
+  pub stands : (history : List Entry) → Stands s.board history → Stands t.board (noted history (step_entry (now_of s.board.set history) job op (step_reply_of s.board history job op)))
+  pub blocked_once : (history : List Entry) → Stands s.board history → IfBlocked (step_reply_of s.board history job op) (IsFirstRefusal s.board.set history job)
 
 pub record Stepped (job : JobForm) (form : OpForm) (status : ℕ) (before after : StepForm) (s t : OpenSeen) : Type 0 where
   pub status_is : status ≡ step_status s.board job.tx form
@@ -73,44 +73,44 @@ pub record Planned (tx tick status : ℕ) (before after : TimeForm) (s t : OpenS
   pub refused : status ≢ 0 → (t ≡ s) × (after ≡ before)
   pub keeps : Keeps s t
   pub first : t.board.journal.first ≡ s.board.journal.first
-  pub answer : (story : List Entry) → status ≡ 0 → Stands s.board story → after ≡ form_of_plan tick (plan_reply_of s.board story tx tick)
-  pub stands : (story : List Entry) → status ≡ 0 → Stands s.board story → Stands t.board (noted story (plan_entry (record { 0 = tx }) tick (plan_reply_of s.board story tx tick)))
+  pub answer : (history : List Entry) → status ≡ 0 → Stands s.board history → after ≡ form_of_plan tick (plan_reply_of s.board history tx tick)
+  pub stands : (history : List Entry) → status ≡ 0 → Stands s.board history → Stands t.board (noted history (plan_entry (record { 0 = tx }) tick (plan_reply_of s.board history tx tick)))
 
 pub record PlannedNext (tx status : ℕ) (before after : TimeForm) (s t : OpenSeen) : Type 0 where
   pub status_is : status ≡ tx_status s.board tx
   pub refused : status ≢ 0 → (t ≡ s) × (after ≡ before)
   pub keeps : Keeps s t
   pub first : t.board.journal.first ≡ s.board.journal.first
-  pub answer : (story : List Entry) → status ≡ 0 → Stands s.board story → after ≡ form_of_plan_next (plan_next_reply_of s.board story tx)
-  pub stands : (story : List Entry) → status ≡ 0 → Stands s.board story → Stands t.board (noted story (plan_next_entry (record { 0 = tx }) (plan_next_reply_of s.board story tx)))
+  pub answer : (history : List Entry) → status ≡ 0 → Stands s.board history → after ≡ form_of_plan_next (plan_next_reply_of s.board history tx)
+  pub stands : (history : List Entry) → status ≡ 0 → Stands s.board history → Stands t.board (noted history (plan_next_entry (record { 0 = tx }) (plan_next_reply_of s.board history tx)))
 
 pub record Idled (status : ℕ) (after : TimeForm) (s t : OpenSeen) : Type 0 where
   pub status_is : status ≡ 0
   pub keeps : Keeps s t
   pub first : t.board.journal.first ≡ s.board.journal.first
-  pub answer : (story : List Entry) → Stands s.board story → after ≡ form_of_idle (idle_reply_of s.board story)
-  pub stands : (story : List Entry) → Stands s.board story → Stands t.board (noted story (idle_entry (now_of s.board.set story) (idle_reply_of s.board story)))
+  pub answer : (history : List Entry) → Stands s.board history → after ≡ form_of_idle (idle_reply_of s.board history)
+  pub stands : (history : List Entry) → Stands s.board history → Stands t.board (noted history (idle_entry (now_of s.board.set history) (idle_reply_of s.board history)))
 
 pub record IsRunningOf (status : ℕ) (before after : JobForm) (s t : OpenSeen) : Type 0 where
   pub same : t ≡ s
-  pub running : (story : List Entry) → Stands s.board story → IsRunning (running_of s.board.set story) status before after
+  pub running : (history : List Entry) → Stands s.board history → IsRunning (running_of s.board.set history) status before after
 
 pub record IsPendingOf (tx status : ℕ) (before after : JobForm) (s t : OpenSeen) : Type 0 where
   pub same : t ≡ s
   pub unknown : length s.board.set.txns ≤ tx → (status ≡ 4) × (after ≡ before)
-  pub pending : (story : List Entry) → tx < length s.board.set.txns → Stands s.board story → IsRunning (pending_of s.board.set story tx) status before after
+  pub pending : (history : List Entry) → tx < length s.board.set.txns → Stands s.board history → IsRunning (pending_of s.board.set history tx) status before after
 
 pub record Peeked (item status : ℕ) (before after : StoredForm) (s t : OpenSeen) : Type 0 where
   pub same : t ≡ s
   pub status_is : status ≡ item_status s.board item
   pub refused : status ≢ 0 → after ≡ before
-  pub stored : (story : List Entry) → status ≡ 0 → Stands s.board story → slice_get (state_of s.board.set story).items item ≡ Some (record { value = after.value; stamp = after.stamp })
+  pub stored : (history : List Entry) → status ≡ 0 → Stands s.board history → slice_get (state_of s.board.set history).items item ≡ Some (record { value = after.value; stamp = after.stamp })
 
 pub record IsEndedOf (tx status before after : ℕ) (s t : OpenSeen) : Type 0 where
   pub same : t ≡ s
   pub status_is : status ≡ tx_status s.board tx
   pub refused : status ≢ 0 → after ≡ before
-  pub ended : (story : List Entry) → status ≡ 0 → Stands s.board story → after ≡ ended_of s.board.set story tx
+  pub ended : (history : List Entry) → status ≡ 0 → Stands s.board history → after ≡ ended_of s.board.set history tx
 
 pub record IsResponseOf (tx status before after : ℕ) (s t : OpenSeen) : Type 0 where
   pub same : t ≡ s
@@ -135,4 +135,4 @@ pub record Drained (status count : ℕ) (before after : List EntryForm) (s t : O
   pub left : t.board.journal.kept ≡ drop count s.board.journal.kept
   pub keeps : Keeps s t
   pub first : t.board.journal.first ≡ s.board.journal.first + count
-  pub stands : (story : List Entry) → Stands s.board story → Stands t.board story
+  pub stands : (history : List Entry) → Stands s.board history → Stands t.board history

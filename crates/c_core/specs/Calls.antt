@@ -6,7 +6,7 @@ use Rattle.rt_base.specs.declared.release.PlanRefused.{PlanRefused}
 use Rattle.board.specs.declared.replies.StepReply.{StepReply}
 use Rattle.board.specs.declared.replies.IdleReply.{IdleReply}
 use Rattle.step_journal.specs.declared.entry.Entry.{Entry}
-use Rattle.board.specs.Stories.{plan_answer, plan_next_answer, step_answer, idle_answer}
+use Rattle.board.specs.Histories.{plan_answer, plan_next_answer, step_answer, idle_answer}
 use Rattle.txn_set.specs.Set.{Set}
 use Rattle.item_model.specs.Kinds.{is_dated}
 use Rattle.set_admission.specs.Bounds.{age_of}
@@ -33,16 +33,16 @@ step_status core tx form = if is_some (op_named form) then tx_status core tx els
 
 -- what a core that stands for this history answers
 abbrev pub step_reply_of : CoreSeen → List Entry → JobId → Op → StepReply
-step_reply_of core story job asked = step_answer core.set story (length core.journal.kept) core.journal.room job asked
+step_reply_of core history job asked = step_answer core.set history (length core.journal.kept) core.journal.room job asked
 
 abbrev pub plan_reply_of : CoreSeen → List Entry → (tx tick : ℕ) → Result JobId PlanRefused
-plan_reply_of core story tx tick = plan_answer core.set story (length core.journal.kept) core.journal.room tx tick
+plan_reply_of core history tx tick = plan_answer core.set history (length core.journal.kept) core.journal.room tx tick
 
 abbrev pub plan_next_reply_of : CoreSeen → List Entry → (tx : ℕ) → Result (JobId × ℕ) PlanRefused
-plan_next_reply_of core story tx = plan_next_answer core.set story (length core.journal.kept) core.journal.room tx
+plan_next_reply_of core history tx = plan_next_answer core.set history (length core.journal.kept) core.journal.room tx
 
 abbrev pub idle_reply_of : CoreSeen → List Entry → IdleReply
-idle_reply_of core story = idle_answer core.set story (length core.journal.kept) core.journal.room
+idle_reply_of core history = idle_answer core.set history (length core.journal.kept) core.journal.room
 
 -- what is answered where this is the running job: 6 where there is none
 abbrev pub IsRunning : Option JobId → ℕ → JobForm → JobForm → Type 0

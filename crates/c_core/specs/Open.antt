@@ -19,4 +19,4 @@ pub record IsOver (o : OpenSeen) : Type 0 where
 
 -- a history keeps the bounds of the admitted set
 abbrev pub KeepsBoundsOf : OpenSeen → List Entry → Type 0
-KeepsBoundsOf o story = IfSome o.admitted (λ set. KeepsBounds set story)
+KeepsBoundsOf o history = IfSome o.admitted (λ set. KeepsBounds set history)

@@ -6,7 +6,7 @@ use Rattle.rt_base.specs.declared.operation.Op.{Op}
 use Rattle.rt_base.specs.declared.release.PlanRefused.{PlanRefused}
 use Rattle.board.specs.declared.replies.StepReply.{StepReply}
 use Rattle.board.specs.declared.replies.IdleReply.{IdleReply}
-use Rattle.board.specs.Stories.{plan_entry, plan_next_entry, step_entry, idle_entry, plan_answer, plan_next_answer, step_answer, idle_answer, now_of}
+use Rattle.board.specs.Histories.{plan_entry, plan_next_entry, step_entry, idle_entry, plan_answer, plan_next_answer, step_answer, idle_answer, now_of}
 use Rattle.step_journal.specs.declared.entry.Entry.{Entry}
 use Rattle.step_journal.specs.History.{state_of}
 use Rattle.set_admission.specs.Laws.{KeepsBounds}
@@ -57,8 +57,8 @@ pub record StepSaid (serial : ℕ) (op : OpForm) (after : StepForm) (old new : S
   pub own : old.seat.tx ≡ Some tx
   pub named : op_named op ≡ Some asked
   pub form : after ≡ form_of_step reply
-  pub turn : HadItsTurn (λ story base. reply ≡ step_answer old.plant.set story (length story - base) old.plant.room (job_at tx serial) asked)
-      (λ story. step_entry (now_of old.plant.set story) (job_at tx serial) asked reply) old new
+  pub turn : HadItsTurn (λ history base. reply ≡ step_answer old.plant.set history (length history - base) old.plant.room (job_at tx serial) asked)
+      (λ history. step_entry (now_of old.plant.set history) (job_at tx serial) asked reply) old new
 
 abbrev pub SeatStepped : (serial : ℕ) → OpForm → (status : ℕ) → StepForm → StepForm → SeatSeen → SeatSeen → Type 0
 SeatStepped serial op status before after old new = Tries (step_refusal old.seat.tx op) status (after ≡ before) (StepSaid serial op after) old new
@@ -66,7 +66,7 @@ SeatStepped serial op status before after old new = Tries (step_refusal old.seat
 pub record PlanSaid (tx tick : ℕ) (after : TimeForm) (old new : SeatSeen) : Type 0 where
   pub reply : Result JobId PlanRefused
   pub form : after ≡ form_of_plan tick reply
-  pub turn : HadItsTurn (λ story base. reply ≡ plan_answer old.plant.set story (length story - base) old.plant.room tx tick) (λ story. plan_entry (record { 0 = tx }) tick reply) old new
+  pub turn : HadItsTurn (λ history base. reply ≡ plan_answer old.plant.set history (length history - base) old.plant.room tx tick) (λ history. plan_entry (record { 0 = tx }) tick reply) old new
 
 abbrev pub SeatPlanned : (tx tick status : ℕ) → TimeForm → TimeForm → SeatSeen → SeatSeen → Type 0
 SeatPlanned tx tick status before after old new = Tries (in_set old.plant.set tx) status (after ≡ before) (PlanSaid tx tick after) old new
@@ -74,7 +74,7 @@ SeatPlanned tx tick status before after old new = Tries (in_set old.plant.set tx
 pub record PlanNextSaid (tx : ℕ) (after : TimeForm) (old new : SeatSeen) : Type 0 where
   pub reply : Result (JobId × ℕ) PlanRefused
   pub form : after ≡ form_of_plan_next reply
-  pub turn : HadItsTurn (λ story base. reply ≡ plan_next_answer old.plant.set story (length story - base) old.plant.room tx) (λ story. plan_next_entry (record { 0 = tx }) reply) old new
+  pub turn : HadItsTurn (λ history base. reply ≡ plan_next_answer old.plant.set history (length history - base) old.plant.room tx) (λ history. plan_next_entry (record { 0 = tx }) reply) old new
 
 abbrev pub SeatPlannedNext : (tx status : ℕ) → TimeForm → TimeForm → SeatSeen → SeatSeen → Type 0
 SeatPlannedNext tx status before after old new = Tries (in_set old.plant.set tx) status (after ≡ before) (PlanNextSaid tx after) old new
@@ -82,7 +82,7 @@ SeatPlannedNext tx status before after old new = Tries (in_set old.plant.set tx)
 pub record IdleSaid (after : TimeForm) (old new : SeatSeen) : Type 0 where
   pub reply : IdleReply
   pub form : after ≡ form_of_idle reply
-  pub turn : HadItsTurn (λ story base. reply ≡ idle_answer old.plant.set story (length story - base) old.plant.room) (λ story. idle_entry (now_of old.plant.set story) reply) old new
+  pub turn : HadItsTurn (λ history base. reply ≡ idle_answer old.plant.set history (length history - base) old.plant.room) (λ history. idle_entry (now_of old.plant.set history) reply) old new
 
 abbrev pub SeatIdled : (status : ℕ) → TimeForm → TimeForm → SeatSeen → SeatSeen → Type 0
 SeatIdled status before after old new = Tries 0 status (after ≡ before) (IdleSaid after) old new
@@ -94,7 +94,7 @@ item_refusal s item = if nat_lt item (length s.plant.set.items) then 0 else 5
 abbrev pub SeatPeeked : (item status : ℕ) → StoredForm → StoredForm → SeatSeen → SeatSeen → Type 0
 SeatPeeked item status before after old new =
     Tries (item_refusal old item) status (after ≡ before)
-    (HadItsTurn (λ story base. slice_get (state_of old.plant.set story).items item ≡ Some (record { value = after.value; stamp = after.stamp })) nothing) old new
+    (HadItsTurn (λ history base. slice_get (state_of old.plant.set history).items item ≡ Some (record { value = after.value; stamp = after.stamp })) nothing) old new
 
 -- 27 by each other seat than the operator's
 abbrev pub drain_refusal : Option TxId → ℕ

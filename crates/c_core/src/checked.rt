@@ -2,7 +2,7 @@
 //! call answers a status: OK where the core was called, and else why it was not; then nothing is changed.
 ghost use Rattle.std.specs.Prelude.{◌≡◌, ◌≤◌, ◌<◌, ◌^◌, [], List, length, nat_lt, if◌then◌else◌, IfOk, IfErr, IsTrue, false, Some, None, MatchOption, vec_capacity};
 ghost use Rattle.step_journal.specs.declared.entry.Entry.{Entry as Noted};
-ghost use Rattle.board.specs.Stories.{noted, now_of, step_entry, planned_of};
+ghost use Rattle.board.specs.Histories.{noted, now_of, step_entry, planned_of};
 ghost use Rattle.lock_core.specs.Stands.{Stands};
 ghost use Rattle.c_core.specs.Calls.{step_reply_of};
 ghost use Rattle.c_core.specs.Called.{AskedOf, Drained, Idled, IsAgeOf, IsBlockingOf, IsEndedOf, IsPendingOf, IsResponseOf, IsRunningOf, Keeps, Opened, OpenedTrial, Peeked, Planned, PlannedNext, Stepped};
@@ -187,7 +187,7 @@ impl CheckedCore {
         }
     }
 
-    /// The same over a set that is not admitted.
+    /// A core with no entries over a set that need not be admitted; the set again where memory is refused.
     pub fn trial(
         alloc: Global,
         set: CompiledSet,
@@ -234,7 +234,7 @@ impl CheckedCore {
 
     /// That each history of the core keeps the bounds of the admitted set, if it has one. It does nothing.
     pub fn keeps_bounds(&self)
-        ensures { (story : List Noted) → Stands self.now.board story → KeepsBoundsOf self.now story }
+        ensures { (history : List Noted) → Stands self.now.board history → KeepsBoundsOf self.now history }
     {
         let _core = &self.core;
     }
@@ -264,8 +264,8 @@ impl CheckedCore {
     fn computes(&mut self, job: JobId) -> bool
         requires { job.tx.0 < length self.old.board.set.txns }
         ensures keeps { Keeps self.old self.new × (self.new.board.journal.first ≡ self.old.board.journal.first) }
-        ensures answer { IsTrue result → (story : List Noted) → Stands self.old.board story → step_reply_of self.old.board story job Op.Compute ≡ StepReply.Done Outcome.Computed None }
-        ensures after { IsTrue result → (story : List Noted) → Stands self.old.board story → Stands self.new.board (noted story (step_entry (now_of self.old.board.set story) job Op.Compute (StepReply.Done Outcome.Computed None))) }
+        ensures answer { IsTrue result → (history : List Noted) → Stands self.old.board history → step_reply_of self.old.board history job Op.Compute ≡ StepReply.Done Outcome.Computed None }
+        ensures after { IsTrue result → (history : List Noted) → Stands self.old.board history → Stands self.new.board (noted history (step_entry (now_of self.old.board.set history) job Op.Compute (StepReply.Done Outcome.Computed None))) }
         ensures unchanged { result ≡ false → self.new ≡ self.old }
     {
         let computed = self.core.compute(job);
@@ -483,14 +483,14 @@ impl CheckedCore {
 
     /// How many releases are planned and did not take place yet.
     pub fn planned(&self) -> usize
-        ensures { (story : List Noted) → Stands self.now.board story → result ≡ planned_of self.now.board.set story }
+        ensures { (history : List Noted) → Stands self.now.board history → result ≡ planned_of self.now.board.set history }
     {
         Board::planned(&self.core)
     }
 
     /// The present tick.
     pub fn now(&self) -> u64
-        ensures { (story : List Noted) → Stands self.now.board story → result ≡ now_of self.now.board.set story }
+        ensures { (history : List Noted) → Stands self.now.board history → result ≡ now_of self.now.board.set history }
     {
         Board::now(&self.core)
     }

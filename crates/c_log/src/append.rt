@@ -79,7 +79,7 @@ pub(crate) fn put_piece(
     piece_on::<Brand>(alloc, queue, count, lines, names, entries)
 }
 
-/// The same of entries of any kind. After an error no call is put.
+/// Puts the calls that append these entries, where each can be written with these names; else the refusal, and no call.
 pub(crate) fn put_known(
     alloc: Global,
     queue: &mut Queue,

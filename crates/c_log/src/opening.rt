@@ -105,7 +105,7 @@ fn opened_on<T: Based>(
     }
 }
 
-// The same, where the file is the one of the queue.
+// The calls that make a new file, which holds no entries yet.
 fn created(alloc: Global, queue: Queue) -> Result<Found, LogRefused>
     requires { queue ≡ record { base = []; calls = [] } }
     ensures base { IfOk result (λ f. f.queue.base ≡ []) }

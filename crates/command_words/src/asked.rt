@@ -27,7 +27,7 @@ fn number(word: &[u8]) -> Option<u32>
     }
 }
 
-// The same as a test, and those of the other forms of words.
+// Whether a word is such a number.
 fn is_number(word: &[u8]) -> bool
     ensures { result ≡ is_some (number_part word.now) }
 {

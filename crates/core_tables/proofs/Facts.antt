@@ -43,27 +43,27 @@ pub record Known (set : Set) (s : State) : Type 0 where
   pub over : (x : Row) (op : Op) → running set s.rows ≡ Some x → over_of (end_by set (row_after s x op) (s.now + 1) op) (is_due set (s.now + 1) x) ≡ end_of (with_step set s x op) x.job
   pub stuck : running set s.rows ≡ None → pending s.rows ≡ []
 
-known_story : (set : Set) (story : List Entry) → IsCompiled set → IsLegal set story → Known set (state_of set story)
-known_story set story ok legal =
-    let sound = legal_sound set story ok legal in
+known_history : (set : Set) (history : List Entry) → IsCompiled set → IsLegal set history → Known set (state_of set history)
+known_history set history ok legal =
+    let sound = legal_sound set history ok legal in
     record {
       compiled = ok;
-      refused = refused_all (λ _. false) story;
+      refused = refused_all (λ _. false) history;
       sound = sound;
-      items = items_count set story;
+      items = items_count set history;
       used = λ x here.
-          let lt : x.job.tx.0 < length set.txns = omega (arith, in_range (state_of set story).rows x.job.tx.0 x here, sound.frame.count) in
-          omega (arith, (legal_delay set story ok legal).used x here, (times_at set x.job.tx.0 ok lt).steps.1);
-      early = λ x here. pending_early set story x ok legal here;
-      plans = plans_early set story;
-      few = λ n. ended_few set story n ok legal;
-      here = running_here set story ok legal;
-      over = λ x op runs. over_after set story x op ok legal runs;
-      stuck = (never_stuck set story ok legal).runs;
+          let lt : x.job.tx.0 < length set.txns = omega (arith, in_range (state_of set history).rows x.job.tx.0 x here, sound.frame.count) in
+          omega (arith, (legal_delay set history ok legal).used x here, (times_at set x.job.tx.0 ok lt).steps.1);
+      early = λ x here. pending_early set history x ok legal here;
+      plans = plans_early set history;
+      few = λ n. ended_few set history n ok legal;
+      here = running_here set history ok legal;
+      over = λ x op runs. over_after set history x op ok legal runs;
+      stuck = (never_stuck set history ok legal).runs;
     }
 
 pub known : (set : Set) (s : State) → IsLegalState set s → Known set s
-known set s is = subst (Known set) (sym is.is) (known_story set is.story is.compiled is.legal)
+known set s is = subst (Known set) (sym is.is) (known_history set is.history is.compiled is.legal)
 
 -- before the events of a tick
 

@@ -16,10 +16,10 @@ use Rattle.core_tables.specs.Tables.{AreTables}
 
 -- the state after some legal history of a compiled set
 pub record IsLegalState (set : Set) (s : State) : Type 0 where
-  pub story : List Entry
+  pub history : List Entry
   pub compiled : IsCompiled set
-  pub legal : IsLegal set story
-  pub is : s ≡ state_of set story
+  pub legal : IsLegal set history
+  pub is : s ≡ state_of set history
 
 -- the tables are those of some such state
 pub record Stand (set : Set) (t : TablesSeen) : Type 0 where

@@ -228,7 +228,7 @@ impl CoreTables {
         not_yet(job, running)
     }
 
-    /// The same, of the running job.
+    /// What refuses an operation of the job that runs; None where it takes place.
     #[inline(always)]
     fn asked(
         &self,

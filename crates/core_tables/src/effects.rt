@@ -262,7 +262,7 @@ impl CoreTables {
         }
     }
 
-    // The same where each pending job has time beyond this tick, so that none ends.
+    // The events of a tick by which no pending job's deadline comes: only the releases planned for it.
     #[inline(always)]
     fn arrive_in_time(&mut self, tick: Tick)
         requires arrives { (set : Set) × ArrivesSome set tick self.old }
@@ -273,7 +273,7 @@ impl CoreTables {
         release(&mut self.pending, &mut self.calendar, tick);
     }
 
-    // The same where some may have none, which is seldom, so it is no part of what calls it.
+    // The events of a tick by which deadlines may come. That is seldom, so this is not inlined.
     #[inline(never)]
     fn arrive_late(&mut self, tick: Tick)
         requires arrives { (set : Set) × ArrivesSome set tick self.old }

@@ -54,7 +54,7 @@ impl History {
         Some(())
     }
 
-    /// The same of the first so many alone.
+    /// Begins a history of the first so many of what was kept.
     pub fn front(&mut self, alloc: Global, count: usize) -> Option<()> {
         self.go_on(alloc, count)?;
         self.entries.truncate(count);

@@ -79,7 +79,7 @@ fn follow_lines<'a>(
     Ok(())
 }
 
-// The same, with nothing made yet.
+// Follows each line of a text, from nothing on, and prints what each says.
 fn follow_all(rt: &HostRuntime, input: &str) -> io::Result<()> {
     let alloc = rt.alloc();
     let mut said = String::new(alloc);

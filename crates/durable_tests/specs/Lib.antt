@@ -1,1 +1,1 @@
-pub mod Story
+pub mod History

@@ -2,7 +2,7 @@
 ghost use Rattle.std.specs.Prelude.{◌≡◌, ◌++◌, [], IfOk, IfSome, IsTrue, OnOk};
 ghost use Rattle.step_journal.specs.History.{IsLegal};
 ghost use Rattle.durable_journal.specs.Log.{StandsFor};
-ghost use Rattle.durable_tests.specs.Story.{IsStory};
+ghost use Rattle.durable_tests.specs.History.{IsHistory};
 ghost use Rattle.report_text.specs.Texts.{NamesSet};
 ghost use Rattle.rt_base.specs.Names.{AreNames};
 
@@ -41,7 +41,7 @@ step control/0 2 read temp 5 0
 
 /// Names, a set of them, and entries.
 #[derive(Drop)]
-pub struct Story {
+pub struct History {
     pub names: Names,
     pub set: CompiledSet,
     pub entries: Vec<Entry>,
@@ -93,20 +93,20 @@ fn legal_entries(
     }
 }
 
-// The story of these names and this set, with at most so many of the entries of a text.
-fn story_with(
+// The history of these names and this set, with at most so many of the entries of a text.
+fn history_with(
     alloc: Global,
     names: NameTables,
     set: CompiledSet,
     text: &str,
     most: usize,
-) -> Result<Story, Fail>
+) -> Result<History, Fail>
     requires names { AreNames names.items × AreNames names.txns }
     requires same { NamesSet names set }
-    ensures { IfOk result (λ g. IsStory g.names g.set g.entries.items) }
+    ensures { IfOk result (λ g. IsHistory g.names g.set g.entries.items) }
 {
     match legal_entries(alloc, &names, &set, text, most) {
-        Ok(entries) => Ok(Story {
+        Ok(entries) => Ok(History {
             names: names.into_names(),
             set,
             entries,
@@ -120,8 +120,8 @@ fn story_with(
 }
 
 /// What a text declares, and at most so many of its entries.
-pub fn story_of(alloc: Global, text: &str, most: usize) -> Result<Story, Fail>
-    ensures { IfOk result (λ g. IsStory g.names g.set g.entries.items) }
+pub fn history_of(alloc: Global, text: &str, most: usize) -> Result<History, Fail>
+    ensures { IfOk result (λ g. IsHistory g.names g.set g.entries.items) }
 {
     if text.len() >= 1 << 32 {
         return Err("long".into());
@@ -130,7 +130,7 @@ pub fn story_of(alloc: Global, text: &str, most: usize) -> Result<Story, Fail>
         return Err("head".into());
     };
     match compile_head(alloc, head) {
-        Ok((names, set)) => story_with(alloc, names, set, text, most),
+        Ok((names, set)) => history_with(alloc, names, set, text, most),
         Err(_) => Err("set".into()),
     }
 }
@@ -193,37 +193,37 @@ fn append_each<D: Disk>(
 // Adds entries behind those that were found.
 fn add<D: Disk>(
     log: &mut Log<D>,
-    story: &Story,
+    history: &History,
     found: &[Entry],
     rest: &[Entry],
     handed: Handed,
 ) -> Result<(), LogError>
-    requires story { IsStory story.now.names story.now.set story.now.entries.items }
-    requires legal { IsLegal story.now.set (found.now ++ rest.now) }
-    requires stands { StandsFor D.seen D.may_leave story.now.names story.now.set log.old found.now }
+    requires history { IsHistory history.now.names history.now.set history.now.entries.items }
+    requires legal { IsLegal history.now.set (found.now ++ rest.now) }
+    requires stands { StandsFor D.seen D.may_leave history.now.names history.now.set log.old found.now }
 {
     match handed {
-        Handed::Each => append_each(log, &story.names, &story.set, found, rest),
-        Handed::Piece => log.append_all(&story.names, &story.set, rest),
+        Handed::Each => append_each(log, &history.names, &history.set, found, rest),
+        Handed::Piece => log.append_all(&history.names, &history.set, rest),
     }
 }
 
 // Adds the entries behind as many as were found.
 fn add_rest<D: Disk>(
     alloc: Global,
-    story: &Story,
+    history: &History,
     log: Log<D>,
     found: &[Entry],
     handed: Handed,
 ) -> (D, usize, u64, Option<LogError>)
-    requires story { IsStory story.now.names story.now.set story.now.entries.items }
-    requires found { StandsFor D.seen D.may_leave story.now.names story.now.set log found.now }
+    requires history { IsHistory history.now.names history.now.set history.now.entries.items }
+    requires found { StandsFor D.seen D.may_leave history.now.names history.now.set log found.now }
 {
     let mut log = log;
-    let known = found.len().min(story.entries.len());
-    let rest = &story.entries[known..];
-    let error = match longer(alloc, &story.set, found, rest) {
-        Ok(()) => add(&mut log, story, found, rest, handed).err(),
+    let known = found.len().min(history.entries.len());
+    let rest = &history.entries[known..];
+    let error = match longer(alloc, &history.set, found, rest) {
+        Ok(()) => add(&mut log, history, found, rest, handed).err(),
         Err(_) => Some(LogError::OutOfMemory),
     };
     let taken = log.len();
@@ -233,33 +233,33 @@ fn add_rest<D: Disk>(
 // Takes up the journal on a disk, or makes it on a new one, and adds the entries that are not there yet.
 fn run_on<D: Disk>(
     alloc: Global,
-    story: &Story,
+    history: &History,
     disk: D,
     is_new: bool,
     handed: Handed,
 ) -> (D, usize, u64, Option<LogError>)
-    requires story { IsStory story.now.names story.now.set story.now.entries.items }
+    requires history { IsHistory history.now.names history.now.set history.now.entries.items }
     requires new { IsTrue is_new → IfSome (D.seen disk) (λ file. file ≡ []) }
 {
     if is_new {
         return match Log::create(alloc, disk) {
-            Ok(log) => add_rest(alloc, story, log, &[], handed),
+            Ok(log) => add_rest(alloc, history, log, &[], handed),
             Err((disk, error)) => (disk, 0, 0, Some(error)),
         };
     }
-    let room = story.entries.len();
-    match Log::open(alloc, disk, &story.names, &story.set, room) {
-        Ok((log, found)) => add_rest(alloc, story, log, &found, handed),
+    let room = history.entries.len();
+    match Log::open(alloc, disk, &history.names, &history.set, room) {
+        Ok((log, found)) => add_rest(alloc, history, log, &found, handed),
         Err((disk, error)) => (disk, 0, 0, Some(error)),
     }
 }
 
 /// A run of the journal on a disk.
-pub fn run(alloc: Global, story: &Story, disk: MemDisk, handed: Handed) -> Ran
-    requires { IsStory story.now.names story.now.set story.now.entries.items }
+pub fn run(alloc: Global, history: &History, disk: MemDisk, handed: Handed) -> Ran
+    requires { IsHistory history.now.names history.now.set history.now.entries.items }
 {
     let is_new = disk.bytes().is_empty();
-    let (disk, found, taken, error) = run_on(alloc, story, disk, is_new, handed);
+    let (disk, found, taken, error) = run_on(alloc, history, disk, is_new, handed);
     Ran {
         disk,
         found,

@@ -1,7 +1,7 @@
 //! A journal that is stopped within a piece by a call of its disk that fails, and taken up again.
-ghost use Rattle.durable_tests.specs.Story.{IsStory};
+ghost use Rattle.durable_tests.specs.History.{IsHistory};
 
-use crate::base::{Handed, LINES, RUN, Story, bytes_of, story_of};
+use crate::base::{Handed, History, LINES, RUN, bytes_of, history_of};
 use crate::stops::{END, FIRST, left_of, stops};
 use std::alloc::Global;
 use std::test::Fail;
@@ -22,17 +22,17 @@ fn calls_behind(found: u64) -> u64 {
 // makes the journal whole; where the second run does not come to that call, whether it makes it whole itself.
 fn stops_twice(
     alloc: Global,
-    story: &Story,
+    history: &History,
     bytes: &[u8],
     calls: [u64; 2],
     kept: usize,
 ) -> Result<bool, Fail>
-    requires { IsStory story.now.names story.now.set story.now.entries.items }
+    requires { IsHistory history.now.names history.now.set history.now.entries.items }
 {
     let [first, second] = calls;
     let kept_first = 2000usize.saturating_sub(kept);
     let crashes = [kept_first, kept];
-    let [_, next, last] = stops(alloc, story, bytes, Handed::Piece, &calls, crashes)?;
+    let [_, next, last] = stops(alloc, history, bytes, Handed::Piece, &calls, crashes)?;
     let behind = calls_behind(left_of(first, kept_first));
     if second.saturating_sub(first) > behind {
         return Ok(next.is_whole);
@@ -43,15 +43,15 @@ fn stops_twice(
 // The first two calls, and how many bytes are kept, with which it does not come out so, if there are such.
 fn first_not_whole_twice(
     alloc: Global,
-    story: &Story,
+    history: &History,
     bytes: &[u8],
 ) -> Result<Option<([u64; 2], usize)>, Fail>
-    requires { IsStory story.now.names story.now.set story.now.entries.items }
+    requires { IsHistory history.now.names history.now.set history.now.entries.items }
 {
     for first in FIRST..END {
         for second in first + 1..first + 20 {
             for kept in [0usize, 256, 257, 800, 1281, 2000] {
-                if !stops_twice(alloc, story, bytes, [first, second], kept)? {
+                if !stops_twice(alloc, history, bytes, [first, second], kept)? {
                     return Ok(Some(([first, second], kept)));
                 }
             }
@@ -64,9 +64,9 @@ fn first_not_whole_twice(
 fn stopped_twice(rt: HostRuntime) -> Result<(), Fail> {
     let alloc = rt.alloc();
     let bytes = bytes_of(alloc, &LINES)?;
-    let story = story_of(alloc, RUN, 5)?;
-    let not_whole = first_not_whole_twice(alloc, &story, &bytes);
-    drop(story);
+    let history = history_of(alloc, RUN, 5)?;
+    let not_whole = first_not_whole_twice(alloc, &history, &bytes);
+    drop(history);
     assert_eq!(rt; not_whole?, None);
     Ok(())
 }

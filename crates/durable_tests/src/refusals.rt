@@ -1,7 +1,7 @@
 //! Journals that are refused, and a log that has stopped.
-ghost use Rattle.durable_tests.specs.Story.{IsStory};
+ghost use Rattle.durable_tests.specs.History.{IsHistory};
 
-use crate::base::{Handed, RUN, Ran, Story, disk, run, story_of};
+use crate::base::{Handed, History, RUN, Ran, disk, history_of, run};
 use durable_disk::{Disk, MemDisk};
 use durable_journal::{Log, LogError};
 use std::alloc::Global;
@@ -69,10 +69,10 @@ fn refusal_of(error: LogError) -> Answer {
     }
 }
 
-fn answer_of(alloc: Global, story: &Story, room: usize, disk: MemDisk) -> Answer
-    requires { IsStory story.now.names story.now.set story.now.entries.items }
+fn answer_of(alloc: Global, history: &History, room: usize, disk: MemDisk) -> Answer
+    requires { IsHistory history.now.names history.now.set history.now.entries.items }
 {
-    match Log::open(alloc, disk, &story.names, &story.set, room) {
+    match Log::open(alloc, disk, &history.names, &history.set, room) {
         Ok((log, found)) => {
             let count = found.len();
             drop(log);
@@ -87,10 +87,10 @@ fn answer_of(alloc: Global, story: &Story, room: usize, disk: MemDisk) -> Answer
 }
 
 // The disk of a run that meets no fault.
-fn disk_of(alloc: Global, story: &Story) -> Result<MemDisk, Fail>
-    requires { IsStory story.now.names story.now.set story.now.entries.items }
+fn disk_of(alloc: Global, history: &History) -> Result<MemDisk, Fail>
+    requires { IsHistory history.now.names history.now.set history.now.entries.items }
 {
-    let Ran { disk, error, .. } = run(alloc, story, disk(alloc, 2000, 100, &[])?, Handed::Piece);
+    let Ran { disk, error, .. } = run(alloc, history, disk(alloc, 2000, 100, &[])?, Handed::Piece);
     drop(error);
     Ok(disk)
 }
@@ -98,27 +98,27 @@ fn disk_of(alloc: Global, story: &Story) -> Result<MemDisk, Fail>
 // What a journal answers after a byte of it was changed.
 fn answer_after(
     alloc: Global,
-    story: &Story,
+    history: &History,
     at: u64,
     byte: u8,
     room: usize,
 ) -> Result<Answer, Fail>
-    requires { IsStory story.now.names story.now.set story.now.entries.items }
+    requires { IsHistory history.now.names history.now.set history.now.entries.items }
 {
-    let mut disk = disk_of(alloc, story)?;
+    let mut disk = disk_of(alloc, history)?;
     if disk.write_at(at, &[byte]).is_err() {
         drop(disk);
         return Err("not written".into());
     }
-    Ok(answer_of(alloc, story, room, disk))
+    Ok(answer_of(alloc, history, room, disk))
 }
 
 // The first byte whose change is not answered as it is to be, if there is one.
-fn first_unlike(alloc: Global, story: &Story) -> Result<Option<(u64, u8)>, Fail>
-    requires { IsStory story.now.names story.now.set story.now.entries.items }
+fn first_unlike(alloc: Global, history: &History) -> Result<Option<(u64, u8)>, Fail>
+    requires { IsHistory history.now.names history.now.set history.now.entries.items }
 {
     for (at, byte, room, wanted) in CHANGES {
-        if answer_after(alloc, story, at, byte, room)? != wanted {
+        if answer_after(alloc, history, at, byte, room)? != wanted {
             return Ok(Some((at, byte)));
         }
     }
@@ -128,9 +128,9 @@ fn first_unlike(alloc: Global, story: &Story) -> Result<Option<(u64, u8)>, Fail>
 #[test]
 fn changed(rt: HostRuntime) -> Result<(), Fail> {
     let alloc = rt.alloc();
-    let story = story_of(alloc, RUN, 5)?;
-    let unlike = first_unlike(alloc, &story);
-    drop(story);
+    let history = history_of(alloc, RUN, 5)?;
+    let unlike = first_unlike(alloc, &history);
+    drop(history);
     assert_eq!(rt; unlike?, None);
     Ok(())
 }
@@ -155,12 +155,12 @@ mode trial
     ),
 ];
 
-// What the journal of a run answers for the story of another text.
-fn answer_for(alloc: Global, own: &Story, text: &str) -> Result<Answer, Fail>
-    requires { IsStory own.now.names own.now.set own.now.entries.items }
+// What the journal of a run answers for the history of another text.
+fn answer_for(alloc: Global, own: &History, text: &str) -> Result<Answer, Fail>
+    requires { IsHistory own.now.names own.now.set own.now.entries.items }
 {
     let disk = disk_of(alloc, own)?;
-    match story_of(alloc, text, 0) {
+    match history_of(alloc, text, 0) {
         Ok(other) => {
             let answer = answer_of(alloc, &other, 5, disk);
             drop(other);
@@ -174,8 +174,8 @@ fn answer_for(alloc: Global, own: &Story, text: &str) -> Result<Answer, Fail>
 }
 
 // What an empty disk answers.
-fn answer_of_empty(alloc: Global, own: &Story) -> Result<Answer, Fail>
-    requires { IsStory own.now.names own.now.set own.now.entries.items }
+fn answer_of_empty(alloc: Global, own: &History) -> Result<Answer, Fail>
+    requires { IsHistory own.now.names own.now.set own.now.entries.items }
 {
     let empty = disk(alloc, 2000, 100, &[])?;
     Ok(answer_of(alloc, own, 5, empty))
@@ -198,8 +198,8 @@ fn header(alloc: Global) -> Result<MemDisk, Fail> {
 }
 
 // How many entries are found on that disk, and how many bytes it has when its next gate is written.
-fn opened_header(alloc: Global, own: &Story) -> Result<(usize, usize), Fail>
-    requires { IsStory own.now.names own.now.set own.now.entries.items }
+fn opened_header(alloc: Global, own: &History) -> Result<(usize, usize), Fail>
+    requires { IsHistory own.now.names own.now.set own.now.entries.items }
 {
     let header = header(alloc)?;
     match Log::open(alloc, header, &own.names, &own.set, 5) {
@@ -219,9 +219,9 @@ fn opened_header(alloc: Global, own: &Story) -> Result<(usize, usize), Fail>
     }
 }
 
-// What is answered for each of the other stories and on an empty disk, and what is found on one with the header alone.
-fn answers(alloc: Global, own: &Story) -> Result<([Answer; 3], (usize, usize)), Fail>
-    requires { IsStory own.now.names own.now.set own.now.entries.items }
+// What is answered for each of the other histories and on an empty disk, and what is found on one with the header alone.
+fn answers(alloc: Global, own: &History) -> Result<([Answer; 3], (usize, usize)), Fail>
+    requires { IsHistory own.now.names own.now.set own.now.entries.items }
 {
     let [(names, _), (period, _)] = OTHERS;
     let others = [
@@ -235,7 +235,7 @@ fn answers(alloc: Global, own: &Story) -> Result<([Answer; 3], (usize, usize)), 
 #[test]
 fn others(rt: HostRuntime) -> Result<(), Fail> {
     let alloc = rt.alloc();
-    let own = story_of(alloc, RUN, 5)?;
+    let own = history_of(alloc, RUN, 5)?;
     let answers = answers(alloc, &own);
     drop(own);
     let [(_, names), (_, period)] = OTHERS;

@@ -1,8 +1,8 @@
 //! Runs whose disk fails at a call, with a crash behind each: stopped once, at each call.
-ghost use Rattle.durable_tests.specs.Story.{IsStory};
+ghost use Rattle.durable_tests.specs.History.{IsHistory};
 
 use crate::base::{
-    Handed, LINES, RUN, Ran, Story, bytes_of, disk, is_fault, is_whole, run, story_of,
+    Handed, History, LINES, RUN, Ran, bytes_of, disk, history_of, is_fault, is_whole, run,
 };
 use durable_disk::MemDisk;
 use std::alloc::Global;
@@ -22,15 +22,15 @@ pub struct Stop {
 // A run on a disk, and that disk after a crash that keeps so many bytes.
 fn run_and_crash(
     alloc: Global,
-    story: &Story,
+    history: &History,
     bytes: &[u8],
     handed: Handed,
     disk: MemDisk,
     kept: usize,
 ) -> (Stop, MemDisk)
-    requires { IsStory story.now.names story.now.set story.now.entries.items }
+    requires { IsHistory history.now.names history.now.set history.now.entries.items }
 {
-    let ran = run(alloc, story, disk, handed);
+    let ran = run(alloc, history, disk, handed);
     let stop = Stop {
         is_stopped: ran.error.is_some(),
         is_fault: is_fault(&ran.error),
@@ -52,19 +52,19 @@ fn run_and_crash(
 /// Three runs on one disk, of which these calls fail, with crashes between them that keep so many bytes.
 pub fn stops(
     alloc: Global,
-    story: &Story,
+    history: &History,
     bytes: &[u8],
     handed: Handed,
     failing: &[u64],
     kept: [usize; 2],
 ) -> Result<[Stop; 3], Fail>
-    requires { IsStory story.now.names story.now.set story.now.entries.items }
+    requires { IsHistory history.now.names history.now.set history.now.entries.items }
 {
     let [once, twice] = kept;
     let disk = disk(alloc, 2000, 200, failing)?;
-    let (first, disk) = run_and_crash(alloc, story, bytes, handed, disk, once);
-    let (second, disk) = run_and_crash(alloc, story, bytes, handed, disk, twice);
-    let (third, disk) = run_and_crash(alloc, story, bytes, handed, disk, 0);
+    let (first, disk) = run_and_crash(alloc, history, bytes, handed, disk, once);
+    let (second, disk) = run_and_crash(alloc, history, bytes, handed, disk, twice);
+    let (third, disk) = run_and_crash(alloc, history, bytes, handed, disk, 0);
     drop(disk);
     Ok([first, second, third])
 }
@@ -104,11 +104,11 @@ fn is_made_whole(handed: Handed, call: u64, kept: usize, first: Stop, again: Sto
 // The first call, and how many bytes are kept, with which it does not come out so, if there is one.
 fn first_not_whole(
     alloc: Global,
-    story: &Story,
+    history: &History,
     bytes: &[u8],
     handed: Handed,
 ) -> Result<Option<(u64, usize)>, Fail>
-    requires { IsStory story.now.names story.now.set story.now.entries.items }
+    requires { IsHistory history.now.names history.now.set history.now.entries.items }
 {
     let end = match handed {
         Handed::Each => END_OF_EACH,
@@ -116,7 +116,7 @@ fn first_not_whole(
     };
     for call in FIRST..end {
         for kept in (0usize..1600).step_by(37) {
-            let [first, again, _] = stops(alloc, story, bytes, handed, &[call], [kept, 0])?;
+            let [first, again, _] = stops(alloc, history, bytes, handed, &[call], [kept, 0])?;
             if !is_made_whole(handed, call, kept, first, again) {
                 return Ok(Some((call, kept)));
             }
@@ -125,12 +125,12 @@ fn first_not_whole(
     Ok(None)
 }
 
-// The same for the first five entries of the run.
+// The first stop in a journal of the first five entries of the run after which it is not whole again.
 fn not_whole(alloc: Global, handed: Handed) -> Result<Option<(u64, usize)>, Fail> {
     let bytes = bytes_of(alloc, &LINES)?;
-    let story = story_of(alloc, RUN, 5)?;
-    let not_whole = first_not_whole(alloc, &story, &bytes, handed);
-    drop(story);
+    let history = history_of(alloc, RUN, 5)?;
+    let not_whole = first_not_whole(alloc, &history, &bytes, handed);
+    drop(history);
     not_whole
 }
 

@@ -65,7 +65,7 @@ impl Station {
 
     // Hands the kept entries to the out, and answers how many there were. Of all that happened so far, no job was late.
     fn hand_on(&mut self) -> usize
-        ensures { (story : List Noted) → Stands self.new.core.board story → KeepsBounds self.new.core.admitted story }
+        ensures { (history : List Noted) → Stands self.new.core.board history → KeepsBounds self.new.core.admitted history }
     {
         let count = self.core.drain(ROOM, &mut self.spare);
         self.core.keeps_bounds();

@@ -41,15 +41,15 @@ pub planned_front : (xs ys : List Entry) → planned_jobs xs ≤ planned_jobs (x
 planned_front xs ys = omega (arith, planned_both xs ys)
 
 -- the entries up to and with the one at a place, and the rest
-pub parts_at : (story entries : List Entry) (i : ℕ) (e d : Entry) → i < length entries → e ≡ get_or entries i d
-    → story ++ entries ≡ ((story ++ take i entries) ++ e ∷ []) ++ drop (i + 1) entries
-parts_at story entries i e d lt is =
+pub parts_at : (history entries : List Entry) (i : ℕ) (e d : Entry) → i < length entries → e ≡ get_or entries i d
+    → history ++ entries ≡ ((history ++ take i entries) ++ e ∷ []) ++ drop (i + 1) entries
+parts_at history entries i e d lt is =
     let rest : drop i entries ≡ e ∷ drop (i + 1) entries =
     drop-cons entries i d lt ∙ (ap (λ (x : Entry). x ∷ drop (suc i) entries) (sym is) ∙ ap (λ (n : ℕ). e ∷ drop n entries) (sym (add-one i))) in
-    ap (λ (l : List Entry). story ++ l) (sym (take-append-drop i entries))
-    ∙ (ap (λ (l : List Entry). story ++ (take i entries ++ l)) rest
-    ∙ (sym (append_assoc story (take i entries) (e ∷ drop (i + 1) entries))
-    ∙ sym (append_assoc (story ++ take i entries) (e ∷ []) (drop (i + 1) entries))))
+    ap (λ (l : List Entry). history ++ l) (sym (take-append-drop i entries))
+    ∙ (ap (λ (l : List Entry). history ++ (take i entries ++ l)) rest
+    ∙ (sym (append_assoc history (take i entries) (e ∷ drop (i + 1) entries))
+    ∙ sym (append_assoc (history ++ take i entries) (e ∷ []) (drop (i + 1) entries))))
 
 pub take_next : (entries : List Entry) (i : ℕ) (e d : Entry) → i < length entries → e ≡ get_or entries i d
     → take i entries ++ e ∷ [] ≡ take (suc i) entries
@@ -59,21 +59,21 @@ take_next (x ∷ xs) (suc i) e d lt is = ap (λ (l : List Entry). x ∷ l) (take
 
 -- what the rows follow after so many of the entries
 abbrev pub FollowsUpTo : RowsSeen → RowsSeen → List Entry → ℕ → Type 0
-FollowsUpTo rows now entries i = (set : Set) (story : List Entry) → Follows set rows story → IsLegal set (story ++ entries) → Follows set now (story ++ take i entries)
+FollowsUpTo rows now entries i = (set : Set) (history : List Entry) → Follows set rows history → IsLegal set (history ++ entries) → Follows set now (history ++ take i entries)
 
 -- the entry at a place is the next one
 pub next_goes : (rows now : RowsSeen) (entries : List Entry) (i : ℕ) (e d : Entry) → (c : GoOn rows entries)
     → i < length entries → e ≡ get_or entries i d → now.room ≡ rows.room → FollowsUpTo rows now entries i → GoesOn now e
 next_goes rows now entries i e d c lt is room follows =
-    let parts = parts_at c.story entries i e d lt is in
-    let legal : IsLegal c.set (((c.story ++ take i entries) ++ e ∷ []) ++ drop (i + 1) entries) = subst (IsLegal c.set) parts c.legal in
-    let few : planned_jobs ((c.story ++ take i entries) ++ e ∷ []) ≤ planned_jobs (c.story ++ entries) =
-    subst (λ (l : List Entry). planned_jobs ((c.story ++ take i entries) ++ e ∷ []) ≤ planned_jobs l) (sym parts) (planned_front ((c.story ++ take i entries) ++ e ∷ []) (drop (i + 1) entries)) in
+    let parts = parts_at c.history entries i e d lt is in
+    let legal : IsLegal c.set (((c.history ++ take i entries) ++ e ∷ []) ++ drop (i + 1) entries) = subst (IsLegal c.set) parts c.legal in
+    let few : planned_jobs ((c.history ++ take i entries) ++ e ∷ []) ≤ planned_jobs (c.history ++ entries) =
+    subst (λ (l : List Entry). planned_jobs ((c.history ++ take i entries) ++ e ∷ []) ≤ planned_jobs l) (sym parts) (planned_front ((c.history ++ take i entries) ++ e ∷ []) (drop (i + 1) entries)) in
     record {
       set = c.set;
-      story = c.story ++ take i entries;
-      follows = follows c.set c.story c.follows c.legal;
-      legal = legal_front c.set ((c.story ++ take i entries) ++ e ∷ []) (drop (i + 1) entries) legal;
+      history = c.history ++ take i entries;
+      follows = follows c.set c.history c.follows c.legal;
+      legal = legal_front c.set ((c.history ++ take i entries) ++ e ∷ []) (drop (i + 1) entries) legal;
       fits = omega (arith, few, c.fits, room);
     }
 
@@ -81,8 +81,8 @@ pub follows_next : (rows now now' : RowsSeen) (entries : List Entry) (i : ℕ) (
     → FollowsUpTo rows now entries i
     → ((set : Set) (before : List Entry) → Follows set now before → IsLegal set (before ++ e ∷ []) → Follows set now' (before ++ e ∷ []))
     → FollowsUpTo rows now' entries (i + 1)
-follows_next rows now now' entries i e d lt is so_far next set story h legal =
-    let parts = parts_at story entries i e d lt is in
-    let here : IsLegal set ((story ++ take i entries) ++ e ∷ []) = legal_front set ((story ++ take i entries) ++ e ∷ []) (drop (i + 1) entries) (subst (IsLegal set) parts legal) in
-    subst (Follows set now') (append_assoc story (take i entries) (e ∷ []) ∙ ap (λ (l : List Entry). story ++ l) (take_next entries i e d lt is ∙ ap (λ (n : ℕ). take n entries) (sym (add-one i))))
-    (next set (story ++ take i entries) (so_far set story h legal) here)
+follows_next rows now now' entries i e d lt is so_far next set history h legal =
+    let parts = parts_at history entries i e d lt is in
+    let here : IsLegal set ((history ++ take i entries) ++ e ∷ []) = legal_front set ((history ++ take i entries) ++ e ∷ []) (drop (i + 1) entries) (subst (IsLegal set) parts legal) in
+    subst (Follows set now') (append_assoc history (take i entries) (e ∷ []) ∙ ap (λ (l : List Entry). history ++ l) (take_next entries i e d lt is ∙ ap (λ (n : ℕ). take n entries) (sym (add-one i))))
+    (next set (history ++ take i entries) (so_far set history h legal) here)

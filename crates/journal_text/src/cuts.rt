@@ -14,7 +14,7 @@ fn find(byte: u8, bytes: &[u8]) -> Option<usize>
     bytes.iter().position(|b| *b == byte)
 }
 
-// The same, many bytes at a time: it costs more than a loop over a few bytes, and less than one over a line.
+// The first place of a byte, found many bytes at a time: dearer than a loop over a few bytes, cheaper than one over a line.
 #[inline(always)]
 fn find_far(byte: u8, bytes: &[u8]) -> Option<usize>
     ensures at { result ≡ position (λ b. b == byte) bytes.now }
@@ -35,7 +35,7 @@ pub fn cut(byte: u8, bytes: &[u8]) -> Option<(&[u8], &[u8])>
     }
 }
 
-/// The same for a word, which is short.
+/// What stands before the first such byte, and what stands after it; None where there is none. It is for short words.
 #[inline(always)]
 #[tactic(auto, using(crate::proofs::CutLaws::rest_of))]
 pub fn cut_word(byte: u8, bytes: &[u8]) -> Option<(&[u8], &[u8])>

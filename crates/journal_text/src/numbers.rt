@@ -88,7 +88,7 @@ pub fn at_front(bytes: &[u8]) -> Option<(u64, &[u8])>
     }
 }
 
-// The same after a blank.
+// The number behind a blank at the front, and the rest.
 #[inline(always)]
 fn after_blank(bytes: &[u8]) -> Option<(u64, &[u8])>
     ensures fits { IfSome result (λ p. p.0 < 2 ^ 64) }
@@ -116,7 +116,7 @@ pub fn unsigned(word: &[u8]) -> Option<u64>
     parsed(word)
 }
 
-/// The same below 2^32.
+/// The number below 2^32 that the word is in decimal digits, without a sign or a leading zero.
 #[inline(always)]
 #[tactic(auto, unfolding(crate::specs::Numbers::short_of))]
 pub fn short(word: &[u8]) -> Option<u32>

@@ -11,16 +11,16 @@ use Rattle.step_script.specs.declared.releases.Releases.TheVariants.{At}
 use Rattle.step_script.specs.Releases.{jobs_of, entries_of, entries_in}
 use Rattle.law_runs.specs.Runs.{workload_of}
 use Rattle.law_runs.proofs.Counts.{count_append, count_plans}
-use Rattle.law_runs.specs.Plannable.{own_of}
+use Rattle.law_runs.specs.Plannable.{eager_jobs_of}
 use Rattle.law_runs.specs.EagerLaws.{RunFits, ScenarioHasRoom, ScenarioPlansNext}
 use Rattle.law_runs.proofs.Near.{run_near}
 use Rattle.law_runs.proofs.Open.{next_given}
 use Rattle.law_runs.proofs.Scenario.{plannable, jobs_of_each}
 
 pub run_fits : RunFits
-run_fits = λ w own history ok r.
-    let h = run_near w own history ok r in
-    (entries_few w.set history ok r.legal).jobs (λ tx. length (ticks_of w.releases tx) + own tx)
+run_fits = λ w eager_jobs history ok r.
+    let h = run_near w eager_jobs history ok r in
+    (entries_few w.set history ok r.legal).jobs (λ tx. length (ticks_of w.releases tx) + eager_jobs tx)
     (λ n lt. omega (arith, ap (λ (l : List Entry). plan_count l n) r.begins, count_append (plans w) r.rest n, count_plans w n, h.jobs n))
 
 as_many : (jobs b steps : ℕ) → jobs ≡ b → jobs * (steps + 3) ≡ entries_of b steps
@@ -35,9 +35,9 @@ all_entries (t ∷ ts) (r ∷ rs) jobs same is =
 pub scenario_room : ScenarioHasRoom
 scenario_room = λ s is.
     let room = is.room in
-    omega (arith, room, all_entries s.txns s.releases (λ tx. length (ticks_of (workload_of s).releases tx) + own_of s tx) is.released (λ n. jobs_of_each s n is))
+    omega (arith, room, all_entries s.txns s.releases (λ tx. length (ticks_of (workload_of s).releases tx) + eager_jobs_of s tx) is.released (λ n. jobs_of_each s n is))
 
 pub plans_next : ScenarioPlansNext
 plans_next = λ s history tx kept is ok j le.
-    next_given (workload_of s) (own_of s) history tx kept s.room ok (plannable s is) j
-    (omega (arith, le, run_fits (workload_of s) (own_of s) history ok j.run, scenario_room s is))
+    next_given (workload_of s) (eager_jobs_of s) history tx kept s.room ok (plannable s is) j
+    (omega (arith, le, run_fits (workload_of s) (eager_jobs_of s) history ok j.run, scenario_room s is))

@@ -106,29 +106,29 @@ all_fixed w before (e ∷ rest) legal each =
     )
 
 -- with no jobs of its own no transaction has a later plan
-no_later : (w : Workload) (own : ℕ → ℕ) (more : List Entry) (e : Entry) → ((tx : ℕ) → own tx ≡ 0) → IsLater w own more e → IsNoPlan e
-no_later w own more (Planned tx tick) none h = absurd (let left = h.left in omega (arith, left, none tx.0))
-no_later w own more other none h = tt
+no_later : (w : Workload) (eager_jobs : ℕ → ℕ) (more : List Entry) (e : Entry) → ((tx : ℕ) → eager_jobs tx ≡ 0) → IsLater w eager_jobs more e → IsNoPlan e
+no_later w eager_jobs more (Planned tx tick) none h = absurd (let left = h.left in omega (arith, left, none tx.0))
+no_later w eager_jobs more other none h = tt
 
-rest_fixed : (w : Workload) (own : ℕ → ℕ) (history : List Entry) → ((tx : ℕ) → own tx ≡ 0) → (r : IsRunSoFar w own history) → IsFixed w (plans w) r.rest
-rest_fixed w own history none r =
+rest_fixed : (w : Workload) (eager_jobs : ℕ → ℕ) (history : List Entry) → ((tx : ℕ) → eager_jobs tx ≡ 0) → (r : IsRunSoFar w eager_jobs history) → IsFixed w (plans w) r.rest
+rest_fixed w eager_jobs history none r =
     let legal = legal_split w.set (opening w.set) (plans w) r.rest (subst (IsLegal w.set) r.begins r.legal) in
     all_fixed w (plans w) r.rest legal.1 (λ more after e is.
     let at : history ≡ (plans w ++ more) ++ e ∷ after = r.begins ∙ (ap (λ (l : List Entry). plans w ++ l) is ∙ sym (append_assoc (plans w) more (e ∷ after))) in
-    (r.script_run (plans w ++ more) after e at, no_later w own more e none (r.later more after e is)))
+    (r.script_run (plans w ++ more) after e at, no_later w eager_jobs more e none (r.later more after e is)))
 
 pub fixed_under_way : FixedIsUnderWay
-fixed_under_way = λ w own history none r.
-    record { script_run = r.script_run; rest = r.rest; begins = r.begins; fixed = rest_fixed w own history none r }
+fixed_under_way = λ w eager_jobs history none r.
+    record { script_run = r.script_run; rest = r.rest; begins = r.begins; fixed = rest_fixed w eager_jobs history none r }
 
 pub fixed_sim : FixedIsSim
-fixed_sim = λ w own history none r.
+fixed_sim = λ w eager_jobs history none r.
     record {
       legal = r.so_far.legal;
       script_run = r.so_far.script_run;
       rest = r.so_far.rest;
       begins = r.so_far.begins;
-      fixed = rest_fixed w own history none r.so_far;
+      fixed = rest_fixed w eager_jobs history none r.so_far;
       none_pending = r.none_pending;
       none_planned = r.none_planned;
     }
@@ -152,12 +152,12 @@ no_plan_at : (w : Workload) (before more after : List Entry) (e : Entry) → IsF
 no_plan_at w before [] after e f = fixed_no_plan w before e f.0
 no_plan_at w before (x ∷ more) after e f = no_plan_at w (before ++ x ∷ []) more after e f.1
 
-no_plan_later : (w : Workload) (own : ℕ → ℕ) (more : List Entry) (e : Entry) → IsNoPlan e → IsLater w own more e
-no_plan_later w own more (Planned tx tick) no_plan = absurd no_plan
-no_plan_later w own more other no_plan = tt
+no_plan_later : (w : Workload) (eager_jobs : ℕ → ℕ) (more : List Entry) (e : Entry) → IsNoPlan e → IsLater w eager_jobs more e
+no_plan_later w eager_jobs more (Planned tx tick) no_plan = absurd no_plan
+no_plan_later w eager_jobs more other no_plan = tt
 
 pub sim_is_run : SimIsRun
-sim_is_run = λ w own history none s.
+sim_is_run = λ w eager_jobs history none s.
     record {
       so_far =
           record {
@@ -165,7 +165,7 @@ sim_is_run = λ w own history none s.
             script_run = s.script_run;
             rest = s.rest;
             begins = s.begins;
-            later = λ more after e is. no_plan_later w own more e (no_plan_at w (plans w) more after e (subst (IsFixed w (plans w)) is s.fixed));
+            later = λ more after e is. no_plan_later w eager_jobs more e (no_plan_at w (plans w) more after e (subst (IsFixed w (plans w)) is s.fixed));
           };
       jobs = λ tx lt. omega (arith, ap (λ (l : List Entry). plan_count l tx) s.begins, count_append (plans w) s.rest tx, count_plans w tx, count_fixed w (plans w) s.rest tx s.fixed, none tx);
       none_pending = s.none_pending;

@@ -13,7 +13,7 @@ use Rattle.step_journal.specs.declared.entry.Entry.TheVariants.{Planned}
 use Rattle.step_journal.specs.Step.{plans_of, earliest, next_job}
 use Rattle.step_journal.specs.History.{IsLegal, state_of}
 use Rattle.board.specs.Answers.{most_planned, unless_refused, at_tick, next_tick_for}
-use Rattle.board.specs.Stories.{plan_next_answer}
+use Rattle.board.specs.Histories.{plan_next_answer}
 use Rattle.law_histories.specs.Counting.{plan_count, greatest_period}
 use Rattle.law_histories.proofs.Sums.{sum_below, sum_le, sum_member}
 use Rattle.law_histories.proofs.Rooms.{count_more}
@@ -21,7 +21,7 @@ use Rattle.law_histories.proofs.CountingAll.{time_bounded}
 use Rattle.law_histories.specs.Sim.{Workload, plans}
 use Rattle.txn_threads.specs.Rounds.{IsCause}
 use Rattle.law_runs.proofs.Counts.{count_append, count_plans}
-use Rattle.law_runs.specs.Plannable.{own_jobs, ArePlannable}
+use Rattle.law_runs.specs.Plannable.{total_eager_jobs, ArePlannable}
 use Rattle.law_runs.specs.EagerLaws.{HasJobsLeft, NextIsPlanned, NextIsGiven}
 use Rattle.law_runs.proofs.Near.{IsNear, plan_more, next_near, run_near}
 use Rattle.law_runs.proofs.Plans.{own_sum, count_few}
@@ -32,23 +32,23 @@ pub record IsOpen (set : Set) (es : List Entry) (tx : ℕ) : Type 0 where
   pub calendar : length (state_of set es).planned < 65536
   pub serials : (plans_of (state_of set es) tx).number < 2 ^ 32 - 1
 
-next_open : (w : Workload) (own : ℕ → ℕ) (history : List Entry) (tx : ℕ) → IsCompiled w.set → ArePlannable w own → HasJobsLeft w own history tx → IsOpen w.set history tx
-next_open w own history tx ok few j =
+next_open : (w : Workload) (eager_jobs : ℕ → ℕ) (history : List Entry) (tx : ℕ) → IsCompiled w.set → ArePlannable w eager_jobs → HasJobsLeft w eager_jobs history tx → IsOpen w.set history tx
+next_open w eager_jobs history tx ok few j =
     let r = j.run in
     let rest : List Entry = r.rest in
     let lt : tx < length w.set.txns = j.in_set in
     let left = j.left in
-    let h : IsNear w own rest = run_near w own history ok r in
+    let h : IsNear w eager_jobs rest = run_near w eager_jobs history ok r in
     let legal : IsLegal w.set (plans w ++ rest) = subst (IsLegal w.set) r.begins r.legal in
     let timed = time_bounded w.set (plans w ++ rest) ok legal in
     let counted : plan_count history tx ≡ plan_count (plans w) tx + plan_count rest tx = ap (λ (l : List Entry). plan_count l tx) r.begins ∙ count_append (plans w) rest tx in
-    let mine : plan_count rest tx < own tx = omega (arith, left, counted, count_plans w tx) in
+    let mine : plan_count rest tx < eager_jobs tx = omega (arith, left, counted, count_plans w tx) in
     let e : Entry = Planned (record { 0 = tx }) 0 in
-    let more = plan_more w own rest (record { 0 = tx }) 0 h lt mine (omega arith) in
-    let below : sum_below (plan_count (rest ++ e ∷ [])) (length w.set.txns) ≤ sum_below own (length w.set.txns) =
-    sum_le (plan_count (rest ++ e ∷ [])) own (length w.set.txns) (λ n in_set. omega (arith, count_more rest e n, more.jobs n)) in
-    let all : sum_below (plan_count rest) (length w.set.txns) + 1 ≤ own_jobs w.set own = omega (arith, more.count, below, own_sum own (length w.set.txns)) in
-    let times : sum_below (plan_count rest) (length w.set.txns) * greatest_period w.set + greatest_period w.set ≤ own_jobs w.set own * greatest_period w.set =
+    let more = plan_more w eager_jobs rest (record { 0 = tx }) 0 h lt mine (omega arith) in
+    let below : sum_below (plan_count (rest ++ e ∷ [])) (length w.set.txns) ≤ sum_below eager_jobs (length w.set.txns) =
+    sum_le (plan_count (rest ++ e ∷ [])) eager_jobs (length w.set.txns) (λ n in_set. omega (arith, count_more rest e n, more.jobs n)) in
+    let all : sum_below (plan_count rest) (length w.set.txns) + 1 ≤ total_eager_jobs w.set eager_jobs = omega (arith, more.count, below, own_sum eager_jobs (length w.set.txns)) in
+    let times : sum_below (plan_count rest) (length w.set.txns) * greatest_period w.set + greatest_period w.set ≤ total_eager_jobs w.set eager_jobs * greatest_period w.set =
     omega (arith, add-mul (sum_below (plan_count rest) (length w.set.txns)) 1 (greatest_period w.set), one-mul (greatest_period w.set), mul-le-mul_right (greatest_period w.set) all) in
     let member = sum_member (plan_count rest) tx (length w.set.txns) lt in
     let open_there : IsOpen w.set (plans w ++ rest) tx = record {
@@ -92,11 +92,11 @@ no_cause_at job tick room e true h cause = let is : e ≡ Full room = cc in subs
 no_cause_at job tick room e false h cause = absurd cc
 
 pub next_planned : NextIsPlanned
-next_planned = λ w own history tx kept room e ok few j answer cause.
+next_planned = λ w eager_jobs history tx kept room e ok few j answer cause.
     no_cause_at (next_job (state_of w.set history) tx) (next_tick_for w.set (state_of w.set history) tx) room e (nat_le room kept)
-    (answer ∙ open_answer w.set history tx kept room (next_open w own history tx ok few j)) cause
+    (answer ∙ open_answer w.set history tx kept room (next_open w eager_jobs history tx ok few j)) cause
 
 pub next_given : NextIsGiven
-next_given = λ w own history tx kept room ok few j lt.
-    open_answer w.set history tx kept room (next_open w own history tx ok few j)
+next_given = λ w eager_jobs history tx kept room ok few j lt.
+    open_answer w.set history tx kept room (next_open w eager_jobs history tx ok few j)
     ∙ ap (λ (b : Bool). at_tick (next_tick_for w.set (state_of w.set history) tx) (cond b (Err (Full room)) (Ok (next_job (state_of w.set history) tx)))) (lt-leb room kept (omega (arith, lt)))

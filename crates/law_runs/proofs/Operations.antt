@@ -75,12 +75,12 @@ step_given : (w : Workload) (done rest : List Entry) (job : JobId) (o : Op) (b :
     → (b ≡ true → IsGiven (w.bodies job.tx.0) job.serial (length (ops_of done job)) o)
     → ((n : ℕ) → slice_get (ops_of rest job) n ≡ Some op → IsGiven (w.bodies job.tx.0) job.serial ((length (ops_of done job) + cond b 1 0) + n) op)
     → IsGiven (w.bodies job.tx.0) job.serial (length (ops_of done job) + i) op
-step_given w done rest job o true zero op at own later =
+step_given w done rest job o true zero op at eager_jobs later =
     let same : o ≡ op = cc in
-    let g = own refl in
+    let g = eager_jobs refl in
     record { told = g.told; many = g.many ∙ omega arith; is = sym same ∙ g.is }
-step_given w done rest job o true (suc n) op at own later = let g = later n at in record { told = g.told; many = g.many ∙ omega arith; is = g.is }
-step_given w done rest job o false i op at own later = let g = later i at in record { told = g.told; many = g.many ∙ omega arith; is = g.is }
+step_given w done rest job o true (suc n) op at eager_jobs later = let g = later n at in record { told = g.told; many = g.many ∙ omega arith; is = g.is }
+step_given w done rest job o false i op at eager_jobs later = let g = later i at in record { told = g.told; many = g.many ∙ omega arith; is = g.is }
 
 one_more : (done : List Entry) (e : Entry) (job : JobId) (o : Op) (b : Bool) → op_in job e ≡ cond b (Some o) None → length (ops_of (done ++ e ∷ []) job) ≡ length (ops_of done job) + cond b 1 0
 one_more done e job o true is = ap (λ (l : List Op). length l) (ops_more done e job (Some o) is) ∙ length-append (ops_of done job) (o ∷ [])

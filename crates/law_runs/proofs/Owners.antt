@@ -81,14 +81,14 @@ foreign gives set seen tx other eager jobs n (Idle from to) ne m = record { outc
 
 -- what is known of the seats of a closed plant that ran a workload
 
-pub record Lies (w : Workload) (own : ℕ → ℕ) (seats : List SeatFacts) (story : List Entry) : Type 0 where
+pub record Lies (w : Workload) (eager_jobs : ℕ → ℕ) (seats : List SeatFacts) (history : List Entry) : Type 0 where
   pub compiled : IsCompiled w.set
-  pub legal : IsLegal w.set story
-  pub each : (k : ℕ) (s : SeatFacts) → get_elem? seats k ≡ some s → IsSeatRun w own s × Begins s.seen story × Stand s.mine story
-  pub placed : (n : ℕ) → total (times_of n) seats + below n (length (plans w)) ≡ below n (length story)
-  pub begins : Begins (plans w) story
+  pub legal : IsLegal w.set history
+  pub each : (k : ℕ) (s : SeatFacts) → get_elem? seats k ≡ some s → IsSeatRun w eager_jobs s × Begins s.seen history × Stand s.mine history
+  pub placed : (n : ℕ) → total (times_of n) seats + below n (length (plans w)) ≡ below n (length history)
+  pub begins : Begins (plans w) history
   pub apart : AreSeats w.set seats
-  pub eager : (tx : ℕ) → 0 < own tx → ticks_of w.releases tx ≡ []
+  pub eager : (tx : ℕ) → 0 < eager_jobs tx → ticks_of w.releases tx ≡ []
 
 -- the seat that made the entry at a place
 pub record Owner (seats : List SeatFacts) (n : ℕ) : Type 0 where
@@ -99,14 +99,14 @@ pub record Owner (seats : List SeatFacts) (n : ℕ) : Type 0 where
   pub is : seat.tx ≡ Some tx
   pub has : 0 < times n seat.mine
 
-module _ (w : Workload) (own : ℕ → ℕ) (seats : List SeatFacts) (story : List Entry) (f : Lies w own seats story) where
+module _ (w : Workload) (eager_jobs : ℕ → ℕ) (seats : List SeatFacts) (history : List Entry) (f : Lies w eager_jobs seats history) where
   owner_by : (n k : ℕ) (s : SeatFacts) (o : Option TxId) → s.tx ≡ o → get_elem? seats k ≡ some s → 0 < times n s.mine → Owner seats n
   owner_by n k s (Some tx) is at has = record { place = k; seat = s; at = at; tx = tx; is = is; has = has }
   owner_by n k s None is at has = absurd (let none = ap (times n) ((f.each k s at).0.operator is) in omega (arith, has, none))
 
-  pub owner_of : (n : ℕ) → length (plans w) ≤ n → n < length story → Owner seats n
+  pub owner_of : (n : ℕ) → length (plans w) ≤ n → n < length history → Owner seats n
   owner_of n from to =
-      let t = total_some (times_of n) seats (omega (arith, f.placed n, below_out n (length (plans w)) from, below_in n (length story) to)) in
+      let t = total_some (times_of n) seats (omega (arith, f.placed n, below_out n (length (plans w)) from, below_in n (length history) to)) in
       owner_by n t.0 t.1 t.1.tx refl t.2 t.3
 
   -- a seat without an entry at the place is another transaction's than the seat that has it
@@ -118,35 +118,35 @@ module _ (w : Workload) (own : ℕ → ℕ) (seats : List SeatFacts) (story : Li
       let zero_here : times n o.seat.mine ≡ 0 = subst (λ (t : SeatFacts). times n t.mine ≡ 0) seat none in
       omega (arith, o.has, zero_here)
 
-  foreign_by : (n : ℕ) (e : Entry) (tx : TxId) (o : Owner seats n) → get_elem? story n ≡ some e → (tx ≡ o.tx → ⊥) → IsForeign tx e
+  foreign_by : (n : ℕ) (e : Entry) (tx : TxId) (o : Owner seats n) → get_elem? history n ≡ some e → (tx ≡ o.tx → ⊥) → IsForeign tx e
   foreign_by n e tx o here apart =
       let run = (f.each o.place o.seat o.at).0 in
       let plan = run.planned o.tx o.is in
       let m : MadeIn (w.bodies o.tx.0) w.set o.seat.seen o.tx plan.eager plan.jobs n o.seat.mine =
       made_in (w.bodies o.tx.0) w.set o.seat.seen o.tx plan.eager plan.jobs n [] 0 o.seat.mine (run.asked o.tx o.is) plan.plans o.has in
-      let stands : get_elem? story n ≡ some m.entry = (f.each o.place o.seat o.at).2 m.place (n, m.entry) m.at in
+      let stands : get_elem? history n ≡ some m.entry = (f.each o.place o.seat o.at).2 m.place (n, m.entry) m.at in
       let same : m.entry ≡ e = some-injective m.entry e (sym stands ∙ here) in
       subst (IsForeign tx) same (foreign (w.bodies o.tx.0) w.set o.seat.seen tx o.tx plan.eager plan.jobs n m.entry apart m.made)
 
   -- the entry at a place that no entry of this seat has is foreign to its transaction
   pub foreign_at : (k : ℕ) (s : SeatFacts) (tx : TxId) (before after : List Entry) (e : Entry) → get_elem? seats k ≡ some s → s.tx ≡ Some tx
-      → story ≡ before ++ e ∷ after → length (plans w) ≤ length before → times (length before) s.mine ≡ 0 → IsForeign tx e
+      → history ≡ before ++ e ∷ after → length (plans w) ≤ length before → times (length before) s.mine ≡ 0 → IsForeign tx e
   foreign_at k s tx before after e at is parts from none =
-      let here : get_elem? story (length before) ≡ some e = ap (λ (l : List Entry). get_elem? l (length before)) parts ∙ at_middle before e after in
+      let here : get_elem? history (length before) ≡ some e = ap (λ (l : List Entry). get_elem? l (length before)) parts ∙ at_middle before e after in
       let o : Owner seats (length before) = owner_of (length before) from (omega (arith, ap (λ (l : List Entry). length l) parts, length-append before (e ∷ after))) in
       foreign_by (length before) e tx o here (owners_apart (length before) k s tx o at is none)
 
 -- a closed plant whose seats ran a workload
-pub lies : {B : Type 0} (stands : B → List Entry → Type 0) (set : B → Set) (room first : B → ℕ) (kept : B → List Entry) (w : Workload) (own : ℕ → ℕ) (p : PlantFacts) (b : B) (seats : List SeatFacts)
-    → (c : Closed stands set room first kept p b seats) → HaveRun w own p seats → Lies w own seats c.story
-lies stands set room first kept w own p b seats c h =
+pub lies : {B : Type 0} (stands : B → List Entry → Type 0) (set : B → Set) (room first : B → ℕ) (kept : B → List Entry) (w : Workload) (eager_jobs : ℕ → ℕ) (p : PlantFacts) (b : B) (seats : List SeatFacts)
+    → (c : Closed stands set room first kept p b seats) → HaveRun w eager_jobs p seats → Lies w eager_jobs seats c.history
+lies stands set room first kept w eager_jobs p b seats c h =
     let operator = total_some operators_in seats (omega (arith, c.operator)) in
     record {
       compiled = subst IsCompiled h.set_is c.legal.compiled;
-      legal = subst (λ (q : Set). IsLegal q c.story) h.set_is c.legal.legal;
+      legal = subst (λ (q : Set). IsLegal q c.history) h.set_is c.legal.legal;
       each = λ k s at. let e = c.each k s at in (h.each k s at, e.0, e.1);
       placed = λ n. ap (λ (m : ℕ). total (times_of n) seats + below n m) (sym h.start_is) ∙ c.placed n;
-      begins = chained (plans w) operator.1.seen c.story (h.each operator.0 operator.1 operator.2).began (c.each operator.0 operator.1 operator.2).0;
+      begins = chained (plans w) operator.1.seen c.history (h.each operator.0 operator.1 operator.2).began (c.each operator.0 operator.1 operator.2).0;
       apart = h.own_seats;
       eager = h.eager;
     }

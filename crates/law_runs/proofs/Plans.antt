@@ -9,12 +9,12 @@ use Rattle.law_histories.specs.Counting.{plans_in, plan_count}
 use Rattle.law_histories.proofs.Sums.{sum_below, sum_of}
 
 -- all own jobs as a sum over the numbers of the transactions
-pub own_sum : (own : ℕ → ℕ) (n : ℕ) → sum (map own (range_with_len 0 n)) ≡ sum_below own n
-own_sum own zero = refl
-own_sum own (suc n) =
+pub own_sum : (eager_jobs : ℕ → ℕ) (n : ℕ) → sum (map eager_jobs (range_with_len 0 n)) ≡ sum_below eager_jobs n
+own_sum eager_jobs zero = refl
+own_sum eager_jobs (suc n) =
     let more : suc n ≡ n + 1 = omega arith in
-    let step : sum (map own (range_with_len 0 (n + 1))) ≡ sum (map own (range_with_len 0 n)) + own n = sum_by-map-range_with_len_more (λ (k : ℕ). k) own 0 n n (omega arith) in
-    ap (λ (k : ℕ). sum (map own (range_with_len 0 k))) more ∙ (step ∙ ap (λ (k : ℕ). k + own n) (own_sum own n))
+    let step : sum (map eager_jobs (range_with_len 0 (n + 1))) ≡ sum (map eager_jobs (range_with_len 0 n)) + eager_jobs n = sum_by-map-range_with_len_more (λ (k : ℕ). k) eager_jobs 0 n n (omega arith) in
+    ap (λ (k : ℕ). sum (map eager_jobs (range_with_len 0 k))) more ∙ (step ∙ ap (λ (k : ℕ). k + eager_jobs n) (own_sum eager_jobs n))
 
 -- the sum over the places of a list is that of its elements
 pub listed_sum : {A : Type 0} (f : A → ℕ) (xs : List A) → sum_of f xs ≡ sum_by f xs

@@ -27,7 +27,7 @@ use Rattle.sim_run.specs.Workloads.{ObeysAt}
 use Rattle.sim_run.proofs.Histories.{legal_split}
 use Rattle.law_runs.specs.Laws.{NoRefusal}
 use Rattle.law_runs.proofs.Owners.{lies}
-use Rattle.law_runs.proofs.SoFar.{story_so_far, seat_told}
+use Rattle.law_runs.proofs.SoFar.{history_so_far, seat_told}
 
 abbrev IsFine : StepReply → Type 0
 IsFine r = IsRefusal r → ⊥
@@ -93,8 +93,8 @@ step_fine set s held places job op may =
     (running_fine set s held places job op (running set s.rows) may) (λ h. h)
 
 -- a history's beginning is a script run too
-pub run_front : (w : Workload) (seen rest story : List Entry) → story ≡ seen ++ rest → IsScriptRun w story → IsScriptRun w seen
-run_front w seen rest story is run = λ before after e parts.
+pub run_front : (w : Workload) (seen rest history : List Entry) → history ≡ seen ++ rest → IsScriptRun w history → IsScriptRun w seen
+run_front w seen rest history is run = λ before after e parts.
     run before (after ++ rest) e (is ∙ (ap (λ (l : List Entry). l ++ rest) parts ∙ append_assoc before (e ∷ after) rest))
 
 asks_same : (w : Workload) (seen : List Entry) (row : Row) (job : JobId) (op : Op) → ObeysAt w seen → running w.set (state_of w.set seen).rows ≡ Some row → row.job ≡ job → op ≡ op_asked w seen job
@@ -102,13 +102,13 @@ asks_same : (w : Workload) (seen : List Entry) (row : Row) (job : JobId) (op : O
 asks_same w seen row job op obeys runs is asked = ap (may_ask w.set row) (asked ∙ ap (op_asked w seen) (sym is)) ∙ obeys row runs
 
 pub no_refusal : {B : Type 0} (stands : B → List Entry → Type 0) (set : B → Set) (room first : B → ℕ) (kept : B → List Entry) → NoRefusal stands set room first kept
-no_refusal stands set room first kept = λ w own p b seats c h obedient k s job r held places at is answer refusal.
-    let f = lies stands set room first kept w own p b seats c h in
+no_refusal stands set room first kept = λ w eager_jobs p b seats c h obedient k s job r held places at is answer refusal.
+    let f = lies stands set room first kept w eager_jobs p b seats c h in
     let front = (f.each k s at).1 in
     let legal : IsLegal w.set s.seen = (legal_split w.set (opening w.set) s.seen front.0 (subst (IsLegal w.set) front.1 f.legal)).0 in
-    let run : IsScriptRun w s.seen = run_front w s.seen front.0 c.story front.1 (story_so_far w own seats c.story f).script_run in
+    let run : IsScriptRun w s.seen = run_front w s.seen front.0 c.history front.1 (history_so_far w eager_jobs seats c.history f).script_run in
     let op : Op = op_asked w s.seen job in
-    let told = seat_told w own seats c.story f k s at job is in
+    let told = seat_told w eager_jobs seats c.history f k s at job is in
     let same : r ≡ step_reply w.set (state_of w.set s.seen) held places job op = answer ∙ ap (λ (l : List Outcome). step_reply w.set (state_of w.set s.seen) held places job (w.bodies job.tx.0 job.serial l)) (sym told) in
     step_fine w.set (state_of w.set s.seen) held places job op (λ row runs own_job. asks_same w s.seen row job op (obedient s.seen legal run) runs own_job refl)
     (subst IsRefusal same refusal)

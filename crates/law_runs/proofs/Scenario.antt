@@ -17,7 +17,7 @@ use Rattle.step_script.specs.declared.releases.Releases.TheVariants.{At, Jobs, E
 use Rattle.step_script.specs.Shown.{Shown, set_of}
 use Rattle.step_script.specs.Releases.{jobs_of, is_eager, eager_of, ticks_of, total_jobs, eager_jobs, fixed_ticks}
 use Rattle.step_script.specs.Scenarios.{IsScenario}
-use Rattle.law_runs.specs.Plannable.{own_jobs, own_of}
+use Rattle.law_runs.specs.Plannable.{total_eager_jobs, eager_jobs_of}
 use Rattle.law_runs.specs.EagerLaws.{ScenarioIsPlannable, EagerHaveNoReleases, AllJobsAre, NoneEager}
 use Rattle.law_runs.proofs.Plans.{own_sum}
 
@@ -45,10 +45,10 @@ eager_sum : (rs : List Releases) → sum_of eager_of rs ≡ eager_jobs rs
 eager_sum [] = refl
 eager_sum (r ∷ rs) = ap (λ (n : ℕ). eager_of r + n) (eager_sum rs)
 
-own_eager : (s : Shown) → IsScenario s → own_jobs (set_of s) (own_of s) ≡ eager_jobs s.releases
+own_eager : (s : Shown) → IsScenario s → total_eager_jobs (set_of s) (eager_jobs_of s) ≡ eager_jobs s.releases
 own_eager s is =
-    own_sum (own_of s) (length s.txns)
-    ∙ (ap (sum_below (own_of s)) (let same = is.released in omega (arith, same)) ∙ (sum_places eager_of s.releases (At []) ∙ eager_sum s.releases))
+    own_sum (eager_jobs_of s) (length s.txns)
+    ∙ (ap (sum_below (eager_jobs_of s)) (let same = is.released in omega (arith, same)) ∙ (sum_places eager_of s.releases (At []) ∙ eager_sum s.releases))
 
 -- the last release
 
@@ -70,7 +70,7 @@ plannable = λ s is.
     let own = own_eager s is in
     let jobs = is.few_jobs in
     let eager : greatest (map greatest (fixed_ticks s.txns s.releases)) + eager_jobs s.releases * greatest_period (set_of s) ≤ 2 ^ 40 = is.eager in
-    let times : own_jobs (set_of s) (own_of s) * greatest_period (set_of s) ≡ eager_jobs s.releases * greatest_period (set_of s) = ap (λ (k : ℕ). k * greatest_period (set_of s)) own in
+    let times : total_eager_jobs (set_of s) (eager_jobs_of s) * greatest_period (set_of s) ≡ eager_jobs s.releases * greatest_period (set_of s) = ap (λ (k : ℕ). k * greatest_period (set_of s)) own in
     record {
       few = omega (arith, all_jobs 0 s.txns s.releases is.released, own, jobs);
       near = omega (arith, top_plans 0 (fixed_ticks s.txns s.releases), times, eager);

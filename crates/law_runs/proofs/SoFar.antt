@@ -12,7 +12,7 @@ use Rattle.step_journal.specs.declared.entry.Entry.TheVariants.{Planned, Step, B
 use Rattle.step_journal.specs.History.{IsLegal, state_of}
 use Rattle.step_journal.specs.Serial.{outcomes_of}
 use Rattle.board.specs.Answers.{next_tick_for}
-use Rattle.board.specs.Stories.{ended_of}
+use Rattle.board.specs.Histories.{ended_of}
 use Rattle.law_histories.specs.Counting.{plan_count}
 use Rattle.law_histories.proofs.CountingAll.{entries_few}
 use Rattle.turn_cell.specs.Turn.{Begins, times}
@@ -50,37 +50,37 @@ asked_in w before tx past (Blocked job op by ceiling tick) told h = own_op w bef
 asked_in w before tx past other told h = tt
 
 -- the seat that made an entry, and its entries before it
-record Made (w : Workload) (own : ℕ → ℕ) (seats : List SeatFacts) (story before : List Entry) (e : Entry) : Type 0 where
+record Made (w : Workload) (eager_jobs : ℕ → ℕ) (seats : List SeatFacts) (history before : List Entry) (e : Entry) : Type 0 where
   place : ℕ
   seat : SeatFacts
   at : get_elem? seats place ≡ some seat
   tx : TxId
   is : seat.tx ≡ Some tx
-  reached : Reached w seat tx (length story) before
+  reached : Reached w seat tx (length history) before
   others : List (ℕ × Entry)
   parts : seat.mine ≡ reached.past ++ (length before, e) ∷ others
 
-module _ (w : Workload) (own : ℕ → ℕ) (seats : List SeatFacts) (story : List Entry) (f : Lies w own seats story) where
-  made_by : (before after : List Entry) (e : Entry) (o : Owner seats (length before)) → story ≡ before ++ e ∷ after → Reached w o.seat o.tx (length story) before
-      → Made w own seats story before e
+module _ (w : Workload) (eager_jobs : ℕ → ℕ) (seats : List SeatFacts) (history : List Entry) (f : Lies w eager_jobs seats history) where
+  made_by : (before after : List Entry) (e : Entry) (o : Owner seats (length before)) → history ≡ before ++ e ∷ after → Reached w o.seat o.tx (length history) before
+      → Made w eager_jobs seats history before e
   made_by before after e o parts r =
       let here : 0 < times (length before) r.left = omega (arith, o.has, ap (times (length before)) r.parts, times-append (length before) r.past r.left, r.low (length before) (omega arith)) in
-      let i = own_first w own seats story f o.place o.seat o.tx o.at o.is before after e parts r here in
+      let i = own_first w eager_jobs seats history f o.place o.seat o.tx o.at o.is before after e parts r here in
       record { place = o.place; seat = o.seat; at = o.at; tx = o.tx; is = o.is; reached = r; others = i.0; parts = r.parts ∙ ap (λ (l : List (ℕ × Entry)). r.past ++ l) i.1 }
 
-  made : (more after : List Entry) (e : Entry) → story ≡ plans w ++ more ++ e ∷ after → Made w own seats story (plans w ++ more) e
+  made : (more after : List Entry) (e : Entry) → history ≡ plans w ++ more ++ e ∷ after → Made w eager_jobs seats history (plans w ++ more) e
   made more after e parts =
       let before : List Entry = plans w ++ more in
-      let o : Owner seats (length before) = owner_of w own seats story f (length before) (omega (arith, length-append (plans w) more)) (omega (arith, ap (λ (l : List Entry). length l) parts, length-append before (e ∷ after))) in
-      made_by before after e o parts (walk w own seats story f o.place o.seat o.tx o.at o.is more (e ∷ after) parts)
+      let o : Owner seats (length before) = owner_of w eager_jobs seats history f (length before) (omega (arith, length-append (plans w) more)) (omega (arith, ap (λ (l : List Entry). length l) parts, length-append before (e ∷ after))) in
+      made_by before after e o parts (walk w eager_jobs seats history f o.place o.seat o.tx o.at o.is more (e ∷ after) parts)
 
-  made_asked : (before : List Entry) (e : Entry) → Made w own seats story before e → IsAskedIn w before e
+  made_asked : (before : List Entry) (e : Entry) → Made w eager_jobs seats history before e → IsAskedIn w before e
   made_asked before e m =
       let asked : AreAsked (w.bodies m.tx.0) m.tx [] (m.reached.past ++ (length before, e) ∷ m.others) = subst (AreAsked (w.bodies m.tx.0) m.tx []) m.parts ((f.each m.place m.seat m.at).0.asked m.tx m.is) in
       asked_in w before m.tx m.reached.past e m.reached.told (asked_at (w.bodies m.tx.0) m.tx [] m.reached.past (length before, e) m.others asked)
 
-  story_run : IsScriptRun w story
-  story_run = λ before after e parts. elim (cases_lt (length before) (length (plans w))) [
+  history_run : IsScriptRun w history
+  history_run = λ before after e parts. elim (cases_lt (length before) (length (plans w))) [
     | inl lt ↦ (let p = part_before (plans w) f.begins.0 before e after (sym f.begins.1 ∙ parts) lt in (begins w).script_run before p.0 e p.1)
     | inr ge ↦ (let p = part_after (plans w) f.begins.0 before (e ∷ after) (sym f.begins.1 ∙ parts) ge in
         subst (λ (l : List Entry). IsAskedIn w l e) (sym p.1) (made_asked (plans w ++ p.0) e (made p.0 after e (parts ∙ ap (λ (l : List Entry). l ++ e ∷ after) p.1))))
@@ -92,23 +92,23 @@ module _ (w : Workload) (own : ℕ → ℕ) (seats : List SeatFacts) (story : Li
   none_more [] h = refl
   none_more (x ∷ xs) h = absurd (omega arith)
 
-  same_front : (old seen before tail : List Entry) → Begins old seen → Begins seen story → story ≡ before ++ tail → length old ≡ length before → old ≡ before
+  same_front : (old seen before tail : List Entry) → Begins old seen → Begins seen history → history ≡ before ++ tail → length old ≡ length before → old ≡ before
   same_front old seen before tail a b parts same =
-      let all = chained old seen story a b in
+      let all = chained old seen history a b in
       let p = part_after old all.0 before tail (sym all.1 ∙ parts) (omega (arith, same)) in
       let none : p.0 ≡ [] = none_more p.0 (omega (arith, same, ap (λ (l : List Entry). length l) p.1, length-append old p.0)) in
       sym (p.1 ∙ (ap (λ (l : List Entry). old ++ l) none ∙ append-nil old))
 
-  own_jobs : (eager : Bool) (jobs n : ℕ) → n ≡ (if eager then jobs else 0) → eager ≡ true → n ≡ jobs
-  own_jobs eager jobs n is t = is ∙ ap (λ (b : Bool). if b then jobs else 0) t
+  total_eager_jobs : (eager : Bool) (jobs n : ℕ) → n ≡ (if eager then jobs else 0) → eager ≡ true → n ≡ jobs
+  total_eager_jobs eager jobs n is t = is ∙ ap (λ (b : Bool). if b then jobs else 0) t
 
-  next_later : (more after : List Entry) (e : Entry) (tx : TxId) (tick : ℕ) (seen : List Entry) (eager : Bool) (jobs planned : ℕ) → story ≡ plans w ++ more ++ e ∷ after → Begins seen story
-      → own tx.0 ≡ (if eager then jobs else 0) → plan_count (plans w ++ more) tx.0 ≡ plan_count (plans w) tx.0 + planned
-      → IsNextPlan w.set seen tx eager jobs planned (length (plans w ++ more)) tx tick → IsOwnPlan w own more tx tick
+  next_later : (more after : List Entry) (e : Entry) (tx : TxId) (tick : ℕ) (seen : List Entry) (eager : Bool) (jobs planned : ℕ) → history ≡ plans w ++ more ++ e ∷ after → Begins seen history
+      → eager_jobs tx.0 ≡ (if eager then jobs else 0) → plan_count (plans w ++ more) tx.0 ≡ plan_count (plans w) tx.0 + planned
+      → IsNextPlan w.set seen tx eager jobs planned (length (plans w ++ more)) tx tick → IsOwnPlan w eager_jobs more tx tick
   next_later more after e tx tick seen eager jobs planned parts seen_begins own_is count n =
       let before : List Entry = plans w ++ more in
-      let same : n.story ≡ before = same_front n.story seen before (e ∷ after) n.begins seen_begins parts n.place_is in
-      let jobs_are : own tx.0 ≡ jobs = own_jobs eager jobs (own tx.0) own_is n.is_eager in
+      let same : n.history ≡ before = same_front n.history seen before (e ∷ after) n.begins seen_begins parts n.place_is in
+      let jobs_are : eager_jobs tx.0 ≡ jobs = total_eager_jobs eager jobs (eager_jobs tx.0) own_is n.is_eager in
       let legal : IsLegal w.set before = (legal_parts w.set before e after (subst (IsLegal w.set) parts f.legal)).0 in
       let few : ended_of w.set before tx.0 ≤ plan_count before tx.0 = (entries_few w.set before f.compiled legal).ended tx.0 in
       let ended : planned ≤ ended_of w.set before tx.0 = subst (λ (l : List Entry). planned ≤ ended_of w.set l tx.0) same n.ended in
@@ -119,18 +119,18 @@ module _ (w : Workload) (own : ℕ → ℕ) (seats : List SeatFacts) (story : Li
         tick_is = n.tick_is ∙ ap (λ (l : List Entry). next_tick_for w.set (state_of w.set l) tx.0) same;
       }
 
-  planned_later : (more after : List Entry) (e : Entry) (tx : TxId) (seen : List Entry) (eager : Bool) (jobs planned : ℕ) → story ≡ plans w ++ more ++ e ∷ after → Begins seen story
-      → own tx.0 ≡ (if eager then jobs else 0) → plan_count (plans w ++ more) tx.0 ≡ plan_count (plans w) tx.0 + planned
-      → IsPlanned w.set seen tx eager jobs planned (length (plans w ++ more)) e → IsLater w own more e
+  planned_later : (more after : List Entry) (e : Entry) (tx : TxId) (seen : List Entry) (eager : Bool) (jobs planned : ℕ) → history ≡ plans w ++ more ++ e ∷ after → Begins seen history
+      → eager_jobs tx.0 ≡ (if eager then jobs else 0) → plan_count (plans w ++ more) tx.0 ≡ plan_count (plans w) tx.0 + planned
+      → IsPlanned w.set seen tx eager jobs planned (length (plans w ++ more)) e → IsLater w eager_jobs more e
   planned_later more after (Planned by tick) tx seen eager jobs planned parts seen_begins own_is count n =
-      subst (λ (t : TxId). IsOwnPlan w own more t tick) (sym n.own)
+      subst (λ (t : TxId). IsOwnPlan w eager_jobs more t tick) (sym n.own)
       (next_later more after (Planned by tick) tx tick seen eager jobs planned parts seen_begins own_is count
       (subst (λ (t : TxId). IsNextPlan w.set seen tx eager jobs planned (length (plans w ++ more)) t tick) n.own n))
   planned_later more after other tx seen eager jobs planned parts seen_begins own_is count n = tt
 
-  story_later : (more after : List Entry) (e : Entry) → f.begins.0 ≡ more ++ e ∷ after → IsLater w own more e
-  story_later more after e is =
-      let parts : story ≡ plans w ++ more ++ e ∷ after = f.begins.1 ∙ (ap (λ (l : List Entry). plans w ++ l) is ∙ sym (append_assoc (plans w) more (e ∷ after))) in
+  history_later : (more after : List Entry) (e : Entry) → f.begins.0 ≡ more ++ e ∷ after → IsLater w eager_jobs more e
+  history_later more after e is =
+      let parts : history ≡ plans w ++ more ++ e ∷ after = f.begins.1 ∙ (ap (λ (l : List Entry). plans w ++ l) is ∙ sym (append_assoc (plans w) more (e ∷ after))) in
       let m = made more after e parts in
       let run = (f.each m.place m.seat m.at).0 in
       let plan = run.planned m.tx m.is in
@@ -138,28 +138,28 @@ module _ (w : Workload) (own : ℕ → ℕ) (seats : List SeatFacts) (story : Li
       planned_later more after e m.tx m.seat.seen plan.eager plan.jobs (0 + own_plans m.reached.past) parts (f.each m.place m.seat m.at).1 plan.own_is (omega (arith, m.reached.planned))
       (planned_at w.set m.seat.seen m.tx plan.eager plan.jobs 0 m.reached.past (length (plans w ++ more), e) m.others plans_are)
 
-  pub story_so_far : IsRunSoFar w own story
-  story_so_far = record { legal = f.legal; script_run = story_run; rest = f.begins.0; begins = f.begins.1; later = story_later }
+  pub history_so_far : IsRunSoFar w eager_jobs history
+  history_so_far = record { legal = f.legal; script_run = history_run; rest = f.begins.0; begins = f.begins.1; later = history_later }
 
   -- what the seat's own entries told
 
-  none_left : (tx : TxId) (s : SeatFacts) (before : List Entry) (r : Reached w s tx (length story) before) (left : List (ℕ × Entry)) → r.left ≡ left → AreRising (length (plans w)) (length before) s.mine → r.left ≡ []
+  none_left : (tx : TxId) (s : SeatFacts) (before : List Entry) (r : Reached w s tx (length history) before) (left : List (ℕ × Entry)) → r.left ≡ left → AreRising (length (plans w)) (length before) s.mine → r.left ≡ []
   none_left tx s before r [] is rising = is
   none_left tx s before r (p ∷ ps) is rising =
-      let rises : AreRising (length before) (length story) (p ∷ ps) = subst (λ (l : List (ℕ × Entry)). AreRising (length before) (length story) l) is r.rises in
+      let rises : AreRising (length before) (length history) (p ∷ ps) = subst (λ (l : List (ℕ × Entry)). AreRising (length before) (length history) l) is r.rises in
       let parts : s.mine ≡ r.past ++ p ∷ ps = r.parts ∙ ap (λ (l : List (ℕ × Entry)). r.past ++ l) is in
       absurd (omega (arith, rise_high s.mine (length (plans w)) (length before) p.0 rising rises.0, ap (times p.0) parts, times-append p.0 r.past (p ∷ ps), bit_same p.0 p.0 refl))
 
   -- all that a seat has seen, with all of its own entries before its end
-  pub seat_reached : (k : ℕ) (s : SeatFacts) (tx : TxId) → get_elem? seats k ≡ some s → s.tx ≡ Some tx → (r : Reached w s tx (length story) s.seen) × (s.mine ≡ r.past)
+  pub seat_reached : (k : ℕ) (s : SeatFacts) (tx : TxId) → get_elem? seats k ≡ some s → s.tx ≡ Some tx → (r : Reached w s tx (length history) s.seen) × (s.mine ≡ r.past)
   seat_reached k s tx at is =
       let e = f.each k s at in
       let more : List Entry = e.0.began.0 in
       let seen : s.seen ≡ plans w ++ more = e.0.began.1 in
-      let r = walk w own seats story f k s tx at is more e.1.0 (e.1.1 ∙ ap (λ (l : List Entry). l ++ e.1.0) seen) in
+      let r = walk w eager_jobs seats history f k s tx at is more e.1.0 (e.1.1 ∙ ap (λ (l : List Entry). l ++ e.1.0) seen) in
       let none = none_left tx s (plans w ++ more) r r.left refl (subst (λ (l : List Entry). AreRising (length (plans w)) (length l) s.mine) seen e.0.rising) in
       let mine : s.mine ≡ r.past = r.parts ∙ (ap (λ (l : List (ℕ × Entry)). r.past ++ l) none ∙ append-nil r.past) in
-      subst (λ (l : List Entry). (q : Reached w s tx (length story) l) × (s.mine ≡ q.past)) (sym seen) (r, mine)
+      subst (λ (l : List Entry). (q : Reached w s tx (length history) l) × (s.mine ≡ q.past)) (sym seen) (r, mine)
 
   pub seat_told : (k : ℕ) (s : SeatFacts) → get_elem? seats k ≡ some s → IsTold s
   seat_told k s at = λ job is.
@@ -167,5 +167,5 @@ module _ (w : Workload) (own : ℕ → ℕ) (seats : List SeatFacts) (story : Li
       r.0.told job refl ∙ ap (λ (l : List (ℕ × Entry)). own_outcomes l job) (sym r.1)
 
 pub closed_so_far : {B : Type 0} (stands : B → List Entry → Type 0) (set : B → Set) (room first : B → ℕ) (kept : B → List Entry) → ClosedSoFar stands set room first kept
-closed_so_far stands set room first kept = λ w own p b seats c h.
-    let f = lies stands set room first kept w own p b seats c h in (story_so_far w own seats c.story f, seat_told w own seats c.story f)
+closed_so_far stands set room first kept = λ w eager_jobs p b seats c h.
+    let f = lies stands set room first kept w eager_jobs p b seats c h in (history_so_far w eager_jobs seats c.history f, seat_told w eager_jobs seats c.history f)

@@ -27,7 +27,7 @@ use Rattle.txn_threads.proofs.Scripting.{outcomes_snoc}
 use Rattle.txn_threads.proofs.Planning.{plans_append}
 use Rattle.txn_threads.specs.Rising.{AreRising}
 use Rattle.law_histories.specs.Sim.{Workload, plans}
-use Rattle.sim_run.specs.Turns.{job_of}
+use Rattle.sim_run.specs.Calls.{job_of}
 use Rattle.sim_run.proofs.Runs.{follows_first}
 use Rattle.law_runs.proofs.Places.{at_middle, bit_other, rise_up, rise_first, rise_next}
 use Rattle.law_runs.proofs.Owners.{IsForeign, Lies, foreign_at}
@@ -72,35 +72,35 @@ pub record Reached (w : Workload) (s : SeatFacts) (tx : TxId) (end : ℕ) (befor
   pub told : (job : JobId) → job.tx ≡ tx → outcomes_of before job ≡ own_outcomes past job
   pub planned : plan_count before tx.0 ≡ plan_count (plans w) tx.0 + own_plans past
 
-module _ (w : Workload) (own : ℕ → ℕ) (seats : List SeatFacts) (story : List Entry) (f : Lies w own seats story) (k : ℕ) (s : SeatFacts) (tx : TxId) (at : get_elem? seats k ≡ some s) (is : s.tx ≡ Some tx) where
+module _ (w : Workload) (eager_jobs : ℕ → ℕ) (seats : List SeatFacts) (history : List Entry) (f : Lies w eager_jobs seats history) (k : ℕ) (s : SeatFacts) (tx : TxId) (at : get_elem? seats k ≡ some s) (is : s.tx ≡ Some tx) where
   -- beyond an entry of another seat
-  past_foreign : (before : List Entry) (e : Entry) (r : Reached w s tx (length story) before) → IsForeign tx e → AreRising (length before + 1) (length story) r.left
-      → Reached w s tx (length story) (before ++ e ∷ [])
+  past_foreign : (before : List Entry) (e : Entry) (r : Reached w s tx (length history) before) → IsForeign tx e → AreRising (length before + 1) (length history) r.left
+      → Reached w s tx (length history) (before ++ e ∷ [])
   past_foreign before e r h rises = record {
     past = r.past;
     left = r.left;
     parts = r.parts;
-    rises = subst (λ (n : ℕ). AreRising n (length story) r.left) (sym (length-append before (e ∷ []))) rises;
+    rises = subst (λ (n : ℕ). AreRising n (length history) r.left) (sym (length-append before (e ∷ []))) rises;
     low = λ n le. r.low n (omega (arith, le, length-append before (e ∷ [])));
     told = λ job own_job. outcomes_more_in before e job None (h.outcome job own_job) ∙ (append-nil (outcomes_of before job) ∙ r.told job own_job);
     planned = omega (arith, count_more before e tx.0, h.plan, r.planned);
   }
 
   -- beyond an entry of its own
-  past_own : (before : List Entry) (e : Entry) (r : Reached w s tx (length story) before) (others : List (ℕ × Entry)) → r.left ≡ (length before, e) ∷ others
-      → Reached w s tx (length story) (before ++ e ∷ [])
+  past_own : (before : List Entry) (e : Entry) (r : Reached w s tx (length history) before) (others : List (ℕ × Entry)) → r.left ≡ (length before, e) ∷ others
+      → Reached w s tx (length history) (before ++ e ∷ [])
   past_own before e r others first =
       let p : ℕ × Entry = (length before, e) in
       let parts : s.mine ≡ r.past ++ p ∷ others = r.parts ∙ ap (λ (l : List (ℕ × Entry)). r.past ++ l) first in
       let plan = (f.each k s at).0.planned tx is in
       let counted : plans_in tx.0 e ≡ plan_number e = own_plan w.set s.seen tx plan.eager plan.jobs (0 + own_plans r.past) (length before) e
       (planned_at w.set s.seen tx plan.eager plan.jobs 0 r.past p others (subst (ArePlanned w.set s.seen tx plan.eager plan.jobs 0) parts plan.plans)) in
-      let rises : AreRising (length before) (length story) (p ∷ others) = subst (λ (l : List (ℕ × Entry)). AreRising (length before) (length story) l) first r.rises in
+      let rises : AreRising (length before) (length history) (p ∷ others) = subst (λ (l : List (ℕ × Entry)). AreRising (length before) (length history) l) first r.rises in
       record {
         past = r.past ++ p ∷ [];
         left = others;
         parts = parts ∙ sym (append_assoc r.past (p ∷ []) others);
-        rises = subst (λ (n : ℕ). AreRising n (length story) others) (sym (length-append before (e ∷ []))) rises.1;
+        rises = subst (λ (n : ℕ). AreRising n (length history) others) (sym (length-append before (e ∷ []))) rises.1;
         low = λ n le. omega (arith, times-append n r.past (p ∷ []), r.low n (omega (arith, le, length-append before (e ∷ []))), bit_other n (length before) (λ q. omega (arith, q, le, length-append before (e ∷ []))));
         told = λ job own_job.
             outcomes_more_in before e job (outcome_in job e) refl
@@ -110,33 +110,33 @@ module _ (w : Workload) (own : ℕ → ℕ) (seats : List SeatFacts) (story : Li
       }
 
   -- where the seat has the entry at a place, it is the first of those from the place on
-  pub own_first : (before after : List Entry) (e : Entry) → story ≡ before ++ e ∷ after → (r : Reached w s tx (length story) before) → 0 < times (length before) r.left
+  pub own_first : (before after : List Entry) (e : Entry) → history ≡ before ++ e ∷ after → (r : Reached w s tx (length history) before) → 0 < times (length before) r.left
       → (others : List (ℕ × Entry)) × (r.left ≡ (length before, e) ∷ others)
   own_first before after e parts r lt =
-      let i = rise_first r.left (length before) (length story) r.rises lt in
+      let i = rise_first r.left (length before) (length history) r.rises lt in
       let there = at_after r.past r.left 0 (length before, i.entry) (ap (λ (l : List (ℕ × Entry)). get_elem? l 0) i.is) in
       let mine : get_elem? s.mine there.0 ≡ some (length before, i.entry) = ap (λ (l : List (ℕ × Entry)). get_elem? l there.0) r.parts ∙ there.1 in
-      let stands : get_elem? story (length before) ≡ some i.entry = (f.each k s at).2 there.0 (length before, i.entry) mine in
+      let stands : get_elem? history (length before) ≡ some i.entry = (f.each k s at).2 there.0 (length before, i.entry) mine in
       let same : i.entry ≡ e = some-injective i.entry e (sym stands ∙ (ap (λ (l : List Entry). get_elem? l (length before)) parts ∙ at_middle before e after)) in
       (i.others, i.is ∙ ap (λ (x : Entry). (length before, x) ∷ i.others) same)
 
   -- one entry further
-  further : (before after : List Entry) (e : Entry) → story ≡ before ++ e ∷ after → length (plans w) ≤ length before → Reached w s tx (length story) before → Reached w s tx (length story) (before ++ e ∷ [])
+  further : (before after : List Entry) (e : Entry) → history ≡ before ++ e ∷ after → length (plans w) ≤ length before → Reached w s tx (length history) before → Reached w s tx (length history) (before ++ e ∷ [])
   further before after e parts from r = elim (cases_eq (times (length before) r.left) 0) [
     | inl none ↦ (let zero_here : times (length before) s.mine ≡ 0 = omega (arith, ap (times (length before)) r.parts, times-append (length before) r.past r.left, r.low (length before) (omega arith), none) in
-        past_foreign before e r (foreign_at w own seats story f k s tx before after e at is parts from zero_here) (rise_next r.left (length before) (length story) r.rises none (omega (arith, ap (λ (l : List Entry). length l) parts, length-append before (e ∷ after)))))
+        past_foreign before e r (foreign_at w eager_jobs seats history f k s tx before after e at is parts from zero_here) (rise_next r.left (length before) (length history) r.rises none (omega (arith, ap (λ (l : List Entry). length l) parts, length-append before (e ∷ after)))))
     | inr ne ↦ (let i = own_first before after e parts r (omega (arith, ne)) in past_own before e r i.0 i.1)
   ]
 
-  walk_from : (before more after : List Entry) → story ≡ before ++ more ++ after → length (plans w) ≤ length before → Reached w s tx (length story) before
-      → Reached w s tx (length story) (before ++ more)
-  walk_from before [] after parts from r = subst (Reached w s tx (length story)) (sym (append-nil before)) r
+  walk_from : (before more after : List Entry) → history ≡ before ++ more ++ after → length (plans w) ≤ length before → Reached w s tx (length history) before
+      → Reached w s tx (length history) (before ++ more)
+  walk_from before [] after parts from r = subst (Reached w s tx (length history)) (sym (append-nil before)) r
   walk_from before (e ∷ more) after parts from r =
       let next = further before (more ++ after) e (parts ∙ append_assoc before (e ∷ more) after) from r in
       let rest = walk_from (before ++ e ∷ []) more after (parts ∙ ap (λ (l : List Entry). l ++ after) (sym (append_assoc before (e ∷ []) more))) (omega (arith, from, length-append before (e ∷ []))) next in
-      subst (Reached w s tx (length story)) (append_assoc before (e ∷ []) more) rest
+      subst (Reached w s tx (length history)) (append_assoc before (e ∷ []) more) rest
 
-  first : Reached w s tx (length story) (plans w)
+  first : Reached w s tx (length history) (plans w)
   first =
       let run = (f.each k s at).0 in
       let seen = (f.each k s at).1 in
@@ -144,12 +144,12 @@ module _ (w : Workload) (own : ℕ → ℕ) (seats : List SeatFacts) (story : Li
         past = [];
         left = s.mine;
         parts = refl;
-        rises = rise_up s.mine (length (plans w)) (length s.seen) (length story) run.rising (omega (arith, ap (λ (l : List Entry). length l) seen.1, length-append s.seen seen.0));
+        rises = rise_up s.mine (length (plans w)) (length s.seen) (length history) run.rising (omega (arith, ap (λ (l : List Entry). length l) seen.1, length-append s.seen seen.0));
         low = λ n le. refl;
         told = λ job own_job. no_outcomes w job;
         planned = omega arith;
       }
 
   -- at any place from the plans on
-  pub walk : (more after : List Entry) → story ≡ plans w ++ more ++ after → Reached w s tx (length story) (plans w ++ more)
+  pub walk : (more after : List Entry) → history ≡ plans w ++ more ++ after → Reached w s tx (length history) (plans w ++ more)
   walk more after parts = walk_from (plans w) more after parts (omega arith) first

@@ -8,15 +8,15 @@ use Rattle.step_script.specs.Shown.{Shown}
 use Rattle.step_script.specs.Releases.{eager_of, releases_of}
 
 -- how many jobs the transactions of a set plan themselves
-abbrev pub own_jobs : Set → (ℕ → ℕ) → ℕ
-own_jobs set own = sum (map own (range_with_len 0 (length set.txns)))
+abbrev pub total_eager_jobs : Set → (ℕ → ℕ) → ℕ
+total_eager_jobs set eager_jobs = sum (map eager_jobs (range_with_len 0 (length set.txns)))
 
 -- All jobs are few. And those that are planned after the last of the releases are planned in time, even where each comes
 -- the greatest period of all transactions after the one before.
-pub record ArePlannable (w : Workload) (own : ℕ → ℕ) : Type 0 where
-  pub few : length (plans w) + own_jobs w.set own ≤ 65536
-  pub near : greatest_planned (plans w) + own_jobs w.set own * greatest_period w.set ≤ 2 ^ 40
+pub record ArePlannable (w : Workload) (eager_jobs : ℕ → ℕ) : Type 0 where
+  pub few : length (plans w) + total_eager_jobs w.set eager_jobs ≤ 65536
+  pub near : greatest_planned (plans w) + total_eager_jobs w.set eager_jobs * greatest_period w.set ≤ 2 ^ 40
 
 -- how many jobs a scenario's transaction plans itself
-abbrev pub own_of : Shown → ℕ → ℕ
-own_of s tx = eager_of (releases_of s.releases tx)
+abbrev pub eager_jobs_of : Shown → ℕ → ℕ
+eager_jobs_of s tx = eager_of (releases_of s.releases tx)

@@ -24,7 +24,7 @@ use Rattle.step_script.specs.declared.releases.Releases.{Releases}
 use Rattle.step_script.specs.declared.releases.Releases.TheVariants.{At}
 use Rattle.step_script.specs.Releases.{jobs_of, releases_of, total_jobs}
 use Rattle.law_runs.specs.Runs.{workload_of}
-use Rattle.law_runs.specs.Plannable.{own_of}
+use Rattle.law_runs.specs.Plannable.{eager_jobs_of}
 use Rattle.law_runs.proofs.Scenario.{jobs_of_each}
 
 -- ---- a list by a number of its elements
@@ -86,7 +86,7 @@ jobs_together : (rs : List Releases) → sum_of jobs_of rs ≡ total_jobs rs
 jobs_together [] = refl
 jobs_together (r ∷ rs) = ap (λ (n : ℕ). jobs_of r + n) (jobs_together rs)
 
-module _ (s : Shown) (history : List Entry) (is : IsScenario s) (ok : IsCompiled (set_of s)) (run : IsRunOf (workload_of s) (own_of s) history) where
+module _ (s : Shown) (history : List Entry) (is : IsScenario s) (ok : IsCompiled (set_of s)) (run : IsRunOf (workload_of s) (eager_jobs_of s) history) where
   planned_in : (n : ℕ) → n < length s.txns → plan_count history n ≡ jobs_of (releases_of s.releases n)
   planned_in n lt = run.jobs n lt ∙ jobs_of_each s n is
 

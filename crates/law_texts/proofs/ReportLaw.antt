@@ -16,7 +16,7 @@ use Rattle.board.proofs.Counts.{items_count}
 use Rattle.job_rows.specs.Rows.{job_rows}
 use Rattle.step_script.specs.Shown.{Shown, set_of}
 use Rattle.law_runs.specs.Runs.{workload_of}
-use Rattle.law_runs.specs.Plannable.{own_of}
+use Rattle.law_runs.specs.Plannable.{eager_jobs_of}
 use Rattle.law_runs.proofs.Fits.{run_fits, scenario_room}
 use Rattle.journal_text.proofs.IdLaws.{short_length}
 use Rattle.report_text.specs.Texts.{is_second, whole_entry_line, entries_text, job_line, jobs_text, finals_text}
@@ -98,7 +98,7 @@ module _ (s : Shown) (history : List Entry) (r : IsRunOfScenario s history) wher
   few_entries =
       omega (
         arith,
-        run_fits (workload_of s) (own_of s) history r.compiled r.run.so_far,
+        run_fits (workload_of s) (eager_jobs_of s) history r.compiled r.run.so_far,
         scenario_room s r.scenario,
         r.scenario.small_room,
       )

@@ -9,7 +9,7 @@ use Rattle.step_script.specs.Shown.{Shown, set_of}
 use Rattle.step_script.specs.Scenarios.{IsScenario}
 use Rattle.scenario_writer.specs.Integers.{HasIntegers}
 use Rattle.law_runs.specs.Runs.{workload_of}
-use Rattle.law_runs.specs.Plannable.{own_of}
+use Rattle.law_runs.specs.Plannable.{eager_jobs_of}
 use Rattle.report_text.specs.Texts.{whole_entry_line, job_line}
 use Rattle.run_report.specs.Report.{report_of}
 use Rattle.law_texts.specs.Lines.{IsShort}
@@ -19,7 +19,7 @@ pub record IsRunOfScenario (s : Shown) (history : List Entry) : Type 0 where
   pub scenario : IsScenario s
   pub integers : HasIntegers s
   pub compiled : IsCompiled (set_of s)
-  pub run : IsRunOf (workload_of s) (own_of s) history
+  pub run : IsRunOf (workload_of s) (eager_jobs_of s) history
 
 -- its entries and its jobs are few, and their lines are short
 pub record HasFewShortLines (s : Shown) (history : List Entry) : Type 0 where

@@ -1,4 +1,4 @@
 pub mod Refused
 pub mod Stood
-pub mod Turned
+pub mod Called
 pub mod Lawful

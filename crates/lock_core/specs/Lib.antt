@@ -1,4 +1,4 @@
 pub mod Seen
 pub mod Stands
-pub mod Turns
+pub mod Calls
 pub mod Promises

@@ -14,8 +14,8 @@ use Rattle.step_journal.specs.History.{state_of}
 use Rattle.step_journal.specs.Serial.{IsSerial}
 use Rattle.law_histories.specs.Protocol.{NeverStuck, IsFirstRefusal, HoldsNothing, IsAloneSoFar, DelayedByOne}
 use Rattle.board.specs.declared.replies.StepReply.{StepReply}
-use Rattle.board.specs.Stories.{step_entry, now_of, IsRefusal, IfBlocked}
-use Rattle.lock_core.specs.Turns.{IsTurnOf}
+use Rattle.board.specs.Histories.{step_entry, now_of, IsRefusal, IfBlocked}
+use Rattle.lock_core.specs.Calls.{IsCallOf}
 
 -- of two pending jobs none holds a lock on an item on which the other holds a write lock
 abbrev pub HasNoConflict : State → Type 0
@@ -29,26 +29,26 @@ EndedJobsHoldNothing s =
     (n : ℕ) (ended : EndedJob) → slice_get s.ended n ≡ Some ended → HoldsNothing s ended.job
 
 -- what the laws say of one history and of the state after it
-pub record IsLawful (set : Set) (story : List Entry) : Type 0 where
-  pub no_conflict : HasNoConflict (state_of set story)
-  pub ended_hold_nothing : EndedJobsHoldNothing (state_of set story)
-  pub never_stuck : NeverStuck set (state_of set story)
+pub record IsLawful (set : Set) (history : List Entry) : Type 0 where
+  pub no_conflict : HasNoConflict (state_of set history)
+  pub ended_hold_nothing : EndedJobsHoldNothing (state_of set history)
+  pub never_stuck : NeverStuck set (state_of set history)
   pub refused_once :
       (before after : List Entry) (job on : JobId) (op : Op) (ceiling tick : ℕ)
-      → story ≡ before ++ Blocked job op on ceiling tick ∷ after → IsFirstRefusal set before job
-  pub serial : IsSerial set story
+      → history ≡ before ++ Blocked job op on ceiling tick ∷ after → IsFirstRefusal set before job
+  pub serial : IsSerial set history
   pub pending_alone :
-      (job : JobId) (row : Row) → job_row (state_of set story).rows job ≡ Some row → IsAloneSoFar set story row
-  pub one_delay : (job : JobId) → DelayedByOne set story job
+      (job : JobId) (row : Row) → job_row (state_of set history).rows job ≡ Some row → IsAloneSoFar set history row
+  pub one_delay : (job : JobId) → DelayedByOne set history job
 
 -- What a step promises of a board, by what it stands for, its set and the entries that it keeps, before the call and after.
 pub record IsLawfulStep {B : Type 0} (stands_for : B → List Entry → Type 0) (set_of : B → Set) (kept_by : B → List Entry) (old new : B) (job : JobId) (op : Op) (reply : StepReply) : Type 0 where
-  pub turn :
-      (story : List Entry) → stands_for old story
-      → IsTurnOf stands_for set_of kept_by old new story (ask job op) (step_entry (now_of (set_of old) story) job op reply)
+  pub call :
+      (history : List Entry) → stands_for old history
+      → IsCallOf stands_for set_of kept_by old new history (ask job op) (step_entry (now_of (set_of old) history) job op reply)
   pub refused : IsRefusal reply → new ≡ old
-  pub blocked_once : (story : List Entry) → stands_for old story → IfBlocked reply (IsFirstRefusal (set_of old) story job)
-  pub no_conflict : (story : List Entry) → stands_for new story → HasNoConflict (state_of (set_of new) story)
-  pub ended_hold_nothing : (story : List Entry) → stands_for new story → EndedJobsHoldNothing (state_of (set_of new) story)
-  pub no_cycle : (story : List Entry) → stands_for new story → NeverStuck (set_of new) (state_of (set_of new) story)
-  pub serial : (story : List Entry) → stands_for new story → IsSerial (set_of new) story
+  pub blocked_once : (history : List Entry) → stands_for old history → IfBlocked reply (IsFirstRefusal (set_of old) history job)
+  pub no_conflict : (history : List Entry) → stands_for new history → HasNoConflict (state_of (set_of new) history)
+  pub ended_hold_nothing : (history : List Entry) → stands_for new history → EndedJobsHoldNothing (state_of (set_of new) history)
+  pub no_cycle : (history : List Entry) → stands_for new history → NeverStuck (set_of new) (state_of (set_of new) history)
+  pub serial : (history : List Entry) → stands_for new history → IsSerial (set_of new) history

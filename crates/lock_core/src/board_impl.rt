@@ -20,7 +20,7 @@ impl Board for Core {
 
     ghost kept = { λ c. c.journal.kept };
 
-    ghost is_story = { λ c story h. h.is_story };
+    ghost is_history = { λ c history h. h.is_history };
 
     fn plan(&mut self, tx: TxId, tick: Tick) -> Result<JobId, PlanRefused> {
         self.plan(tx, tick)

@@ -4,7 +4,7 @@ ghost use Rattle.step_journal.specs.declared.entry.Entry.{Entry as Noted};
 ghost use Rattle.step_journal.specs.State.{opening};
 ghost use Rattle.step_journal.specs.History.{state_of};
 ghost use Rattle.law_histories.specs.Protocol.{NeverStuck};
-ghost use Rattle.board.specs.Stories.{now_of, running_of, pending_of, ended_of, planned_of};
+ghost use Rattle.board.specs.Histories.{now_of, running_of, pending_of, ended_of, planned_of};
 ghost use Rattle.core_tables.specs.Tables.{AreTables};
 ghost use Rattle.lock_core.specs.Stands.{Stands};
 ghost use Rattle.lock_core.specs.Promises.{IsLawful};
@@ -80,7 +80,7 @@ impl Core {
     /// hold nothing, no jobs wait in a cycle, a job is refused at most once and then holds no lock, replies and items are
     /// those of the ended jobs run alone, and one lower job at most delays a job. A caller learns it by this call, which does nothing.
     pub fn is_lawful(&self)
-        ensures { (story : List Noted) → Stands self.now story → IsLawful self.now.set story }
+        ensures { (history : List Noted) → Stands self.now history → IsLawful self.now.set history }
     {
         let _set = &self.set;
     }
@@ -88,14 +88,14 @@ impl Core {
     /// An item's installed value and stamp. One look-up.
     pub fn peek(&self, item: ItemId) -> (Value, Tick)
         requires { item.0 < length self.now.set.items }
-        ensures { (story : List Noted) → Stands self.now story → slice_get (state_of self.now.set story).items item.0 ≡ Some (record { value = result.0; stamp = result.1 }) }
+        ensures { (history : List Noted) → Stands self.now history → slice_get (state_of self.now.set history).items item.0 ≡ Some (record { value = result.0; stamp = result.1 }) }
     {
         self.tables.item(item)
     }
 
     /// The present tick.
     pub fn now(&self) -> Tick
-        ensures { (story : List Noted) → Stands self.now story → result ≡ now_of self.now.set story }
+        ensures { (history : List Noted) → Stands self.now history → result ≡ now_of self.now.set history }
     {
         self.tables.now()
     }
@@ -103,8 +103,8 @@ impl Core {
     /// The running job; None exactly where nothing is pending. No jobs wait in a cycle, so that there is one where a job
     /// is pending.
     pub fn running(&self) -> Option<JobId>
-        ensures running { (story : List Noted) → Stands self.now story → result ≡ running_of self.now.set story }
-        ensures no_cycle { (story : List Noted) → Stands self.now story → NeverStuck self.now.set (state_of self.now.set story) }
+        ensures running { (history : List Noted) → Stands self.now history → result ≡ running_of self.now.set history }
+        ensures no_cycle { (history : List Noted) → Stands self.now history → NeverStuck self.now.set (state_of self.now.set history) }
     {
         self.tables.running()
     }
@@ -112,7 +112,7 @@ impl Core {
     /// The transaction's pending job. One look-up.
     pub fn pending(&self, tx: TxId) -> Option<JobId>
         requires { tx.0 < length self.now.set.txns }
-        ensures { (story : List Noted) → Stands self.now story → result ≡ pending_of self.now.set story tx.0 }
+        ensures { (history : List Noted) → Stands self.now history → result ≡ pending_of self.now.set history tx.0 }
     {
         self.tables.pending(tx)
     }
@@ -120,14 +120,14 @@ impl Core {
     /// How many jobs of the transaction have ended. One look-up.
     pub fn ended(&self, tx: TxId) -> u32
         requires { tx.0 < length self.now.set.txns }
-        ensures { (story : List Noted) → Stands self.now story → result ≡ ended_of self.now.set story tx.0 }
+        ensures { (history : List Noted) → Stands self.now history → result ≡ ended_of self.now.set history tx.0 }
     {
         self.tables.tally(tx).number as u32
     }
 
     /// How many releases are planned and did not take place yet.
     pub fn planned(&self) -> usize
-        ensures { (story : List Noted) → Stands self.now story → result ≡ planned_of self.now.set story }
+        ensures { (history : List Noted) → Stands self.now history → result ≡ planned_of self.now.set history }
     {
         self.tables.planned()
     }
@@ -162,7 +162,7 @@ impl Core {
 
     /// How many entries the history has, the drained ones too.
     pub fn count(&self) -> u64
-        ensures { (story : List Noted) → Stands self.now story → length story ≡ result }
+        ensures { (history : List Noted) → Stands self.now history → length history ≡ result }
     {
         self.journal.first() + self.journal.len() as u64
     }
@@ -170,7 +170,7 @@ impl Core {
     /// The items as they are installed, and the kept entries.
     pub fn into_parts(self) -> (Items, Vec<Entry>)
         ensures entries { result.1.items ≡ self.journal.kept }
-        ensures items { (story : List Noted) → Stands self story → result.0 ≡ (state_of self.set story).items }
+        ensures items { (history : List Noted) → Stands self history → result.0 ≡ (state_of self.set history).items }
     {
         let Core {
             set: _,

@@ -5,6 +5,6 @@
 mod board_impl;
 mod calls;
 mod core_board;
-mod turns;
+mod table_calls;
 
 pub use core_board::{Core, TrialCore};

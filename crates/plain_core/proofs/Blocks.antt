@@ -17,10 +17,10 @@ use Rattle.step_journal.specs.History.{state_of, entry_given}
 use Rattle.law_histories.proofs.Invariant.{IsPending, same_job_is}
 use Rattle.board.specs.declared.replies.StepReply.TheVariants as reply
 use Rattle.board.specs.Answers.{step_reply}
-use Rattle.board.specs.Stories.{step_entry}
+use Rattle.board.specs.Histories.{step_entry}
 use Rattle.board.proofs.Asks.{running_here}
 use Rattle.board.proofs.Rooms.{appends_are_steps, steps_full}
-use Rattle.board.proofs.More.{story_more}
+use Rattle.board.proofs.More.{history_more}
 use Rattle.plain_core.specs.TablesSeen.{TablesSeen, tables_of, cut}
 use Rattle.step_journal.specs.Journal.{JournalSeen}
 use Rattle.plain_core.specs.Seen.{PlainIs}
@@ -81,44 +81,44 @@ wait_tables set s row job by here same =
 not_none : (e : Entry) (x : Option Entry) → x ≡ None → x ≡ Some e → ⊥
 not_none e x a b = cc
 
-pub block_stands : (core : PlainIs) (story : List Entry) (job by : JobId) (op : Op) (ceiling : ℕ) → job.tx.0 < length core.set.txns
-    → step_reply core.set (state_of core.set story) (length core.journal.kept) core.journal.room job op ≡ reply.Blocked by ceiling → Stands core story
-    → Stands (blocked core job op by ceiling) (story ++ Blocked job op by ceiling (state_of core.set story).now ∷ [])
-block_stands core story job by op ceiling lt said h =
+pub block_stands : (core : PlainIs) (history : List Entry) (job by : JobId) (op : Op) (ceiling : ℕ) → job.tx.0 < length core.set.txns
+    → step_reply core.set (state_of core.set history) (length core.journal.kept) core.journal.room job op ≡ reply.Blocked by ceiling → Stands core history
+    → Stands (blocked core job op by ceiling) (history ++ Blocked job op by ceiling (state_of core.set history).now ∷ [])
+block_stands core history job by op ceiling lt said h =
     let set = core.set in
-    let s : State = state_of set story in
+    let s : State = state_of set history in
     let kept : ℕ = length core.journal.kept in
     let entry : step_entry s.now job op (step_reply set s kept core.journal.room job op) ≡ Some (Blocked job op by ceiling s.now) = ap (step_entry s.now job op) said in
-    let legal = (appends_are_steps set story kept core.journal.room job.tx 0 job op (Blocked job op by ceiling s.now) h.is_story.compiled h.is_story.legal lt).1 entry in
-    let w = waits set s job by op ceiling (running_here set story h.is_story.compiled h.is_story.legal) legal in
+    let legal = (appends_are_steps set history kept core.journal.room job.tx 0 job op (Blocked job op by ceiling s.now) h.is_history.compiled h.is_history.legal lt).1 entry in
+    let w = waits set s job by op ceiling (running_here set history h.is_history.compiled h.is_history.legal) legal in
     let roomy : kept < core.journal.room = elim (leb_tells core.journal.room kept) [ inl t ↦ absurd (not_none _ _ (steps_full set s kept core.journal.room job op t.0) entry) | inr f ↦ f.1 ] in
-    let more = story_more set core.journal.room core.journal.first core.journal.kept story (Blocked job op by ceiling s.now) (with_wait s w.row by) h.is_story w.steps roomy in
+    let more = history_more set core.journal.room core.journal.first core.journal.kept history (Blocked job op by ceiling s.now) (with_wait s w.row by) h.is_history w.steps roomy in
     let now_is : core.tables.state.now ≡ s.now = ap (λ (t : TablesSeen). t.state.now) h.is_state in
-    let is : Stands (record core { journal = record core.journal { kept = core.journal.kept ++ Blocked job op by ceiling s.now ∷ [] }; tables = waited core.tables job by }) (story ++ Blocked job op by ceiling s.now ∷ []) = record {
-      is_story = more.is_story;
+    let is : Stands (record core { journal = record core.journal { kept = core.journal.kept ++ Blocked job op by ceiling s.now ∷ [] }; tables = waited core.tables job by }) (history ++ Blocked job op by ceiling s.now ∷ []) = record {
+      is_history = more.is_history;
       is_state = ap (λ (t : TablesSeen). waited t job by) h.is_state ∙ (sym (wait_tables set s w.row job by w.here w.named) ∙ ap (tables_of set) more.state);
     } in
-    subst (λ (n : ℕ). Stands (record core { journal = record core.journal { kept = core.journal.kept ++ Blocked job op by ceiling n ∷ [] }; tables = waited core.tables job by }) (story ++ Blocked job op by ceiling s.now ∷ [])) (sym now_is) is
+    subst (λ (n : ℕ). Stands (record core { journal = record core.journal { kept = core.journal.kept ++ Blocked job op by ceiling n ∷ [] }; tables = waited core.tables job by }) (history ++ Blocked job op by ceiling s.now ∷ [])) (sym now_is) is
 
 -- as the code has it
 
 pub block_after : (core now : PlainIs) (journal : JournalSeen) (tables : TablesSeen) (job by : JobId) (op : Op) (ceiling : ℕ) → core ≡ now
     → journal ≡ (blocked core job op by ceiling).journal → tables ≡ (blocked core job op by ceiling).tables → job.tx.0 < length core.set.txns
-    → ((story : List Entry) → Stands now story → step_reply now.set (state_of now.set story) (length now.journal.kept) now.journal.room job op ≡ reply.Blocked by ceiling)
-    → (story : List Entry) → Stands now story → Stands (record { set = core.set; journal = journal; tables = tables }) (story ++ Blocked job op by ceiling (state_of now.set story).now ∷ [])
-block_after core now journal tables job by op ceiling same ej et lt said story h =
-    let told : step_reply core.set (state_of core.set story) (length core.journal.kept) core.journal.room job op ≡ reply.Blocked by ceiling =
-    ap (λ (p : PlainIs). step_reply p.set (state_of p.set story) (length p.journal.kept) p.journal.room job op) same ∙ said story h in
-    subst (λ (p : PlainIs). Stands (record { set = core.set; journal = journal; tables = tables }) (story ++ Blocked job op by ceiling (state_of p.set story).now ∷ [])) same
-    (subst (λ (t : TablesSeen). Stands (record { set = core.set; journal = journal; tables = t }) (story ++ Blocked job op by ceiling (state_of core.set story).now ∷ [])) (sym et)
-    (subst (λ (j : JournalSeen). Stands (record { set = core.set; journal = j; tables = (blocked core job op by ceiling).tables }) (story ++ Blocked job op by ceiling (state_of core.set story).now ∷ [])) (sym ej)
-    (block_stands core story job by op ceiling lt told (subst (λ (p : PlainIs). Stands p story) (sym same) h))))
+    → ((history : List Entry) → Stands now history → step_reply now.set (state_of now.set history) (length now.journal.kept) now.journal.room job op ≡ reply.Blocked by ceiling)
+    → (history : List Entry) → Stands now history → Stands (record { set = core.set; journal = journal; tables = tables }) (history ++ Blocked job op by ceiling (state_of now.set history).now ∷ [])
+block_after core now journal tables job by op ceiling same ej et lt said history h =
+    let told : step_reply core.set (state_of core.set history) (length core.journal.kept) core.journal.room job op ≡ reply.Blocked by ceiling =
+    ap (λ (p : PlainIs). step_reply p.set (state_of p.set history) (length p.journal.kept) p.journal.room job op) same ∙ said history h in
+    subst (λ (p : PlainIs). Stands (record { set = core.set; journal = journal; tables = tables }) (history ++ Blocked job op by ceiling (state_of p.set history).now ∷ [])) same
+    (subst (λ (t : TablesSeen). Stands (record { set = core.set; journal = journal; tables = t }) (history ++ Blocked job op by ceiling (state_of core.set history).now ∷ [])) (sym et)
+    (subst (λ (j : JournalSeen). Stands (record { set = core.set; journal = j; tables = (blocked core job op by ceiling).tables }) (history ++ Blocked job op by ceiling (state_of core.set history).now ∷ [])) (sym ej)
+    (block_stands core history job by op ceiling lt told (subst (λ (p : PlainIs). Stands p history) (sym same) h))))
 
 pub block_keeps : (core now : PlainIs) (journal : JournalSeen) (tables : TablesSeen) (job by : JobId) (op : Op) (ceiling : ℕ) → core ≡ now
     → journal ≡ (blocked core job op by ceiling).journal → tables ≡ (blocked core job op by ceiling).tables → job.tx.0 < length core.set.txns
-    → ((story : List Entry) → Stands now story → step_reply now.set (state_of now.set story) (length now.journal.kept) now.journal.room job op ≡ reply.Blocked by ceiling)
+    → ((history : List Entry) → Stands now history → step_reply now.set (state_of now.set history) (length now.journal.kept) now.journal.room job op ≡ reply.Blocked by ceiling)
     → IsCore core → IsCore (record { set = core.set; journal = journal; tables = tables })
 block_keeps core now journal tables job by op ceiling same ej et lt said is = record {
-  story = is.story ++ Blocked job op by ceiling (state_of now.set is.story).now ∷ [];
-  stands = block_after core now journal tables job by op ceiling same ej et lt said is.story (subst (λ (p : PlainIs). Stands p is.story) same is.stands);
+  history = is.history ++ Blocked job op by ceiling (state_of now.set is.history).now ∷ [];
+  stands = block_after core now journal tables job by op ceiling same ej et lt said is.history (subst (λ (p : PlainIs). Stands p is.history) same is.stands);
 }

@@ -25,10 +25,10 @@ use Rattle.step_journal.specs.Journal.{JournalSeen}
 use Rattle.law_histories.proofs.Invariant.{IsPending, same_job_is}
 use Rattle.board.specs.declared.replies.StepReply.TheVariants as reply
 use Rattle.board.specs.Answers.{step_reply}
-use Rattle.board.specs.Stories.{step_entry}
+use Rattle.board.specs.Histories.{step_entry}
 use Rattle.board.proofs.Asks.{running_here}
 use Rattle.board.proofs.Rooms.{appends_are_steps, steps_full}
-use Rattle.board.proofs.More.{story_more}
+use Rattle.board.proofs.More.{history_more}
 use Rattle.plain_core.specs.TablesSeen.{TablesSeen, tables_of, tally_of, counted}
 use Rattle.plain_core.specs.declared.tally.Tally.{Tally}
 use Rattle.plain_core.specs.Arrivals.{arrived_tables}
@@ -83,21 +83,21 @@ module _ (set : Set) (s : State) (job : JobId) (op : Op) (outcome : Outcome) (ov
 not_none : (e : Entry) (x : Option Entry) → x ≡ None → x ≡ Some e → ⊥
 not_none e x a b = cc
 
-pub record Told (core : PlainIs) (story : List Entry) (job : JobId) (op : Op) (outcome : Outcome) (over : Option End) : Type 0 where
-  pub goes : Goes core.set (state_of core.set story) job op outcome over
+pub record Told (core : PlainIs) (history : List Entry) (job : JobId) (op : Op) (outcome : Outcome) (over : Option End) : Type 0 where
+  pub goes : Goes core.set (state_of core.set history) job op outcome over
   pub roomy : length core.journal.kept < core.journal.room
 
 -- what the answer Done tells
-pub told : (core : PlainIs) (story : List Entry) (job : JobId) (op : Op) (outcome : Outcome) (over : Option End) → job.tx.0 < length core.set.txns
-    → step_reply core.set (state_of core.set story) (length core.journal.kept) core.journal.room job op ≡ reply.Done outcome over → Stands core story → Told core story job op outcome over
-told core story job op outcome over lt said h =
+pub told : (core : PlainIs) (history : List Entry) (job : JobId) (op : Op) (outcome : Outcome) (over : Option End) → job.tx.0 < length core.set.txns
+    → step_reply core.set (state_of core.set history) (length core.journal.kept) core.journal.room job op ≡ reply.Done outcome over → Stands core history → Told core history job op outcome over
+told core history job op outcome over lt said h =
     let set = core.set in
-    let s : State = state_of set story in
+    let s : State = state_of set history in
     let kept : ℕ = length core.journal.kept in
     let entry : step_entry s.now job op (step_reply set s kept core.journal.room job op) ≡ Some (Step job op outcome over s.now) = ap (step_entry s.now job op) said in
-    let legal = (appends_are_steps set story kept core.journal.room job.tx 0 job op (Step job op outcome over s.now) h.is_story.compiled h.is_story.legal lt).1 entry in
+    let legal = (appends_are_steps set history kept core.journal.room job.tx 0 job op (Step job op outcome over s.now) h.is_history.compiled h.is_history.legal lt).1 entry in
     record {
-      goes = goes set s job op outcome over (running_here set story h.is_story.compiled h.is_story.legal) legal;
+      goes = goes set s job op outcome over (running_here set history h.is_history.compiled h.is_history.legal) legal;
       roomy = elim (leb_tells core.journal.room kept) [ inl t ↦ absurd (not_none _ _ (steps_full set s kept core.journal.room job op t.0) entry) | inr f ↦ f.1 ];
     }
 
@@ -121,18 +121,18 @@ low_of set row (Write item value) ok lt h =
 low_of set row other ok lt h = tt
 
 pub go_low : (core now : PlainIs) (job : JobId) (op : Op) (outcome : Outcome) (over : Option End) → core ≡ now → job.tx.0 < length now.set.txns
-    → ((story : List Entry) → Stands now story → step_reply now.set (state_of now.set story) (length now.journal.kept) now.journal.room job op ≡ reply.Done outcome over) → IsCore core → IsLow op
+    → ((history : List Entry) → Stands now history → step_reply now.set (state_of now.set history) (length now.journal.kept) now.journal.room job op ≡ reply.Done outcome over) → IsCore core → IsLow op
 go_low core now job op outcome over same lt said is =
-    let stands : Stands now is.story = subst (λ (p : PlainIs). Stands p is.story) same is.stands in
-    let t = told now is.story job op outcome over lt (said is.story stands) stands in
-    low_of now.set t.goes.row op stands.is_story.compiled (omega (arith, ap (λ (k : JobId). k.tx.0) t.goes.is, lt)) t.goes.may
+    let stands : Stands now is.history = subst (λ (p : PlainIs). Stands p is.history) same is.stands in
+    let t = told now is.history job op outcome over lt (said is.history stands) stands in
+    low_of now.set t.goes.row op stands.is_history.compiled (omega (arith, ap (λ (k : JobId). k.tx.0) t.goes.is, lt)) t.goes.may
 
 pub go_roomy : (core now : PlainIs) (job : JobId) (op : Op) (outcome : Outcome) (over : Option End) → core ≡ now → job.tx.0 < length now.set.txns
-    → ((story : List Entry) → Stands now story → step_reply now.set (state_of now.set story) (length now.journal.kept) now.journal.room job op ≡ reply.Done outcome over) → IsCore core
+    → ((history : List Entry) → Stands now history → step_reply now.set (state_of now.set history) (length now.journal.kept) now.journal.room job op ≡ reply.Done outcome over) → IsCore core
     → length core.journal.kept < core.journal.room
 go_roomy core now job op outcome over same lt said is =
-    let stands : Stands now is.story = subst (λ (p : PlainIs). Stands p is.story) same is.stands in
-    let t = told now is.story job op outcome over lt (said is.story stands) stands in
+    let stands : Stands now is.history = subst (λ (p : PlainIs). Stands p is.history) same is.stands in
+    let t = told now is.history job op outcome over lt (said is.history stands) stands in
     omega (arith, t.roomy, ap (λ (p : PlainIs). length p.journal.kept) same, ap (λ (p : PlainIs). p.journal.room) same)
 
 -- sizes after the effect
@@ -180,41 +180,41 @@ gone core job op outcome over = record core {
   tables = arrived_tables core.set.txns (core.tables.state.now + 1) (effect_by core.set job op core.tables);
 }
 
-pub go_stands : (core : PlainIs) (story : List Entry) (job : JobId) (op : Op) (outcome : Outcome) (over : Option End) → job.tx.0 < length core.set.txns
-    → step_reply core.set (state_of core.set story) (length core.journal.kept) core.journal.room job op ≡ reply.Done outcome over → Stands core story
-    → Stands (gone core job op outcome over) (story ++ Step job op outcome over (state_of core.set story).now ∷ [])
-go_stands core story job op outcome over lt said h =
+pub go_stands : (core : PlainIs) (history : List Entry) (job : JobId) (op : Op) (outcome : Outcome) (over : Option End) → job.tx.0 < length core.set.txns
+    → step_reply core.set (state_of core.set history) (length core.journal.kept) core.journal.room job op ≡ reply.Done outcome over → Stands core history
+    → Stands (gone core job op outcome over) (history ++ Step job op outcome over (state_of core.set history).now ∷ [])
+go_stands core history job op outcome over lt said h =
     let set = core.set in
-    let s : State = state_of set story in
-    let t = told core story job op outcome over lt said h in
-    let more = story_more set core.journal.room core.journal.first core.journal.kept story (Step job op outcome over s.now) (with_step set s t.goes.row op) h.is_story t.goes.steps t.roomy in
+    let s : State = state_of set history in
+    let t = told core history job op outcome over lt said h in
+    let more = history_more set core.journal.room core.journal.first core.journal.kept history (Step job op outcome over s.now) (with_step set s t.goes.row op) h.is_history t.goes.steps t.roomy in
     let now_is : core.tables.state.now ≡ s.now = ap (λ (t : TablesSeen). t.state.now) h.is_state in
-    let is : Stands (record core { journal = record core.journal { kept = core.journal.kept ++ Step job op outcome over s.now ∷ [] }; tables = arrived_tables set.txns (core.tables.state.now + 1) (effect_by set job op core.tables) }) (story ++ Step job op outcome over s.now ∷ []) = record {
-      is_story = more.is_story;
+    let is : Stands (record core { journal = record core.journal { kept = core.journal.kept ++ Step job op outcome over s.now ∷ [] }; tables = arrived_tables set.txns (core.tables.state.now + 1) (effect_by set job op core.tables) }) (history ++ Step job op outcome over s.now ∷ []) = record {
+      is_history = more.is_history;
       is_state = ap (λ (t : TablesSeen). arrived_tables set.txns (t.state.now + 1) (effect_by set job op t)) h.is_state
           ∙ (step_tables set s t.goes.row job op t.goes.here t.goes.is ∙ ap (tables_of set) more.state);
     } in
-    subst (λ (n : ℕ). Stands (record core { journal = record core.journal { kept = core.journal.kept ++ Step job op outcome over n ∷ [] }; tables = arrived_tables set.txns (core.tables.state.now + 1) (effect_by set job op core.tables) }) (story ++ Step job op outcome over s.now ∷ [])) (sym now_is) is
+    subst (λ (n : ℕ). Stands (record core { journal = record core.journal { kept = core.journal.kept ++ Step job op outcome over n ∷ [] }; tables = arrived_tables set.txns (core.tables.state.now + 1) (effect_by set job op core.tables) }) (history ++ Step job op outcome over s.now ∷ [])) (sym now_is) is
 
 -- as the code has it
 
 pub go_after : (core now : PlainIs) (journal : JournalSeen) (tables : TablesSeen) (job : JobId) (op : Op) (outcome : Outcome) (over : Option End) → core ≡ now
     → journal ≡ (gone core job op outcome over).journal → tables ≡ (gone core job op outcome over).tables → job.tx.0 < length core.set.txns
-    → ((story : List Entry) → Stands now story → step_reply now.set (state_of now.set story) (length now.journal.kept) now.journal.room job op ≡ reply.Done outcome over)
-    → (story : List Entry) → Stands now story → Stands (record { set = core.set; journal = journal; tables = tables }) (story ++ Step job op outcome over (state_of now.set story).now ∷ [])
-go_after core now journal tables job op outcome over same ej et lt said story h =
-    let told : step_reply core.set (state_of core.set story) (length core.journal.kept) core.journal.room job op ≡ reply.Done outcome over =
-    ap (λ (p : PlainIs). step_reply p.set (state_of p.set story) (length p.journal.kept) p.journal.room job op) same ∙ said story h in
-    subst (λ (p : PlainIs). Stands (record { set = core.set; journal = journal; tables = tables }) (story ++ Step job op outcome over (state_of p.set story).now ∷ [])) same
-    (subst (λ (t : TablesSeen). Stands (record { set = core.set; journal = journal; tables = t }) (story ++ Step job op outcome over (state_of core.set story).now ∷ [])) (sym et)
-    (subst (λ (j : JournalSeen). Stands (record { set = core.set; journal = j; tables = (gone core job op outcome over).tables }) (story ++ Step job op outcome over (state_of core.set story).now ∷ [])) (sym ej)
-    (go_stands core story job op outcome over lt told (subst (λ (p : PlainIs). Stands p story) (sym same) h))))
+    → ((history : List Entry) → Stands now history → step_reply now.set (state_of now.set history) (length now.journal.kept) now.journal.room job op ≡ reply.Done outcome over)
+    → (history : List Entry) → Stands now history → Stands (record { set = core.set; journal = journal; tables = tables }) (history ++ Step job op outcome over (state_of now.set history).now ∷ [])
+go_after core now journal tables job op outcome over same ej et lt said history h =
+    let told : step_reply core.set (state_of core.set history) (length core.journal.kept) core.journal.room job op ≡ reply.Done outcome over =
+    ap (λ (p : PlainIs). step_reply p.set (state_of p.set history) (length p.journal.kept) p.journal.room job op) same ∙ said history h in
+    subst (λ (p : PlainIs). Stands (record { set = core.set; journal = journal; tables = tables }) (history ++ Step job op outcome over (state_of p.set history).now ∷ [])) same
+    (subst (λ (t : TablesSeen). Stands (record { set = core.set; journal = journal; tables = t }) (history ++ Step job op outcome over (state_of core.set history).now ∷ [])) (sym et)
+    (subst (λ (j : JournalSeen). Stands (record { set = core.set; journal = j; tables = (gone core job op outcome over).tables }) (history ++ Step job op outcome over (state_of core.set history).now ∷ [])) (sym ej)
+    (go_stands core history job op outcome over lt told (subst (λ (p : PlainIs). Stands p history) (sym same) h))))
 
 pub go_keeps : (core now : PlainIs) (journal : JournalSeen) (tables : TablesSeen) (job : JobId) (op : Op) (outcome : Outcome) (over : Option End) → core ≡ now
     → journal ≡ (gone core job op outcome over).journal → tables ≡ (gone core job op outcome over).tables → job.tx.0 < length core.set.txns
-    → ((story : List Entry) → Stands now story → step_reply now.set (state_of now.set story) (length now.journal.kept) now.journal.room job op ≡ reply.Done outcome over)
+    → ((history : List Entry) → Stands now history → step_reply now.set (state_of now.set history) (length now.journal.kept) now.journal.room job op ≡ reply.Done outcome over)
     → IsCore core → IsCore (record { set = core.set; journal = journal; tables = tables })
 go_keeps core now journal tables job op outcome over same ej et lt said is = record {
-  story = is.story ++ Step job op outcome over (state_of now.set is.story).now ∷ [];
-  stands = go_after core now journal tables job op outcome over same ej et lt said is.story (subst (λ (p : PlainIs). Stands p is.story) same is.stands);
+  history = is.history ++ Step job op outcome over (state_of now.set is.history).now ∷ [];
+  stands = go_after core now journal tables job op outcome over same ej et lt said is.history (subst (λ (p : PlainIs). Stands p is.history) same is.stands);
 }

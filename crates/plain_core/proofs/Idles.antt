@@ -18,7 +18,7 @@ use Rattle.plain_core.proofs.Runs.{running_is}
 use Rattle.std.specs.Prelude.{nat_le}
 use Rattle.law_histories.proofs.CountingAll.{entries_few}
 use Rattle.board.proofs.Ended.{ended_few}
-use Rattle.board.proofs.More.{story_more, not_le}
+use Rattle.board.proofs.More.{history_more, not_le}
 use Rattle.plain_core.specs.declared.tally.Tally.{Tally}
 use Rattle.plain_core.specs.TablesSeen.{TablesSeen, tables_of, tally_of}
 use Rattle.step_journal.specs.Journal.{JournalSeen}
@@ -29,14 +29,14 @@ use Rattle.plain_core.proofs.Arrives.{arrive_is}
 use Rattle.plain_core.proofs.Tallies.{tally_says, tally_beyond}
 use Rattle.plain_core.proofs.Stood.{fit}
 
-pub story_fits : (core : PlainIs) → IsCore core → core.journal.first + length core.journal.kept < 2 ^ 64
-story_fits core is = omega (arith, is.stands.is_story.counted, (entries_few core.set is.story is.stands.is_story.compiled is.stands.is_story.legal).all)
+pub history_fits : (core : PlainIs) → IsCore core → core.journal.first + length core.journal.kept < 2 ^ 64
+history_fits core is = omega (arith, is.stands.is_history.counted, (entries_few core.set is.history is.stands.is_history.compiled is.stands.is_history.legal).all)
 
 pub tallies_fit : (core : PlainIs) → IsCore core → (n : ℕ) → (tally_of core.tables.tallies n).number < 2 ^ 32
 tallies_fit core is n = at (n_in n (length core.set.txns)) where
   at : (n < length core.set.txns) ⊎ (length core.set.txns ≤ n) → (tally_of core.tables.tallies n).number < 2 ^ 32
-  at (inl lt) = omega (arith, ap (λ (t : Tally). t.number) (tally_says core is.story n is.stands lt), ended_few core.set is.story n is.stands.is_story.compiled is.stands.is_story.legal)
-  at (inr ge) = omega (arith, ap (λ (t : Tally). t.number) (tally_beyond core.tables.tallies n (omega (arith, (fit core is.story is.stands).tallies))))
+  at (inl lt) = omega (arith, ap (λ (t : Tally). t.number) (tally_says core is.history n is.stands lt), ended_few core.set is.history n is.stands.is_history.compiled is.stands.is_history.legal)
+  at (inr ge) = omega (arith, ap (λ (t : Tally). t.number) (tally_beyond core.tables.tallies n (omega (arith, (fit core is.history is.stands).tallies))))
 
   n_in : (a b : ℕ) → (a < b) ⊎ (b ≤ a)
   n_in a b = cases_lt a b
@@ -53,38 +53,38 @@ idle_steps set s to none next =
     ap (λ (rows : List Row). idled set s rows) none
     ∙ ap (λ (o : Option ℕ). option_map (λ t. (Idle s.now t, arrived set t s)) o) next
 
-pub idle_stands : (core : PlainIs) (story : List Entry) (to : ℕ) → running core.set core.tables.state.rows ≡ None → next_tick core.tables.state.planned ≡ Some to → length core.journal.kept < core.journal.room
-    → Stands core story → Stands (gone_on core to) (story ++ Idle (state_of core.set story).now to ∷ [])
-idle_stands core story to none next lt h =
+pub idle_stands : (core : PlainIs) (history : List Entry) (to : ℕ) → running core.set core.tables.state.rows ≡ None → next_tick core.tables.state.planned ≡ Some to → length core.journal.kept < core.journal.room
+    → Stands core history → Stands (gone_on core to) (history ++ Idle (state_of core.set history).now to ∷ [])
+idle_stands core history to none next lt h =
     let set = core.set in
-    let s : State = state_of set story in
+    let s : State = state_of set history in
     let none_s : running set s.rows ≡ None = ap (λ (t : TablesSeen). running set t.state.rows) (sym h.is_state) ∙ none in
     let next_s : next_tick s.planned ≡ Some to = ap (λ (t : TablesSeen). next_tick t.state.planned) (sym h.is_state) ∙ next in
-    let more = story_more set core.journal.room core.journal.first core.journal.kept story (Idle s.now to) (arrived set to s) h.is_story
-    (idle_steps set s to ((never_stuck set story h.is_story.compiled h.is_story.legal).runs none_s) next_s) lt in
+    let more = history_more set core.journal.room core.journal.first core.journal.kept history (Idle s.now to) (arrived set to s) h.is_history
+    (idle_steps set s to ((never_stuck set history h.is_history.compiled h.is_history.legal).runs none_s) next_s) lt in
     let now_is : core.tables.state.now ≡ s.now = ap (λ (t : TablesSeen). t.state.now) h.is_state in
-    let is : Stands (record core { journal = record core.journal { kept = core.journal.kept ++ Idle s.now to ∷ [] }; tables = arrived_tables set.txns to core.tables }) (story ++ Idle s.now to ∷ []) = record {
-      is_story = more.is_story;
+    let is : Stands (record core { journal = record core.journal { kept = core.journal.kept ++ Idle s.now to ∷ [] }; tables = arrived_tables set.txns to core.tables }) (history ++ Idle s.now to ∷ []) = record {
+      is_history = more.is_history;
       is_state = ap (arrived_tables set.txns to) h.is_state ∙ (sym (arrive_is set to s) ∙ ap (tables_of set) more.state);
     } in
-    subst (λ (n : ℕ). Stands (record core { journal = record core.journal { kept = core.journal.kept ++ Idle n to ∷ [] }; tables = arrived_tables set.txns to core.tables }) (story ++ Idle s.now to ∷ [])) (sym now_is) is
+    subst (λ (n : ℕ). Stands (record core { journal = record core.journal { kept = core.journal.kept ++ Idle n to ∷ [] }; tables = arrived_tables set.txns to core.tables }) (history ++ Idle s.now to ∷ [])) (sym now_is) is
 
 -- as the code has it: the parts change one after the other
 pub went_on : (core now : PlainIs) (journal : JournalSeen) (tables : TablesSeen) (to : ℕ) → core ≡ now → journal ≡ (gone_on core to).journal → tables ≡ (gone_on core to).tables
     → running core.set core.tables.state.rows ≡ None → next_tick core.tables.state.planned ≡ Some to → length core.journal.kept < core.journal.room
-    → (story : List Entry) → Stands now story → Stands (record { set = core.set; journal = journal; tables = tables }) (story ++ Idle (state_of now.set story).now to ∷ [])
-went_on core now journal tables to same ej et none next lt story h =
-    subst (λ (p : PlainIs). Stands (record { set = core.set; journal = journal; tables = tables }) (story ++ Idle (state_of p.set story).now to ∷ [])) same
-    (subst (λ (t : TablesSeen). Stands (record { set = core.set; journal = journal; tables = t }) (story ++ Idle (state_of core.set story).now to ∷ [])) (sym et)
-    (subst (λ (j : JournalSeen). Stands (record { set = core.set; journal = j; tables = (gone_on core to).tables }) (story ++ Idle (state_of core.set story).now to ∷ [])) (sym ej)
-    (idle_stands core story to none next lt (subst (λ (p : PlainIs). Stands p story) (sym same) h))))
+    → (history : List Entry) → Stands now history → Stands (record { set = core.set; journal = journal; tables = tables }) (history ++ Idle (state_of now.set history).now to ∷ [])
+went_on core now journal tables to same ej et none next lt history h =
+    subst (λ (p : PlainIs). Stands (record { set = core.set; journal = journal; tables = tables }) (history ++ Idle (state_of p.set history).now to ∷ [])) same
+    (subst (λ (t : TablesSeen). Stands (record { set = core.set; journal = journal; tables = t }) (history ++ Idle (state_of core.set history).now to ∷ [])) (sym et)
+    (subst (λ (j : JournalSeen). Stands (record { set = core.set; journal = j; tables = (gone_on core to).tables }) (history ++ Idle (state_of core.set history).now to ∷ [])) (sym ej)
+    (idle_stands core history to none next lt (subst (λ (p : PlainIs). Stands p history) (sym same) h))))
 
 pub still_core : (core now : PlainIs) (journal : JournalSeen) (tables : TablesSeen) (to : ℕ) → core ≡ now → journal ≡ (gone_on core to).journal → tables ≡ (gone_on core to).tables
     → running core.set core.tables.state.rows ≡ None → next_tick core.tables.state.planned ≡ Some to → length core.journal.kept < core.journal.room
     → IsCore core → IsCore (record { set = core.set; journal = journal; tables = tables })
 still_core core now journal tables to same ej et none next lt is = record {
-  story = is.story ++ Idle (state_of core.set is.story).now to ∷ [];
-  stands = went_on core core journal tables to refl ej et none next lt is.story is.stands;
+  history = is.history ++ Idle (state_of core.set is.history).now to ∷ [];
+  stands = went_on core core journal tables to refl ej et none next lt is.history is.stands;
 }
 
 -- what an answer Advanced tells
@@ -93,8 +93,8 @@ by_is : (kept room : ℕ) (next : Option ℕ) (s : State) (o : Option Row) → n
 by_is kept room next s (Some row) e = refl
 by_is kept room next s None e = ap (waiting_reply kept room) e
 
-pub idle_says : (core : PlainIs) (story : List Entry) → Stands core story → idle_of core ≡ idle_reply core.set (state_of core.set story) (length core.journal.kept) core.journal.room
-idle_says core story h =
+pub idle_says : (core : PlainIs) (history : List Entry) → Stands core history → idle_of core ≡ idle_reply core.set (state_of core.set history) (length core.journal.kept) core.journal.room
+idle_says core history h =
     ap (idle_by (length core.journal.kept) core.journal.room (next_tick core.tables.state.planned)) (running_is core.set core.tables.state.rows)
     ∙ (by_is (length core.journal.kept) core.journal.room (next_tick core.tables.state.planned) core.tables.state (running core.set core.tables.state.rows) refl
     ∙ ap (λ (t : TablesSeen). idle_reply core.set t.state (length core.journal.kept) core.journal.room) h.is_state)

@@ -10,6 +10,6 @@ pub opens : (set : Set) (journal : JournalSeen) (tables : TablesSeen) (room : �
     → Stands (record { set = set; journal = journal; tables = tables }) []
 opens set journal tables room ok small ej et =
     subst (λ (j : JournalSeen). Stands (record { set = set; journal = j; tables = tables }) []) (sym ej) (record {
-      is_story = record { compiled = ok; legal = tt; rest = refl; counted = refl; fits = omega arith; small = small };
+      is_history = record { compiled = ok; legal = tt; rest = refl; counted = refl; fits = omega arith; small = small };
       is_state = et;
     })

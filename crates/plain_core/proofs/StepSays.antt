@@ -98,15 +98,15 @@ module _ (set : Set) (s : State) (kept room : ℕ) (job : JobId) (op : Op) (here
   turn_is = ap turn (running_is set s.rows) ∙ turn_at (running set s.rows) refl
 
 -- the answer of the core is that of its history
-pub step_says : (core : PlainIs) (story : List Entry) (job : JobId) (op : Op) → Stands core story → job.tx.0 < length core.set.txns
-    → step_by core job op ≡ step_reply core.set (state_of core.set story) (length core.journal.kept) core.journal.room job op
-step_says core story job op h lt =
+pub step_says : (core : PlainIs) (history : List Entry) (job : JobId) (op : Op) → Stands core history → job.tx.0 < length core.set.txns
+    → step_by core job op ≡ step_reply core.set (state_of core.set history) (length core.journal.kept) core.journal.room job op
+step_says core history job op h lt =
     let set = core.set in
-    let s : State = state_of set story in
+    let s : State = state_of set history in
     let kept : ℕ = length core.journal.kept in
     let room : ℕ = core.journal.room in
-    let tally = tally_says core story job.tx.0 h lt in
-    let turns = turn_is set s kept room job op (running_here set story h.is_story.compiled h.is_story.legal) (λ x e. granted_is set s x op (over_after set story x op h.is_story.compiled h.is_story.legal e)) in
+    let tally = tally_says core history job.tx.0 h lt in
+    let turns = turn_is set s kept room job op (running_here set history h.is_history.compiled h.is_history.legal) (λ x e. granted_is set s x op (over_after set history x op h.is_history.compiled h.is_history.legal e)) in
     ap (λ (t : Tally). cond (is_some (job_row core.tables.state.rows job)) (turn_by set core.tables kept room job op (running_by set.txns core.tables.state.rows)) (reply.NoJob t.number t.last)) tally
     ∙ (ap (λ (t : TablesSeen). cond (is_some (job_row t.state.rows job)) (turn_by set t kept room job op (running_by set.txns t.state.rows)) (reply.NoJob (ended_number s.ended job.tx.0) (last_end s.ended job.tx.0))) h.is_state
     ∙ ap (λ (r : StepReply). cond (is_some (job_row s.rows job)) r (reply.NoJob (ended_number s.ended job.tx.0) (last_end s.ended job.tx.0))) turns)

@@ -55,9 +55,9 @@ tally_is set ended n lt =
       plain : (k : ℕ) → 0 + k ≡ k
       plain k = omega arith
 
-pub tally_says : (core : PlainIs) (story : List Entry) (n : ℕ) → Stands core story → n < length core.set.txns
-    → tally_of core.tables.tallies n ≡ record { number = ended_number (state_of core.set story).ended n; last = last_end (state_of core.set story).ended n }
-tally_says core story n h lt = ap (λ (t : TablesSeen). tally_of t.tallies n) h.is_state ∙ tally_is core.set (state_of core.set story).ended n lt
+pub tally_says : (core : PlainIs) (history : List Entry) (n : ℕ) → Stands core history → n < length core.set.txns
+    → tally_of core.tables.tallies n ≡ record { number = ended_number (state_of core.set history).ended n; last = last_end (state_of core.set history).ended n }
+tally_says core history n h lt = ap (λ (t : TablesSeen). tally_of t.tallies n) h.is_state ∙ tally_is core.set (state_of core.set history).ended n lt
 
 pub tally_beyond : (tallies : List Tally) (n : ℕ) → length tallies ≤ n → tally_of tallies n ≡ no_tally
 tally_beyond [] n le = refl

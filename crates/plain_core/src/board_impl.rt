@@ -22,7 +22,7 @@ impl Board for PlainCore {
 
     ghost kept = { λ c. c.journal.kept };
 
-    ghost is_story = { λ c story h. h.is_story };
+    ghost is_history = { λ c history h. h.is_history };
 
     fn plan(&mut self, tx: TxId, tick: Tick) -> Result<JobId, PlanRefused> {
         self.plan_at(tx, tick)

@@ -3,7 +3,7 @@ ghost use Rattle.std.specs.Prelude.{◌≡◌, ◌<◌, ◌≤◌, ◌^◌, ◌+
 ghost use Rattle.step_journal.specs.declared.entry.Entry.{Entry as Noted};
 ghost use Rattle.step_journal.specs.Step.{earliest as earliest_of, plans_of};
 ghost use Rattle.plain_core.specs.Rules.{idle_of};
-ghost use Rattle.board.specs.Stories.{noted, plan_entry, now_of, step_answer};
+ghost use Rattle.board.specs.Histories.{noted, plan_entry, now_of, step_answer};
 ghost use Rattle.board.specs.Answers.{plan_reply};
 ghost use Rattle.plain_core.specs.Stands.{Stands};
 ghost use Rattle.plain_core.specs.Steps.{step_by};
@@ -100,7 +100,7 @@ impl PlainCore {
         requires { tx.0 < length self.old.set.txns }
         ensures fixed { (self.new.set ≡ self.old.set) × (self.new.journal.room ≡ self.old.journal.room) × (self.new.journal.first ≡ self.old.journal.first) }
         ensures answer { result ≡ plan_reply self.old.set self.old.tables.state (length self.old.journal.kept) self.old.journal.room tx.0 tick }
-        ensures after { (story : List Noted) → Stands self.old story → Stands self.new (noted story (plan_entry tx tick result)) }
+        ensures after { (history : List Noted) → Stands self.old history → Stands self.new (noted history (plan_entry tx tick result)) }
     {
         match self.plan_check(tx, tick) {
             Ok(job) => {
@@ -128,7 +128,7 @@ impl PlainCore {
     pub(crate) fn go_on(&mut self, to: Tick)
         requires { idle_of self.old ≡ IdleReply.Advanced to }
         ensures fixed { (self.new.set ≡ self.old.set) × (self.new.journal.room ≡ self.old.journal.room) × (self.new.journal.first ≡ self.old.journal.first) }
-        ensures after { (story : List Noted) → Stands self.old story → Stands self.new (story ++ Entry.Idle (now_of self.old.set story) to ∷ []) }
+        ensures after { (history : List Noted) → Stands self.old history → Stands self.new (history ++ Entry.Idle (now_of self.old.set history) to ∷ []) }
     {
         let from = self.tables.now();
         self.tables.arrive(self.set.txns(), to);
@@ -152,9 +152,9 @@ impl PlainCore {
     /// The job is refused, and waits.
     pub(crate) fn block(&mut self, job: JobId, op: Op, by: JobId, ceiling: Prio)
         requires in_set { job.tx.0 < length self.old.set.txns }
-        requires refused { (story : List Noted) → Stands self.old story → step_answer self.old.set story (length self.old.journal.kept) self.old.journal.room job op ≡ StepReply.Blocked by ceiling }
+        requires refused { (history : List Noted) → Stands self.old history → step_answer self.old.set history (length self.old.journal.kept) self.old.journal.room job op ≡ StepReply.Blocked by ceiling }
         ensures fixed { (self.new.set ≡ self.old.set) × (self.new.journal.room ≡ self.old.journal.room) × (self.new.journal.first ≡ self.old.journal.first) }
-        ensures after { (story : List Noted) → Stands self.old story → Stands self.new (story ++ Entry.Blocked job op by ceiling (now_of self.old.set story) ∷ []) }
+        ensures after { (history : List Noted) → Stands self.old history → Stands self.new (history ++ Entry.Blocked job op by ceiling (now_of self.old.set history) ∷ []) }
     {
         let tick = self.tables.now();
         self.tables.wait(job, by);
@@ -170,9 +170,9 @@ impl PlainCore {
     /// A granted step: its effect, and the arrival.
     pub(crate) fn go(&mut self, job: JobId, op: Op, outcome: Outcome, over: Option<End>)
         requires in_set { job.tx.0 < length self.old.set.txns }
-        requires done { (story : List Noted) → Stands self.old story → step_answer self.old.set story (length self.old.journal.kept) self.old.journal.room job op ≡ StepReply.Done outcome over }
+        requires done { (history : List Noted) → Stands self.old history → step_answer self.old.set history (length self.old.journal.kept) self.old.journal.room job op ≡ StepReply.Done outcome over }
         ensures fixed { (self.new.set ≡ self.old.set) × (self.new.journal.room ≡ self.old.journal.room) × (self.new.journal.first ≡ self.old.journal.first) }
-        ensures after { (story : List Noted) → Stands self.old story → Stands self.new (story ++ Entry.Step job op outcome over (now_of self.old.set story) ∷ []) }
+        ensures after { (history : List Noted) → Stands self.old history → Stands self.new (history ++ Entry.Step job op outcome over (now_of self.old.set history) ∷ []) }
     {
         let tick = self.tables.now();
         effect(&self.set, &mut self.tables, job, op);

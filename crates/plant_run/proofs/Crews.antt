@@ -13,7 +13,7 @@ use Rattle.shared_plant.specs.Seats.{TableId, PlantFacts, SeatFacts, IsOf, tx_of
 use Rattle.shared_plant.proofs.Answering.{the_tx}
 use Rattle.law_histories.specs.Sim.{Body, Workload, plans, plans_from}
 use Rattle.sim_run.specs.Workloads.{workload, ticks_of, body_of}
-use Rattle.sim_run.proofs.Turns.{mapped_at}
+use Rattle.sim_run.proofs.Calls.{mapped_at}
 use Rattle.txn_threads.specs.declared.member.Member.{Member}
 use Rattle.txn_threads.specs.declared.member.Worker.{Worker}
 use Rattle.txn_threads.specs.Scripts.{AreAsked, own_outcomes, job_of}
@@ -88,14 +88,14 @@ module _ {B Y : Type 0} where
   abbrev pub teams : List (Worker B Y) → List (List (Member B Y))
   teams ws = map (λ (w : Worker B Y). team_of w) ws
 
-  pub staffed : (gives : Y → ℕ → List Outcome → Op) (bodies : List Body) (releases : List (List ℕ)) (own : ℕ → ℕ) (id : TableId) (past : List Entry) (first : ℕ)
+  pub staffed : (gives : Y → ℕ → List Outcome → Op) (bodies : List Body) (releases : List (List ℕ)) (eager_jobs : ℕ → ℕ) (id : TableId) (past : List Entry) (first : ℕ)
       (lists : List (Row B Y)) (ws : List (Worker B Y)) → teams ws ≡ reverse (map (λ (v : Row B Y). reverse v.items) lists)
-      → AreDealt gives bodies releases own id past first 0 (rows lists) → AreDealt gives bodies releases own id past first 0 (teams ws)
-  staffed gives bodies releases own id past first lists ws is a =
+      → AreDealt gives bodies releases eager_jobs id past first 0 (rows lists) → AreDealt gives bodies releases eager_jobs id past first 0 (teams ws)
+  staffed gives bodies releases eager_jobs id past first lists ws is a =
       let items : Row B Y → List (Member B Y) = λ v. v.items in
       let turned : List (List (Member B Y)) = map (λ (v : Row B Y). reverse v.items) lists in
-      subst (AreDealt gives bodies releases own id past first 0) (sym is) (record {
-        each = all_reverse (All (IsDealt gives bodies releases own id past first)) turned (all_turned (IsDealt gives bodies releases own id past first) items lists a.each);
+      subst (AreDealt gives bodies releases eager_jobs id past first 0) (sym is) (record {
+        each = all_reverse (All (IsDealt gives bodies releases eager_jobs id past first)) turned (all_turned (IsDealt gives bodies releases eager_jobs id past first) items lists a.each);
         once = λ tx. omega (arith, total_reverse (members_at tx) turned, total_turned (members_at tx) items (total_reverse (λ (m : Member B Y). sits_at tx m.seat.tx)) lists, a.once tx);
         count = omega (arith, total_reverse (λ (l : List (Member B Y)). length l) turned, total_turned (λ (l : List (Member B Y)). length l) items (λ xs. length-reverse xs) lists, a.count);
       })
@@ -115,9 +115,9 @@ module _ {B Y : Type 0} where
 
   -- a member before a run, and after it
 
-  pub may_run : (gives : Y → ℕ → List Outcome → Op) (bodies : List Body) (releases : List (List ℕ)) (own : ℕ → ℕ) (p : PlantFacts) (past : List Entry) (first : ℕ) (m : Member B Y)
-      → length releases ≡ length p.set.txns → IsDealt gives bodies releases own p.id past first m → MayRun p m
-  may_run gives bodies releases own p past first m each d =
+  pub may_run : (gives : Y → ℕ → List Outcome → Op) (bodies : List Body) (releases : List (List ℕ)) (eager_jobs : ℕ → ℕ) (p : PlantFacts) (past : List Entry) (first : ℕ) (m : Member B Y)
+      → length releases ≡ length p.set.txns → IsDealt gives bodies releases eager_jobs p.id past first m → MayRun p m
+  may_run gives bodies releases eager_jobs p past first m each d =
       let sits = ap (λ (s : SeatFacts). s.tx) d.seat in record {
         of = (ap (λ (s : SeatFacts). s.plant) d.seat, λ tx is. let at : d.tx ≡ tx.0 = ap (λ (o : Option TxId). (the_tx tx o).0) (sym sits ∙ is) in let low = d.within in omega (arith, at, low, each));
         has = (tx_of d.tx, sits);
@@ -125,19 +125,19 @@ module _ {B Y : Type 0} where
       }
 
   -- A member after a run of the workload: its seat's entries are its transaction's, and it is as it was dealt.
-  pub record HasPlayed (gives : Y → ℕ → List Outcome → Op) (w : Workload) (own : ℕ → ℕ) (p : PlantFacts) (m : Member B Y) : Type 0 where
+  pub record HasPlayed (gives : Y → ℕ → List Outcome → Op) (w : Workload) (eager_jobs : ℕ → ℕ) (p : PlantFacts) (m : Member B Y) : Type 0 where
     pub tx : ℕ
     pub sits : m.seat.tx ≡ Some (tx_of tx)
     pub of : IsOf p m.seat
-    pub run : IsSeatRun w own m.seat
+    pub run : IsSeatRun w eager_jobs m.seat
     pub gives_is : gives m.task.body ≡ w.bodies tx
-    pub jobs : m.jobs ≡ jobs_at own w.releases tx
-    pub eager : m.eager ≡ nat_lt 0 (own tx)
+    pub jobs : m.jobs ≡ jobs_at eager_jobs w.releases tx
+    pub eager : m.eager ≡ nat_lt 0 (eager_jobs tx)
     pub planned : m.planned ≡ plans_in m.seat.mine
 
-  pub has_played : (gives : Y → ℕ → List Outcome → Op) (bodies : List Body) (releases : List (List ℕ)) (own : ℕ → ℕ) (p : PlantFacts) (first : ℕ) (m n : Member B Y)
-      → IsDealt gives bodies releases own p.id (plans_from 0 releases) first m → HasRun gives p m n → HasPlayed gives (workload p.set bodies releases) own p n
-  has_played gives bodies releases own p first m n d r =
+  pub has_played : (gives : Y → ℕ → List Outcome → Op) (bodies : List Body) (releases : List (List ℕ)) (eager_jobs : ℕ → ℕ) (p : PlantFacts) (first : ℕ) (m n : Member B Y)
+      → IsDealt gives bodies releases eager_jobs p.id (plans_from 0 releases) first m → HasRun gives p m n → HasPlayed gives (workload p.set bodies releases) eager_jobs p n
+  has_played gives bodies releases eager_jobs p first m n d r =
       let w : Workload = workload p.set bodies releases in
       let was = ap (λ (s : SeatFacts). s.tx) d.seat in
       let sits : n.seat.tx ≡ Some (tx_of d.tx) = r.tx ∙ was in
@@ -158,11 +158,11 @@ module _ {B Y : Type 0} where
               (subst (λ (l : List (ℕ × Entry)). AreAsked (w.bodies tx.0) tx l r.added) none
               (subst (λ (f : Body). AreAsked f tx m.seat.mine r.added) gives_is (r.asked tx (sym r.tx ∙ is))));
           planned = λ tx is. record {
-            eager = nat_lt 0 (own d.tx);
+            eager = nat_lt 0 (eager_jobs d.tx);
             jobs = m.jobs;
-            plans = subst (λ (l : List (ℕ × Entry)). ArePlanned p.set n.seat.seen tx (nat_lt 0 (own d.tx)) m.jobs 0 l) (sym mine)
+            plans = subst (λ (l : List (ℕ × Entry)). ArePlanned p.set n.seat.seen tx (nat_lt 0 (eager_jobs d.tx)) m.jobs 0 l) (sym mine)
                 (subst (λ (b : Bool). ArePlanned p.set n.seat.seen tx b m.jobs 0 r.added) d.eager (r.plans tx (sym r.tx ∙ is)));
-            own_is = ap own (sym (at tx is)) ∙ own_jobs_are (own d.tx) (length (ticks_of releases d.tx)) m.jobs d.jobs;
+            own_is = ap eager_jobs (sym (at tx is)) ∙ own_jobs_are (eager_jobs d.tx) (length (ticks_of releases d.tx)) m.jobs d.jobs;
           };
           operator = λ none_is. absurd (no_tx (tx_of d.tx) (sym none_is ∙ sits));
         };
@@ -175,17 +175,17 @@ module _ {B Y : Type 0} where
         no_tx tx e = cc
 
   -- the teams of a run
-  pub all_played : (gives : Y → ℕ → List Outcome → Op) (bodies : List Body) (releases : List (List ℕ)) (own : ℕ → ℕ) (p : PlantFacts) (first : ℕ) (ws us : List (Worker B Y))
-      → AreDealt gives bodies releases own p.id (plans_from 0 releases) first 0 (teams ws)
+  pub all_played : (gives : Y → ℕ → List Outcome → Op) (bodies : List Body) (releases : List (List ℕ)) (eager_jobs : ℕ → ℕ) (p : PlantFacts) (first : ℕ) (ws us : List (Worker B Y))
+      → AreDealt gives bodies releases eager_jobs p.id (plans_from 0 releases) first 0 (teams ws)
       → Each (λ (w u : Worker B Y). Each (HasRun gives p) w.members.items u.members.items) ws us
-      → All (λ (u : Worker B Y). All (HasPlayed gives (workload p.set bodies releases) own p) u.members.items) us
-  all_played gives bodies releases own p first ws us a e =
-      all_each (λ (w : Worker B Y). All (IsDealt gives bodies releases own p.id (plans_from 0 releases) first) w.members.items)
-      (λ (u : Worker B Y). All (HasPlayed gives (workload p.set bodies releases) own p) u.members.items)
+      → All (λ (u : Worker B Y). All (HasPlayed gives (workload p.set bodies releases) eager_jobs p) u.members.items) us
+  all_played gives bodies releases eager_jobs p first ws us a e =
+      all_each (λ (w : Worker B Y). All (IsDealt gives bodies releases eager_jobs p.id (plans_from 0 releases) first) w.members.items)
+      (λ (u : Worker B Y). All (HasPlayed gives (workload p.set bodies releases) eager_jobs p) u.members.items)
       (λ (w u : Worker B Y). Each (HasRun gives p) w.members.items u.members.items)
-      (λ w u all r. all_each (IsDealt gives bodies releases own p.id (plans_from 0 releases) first) (HasPlayed gives (workload p.set bodies releases) own p) (HasRun gives p)
-      (λ m n d k. has_played gives bodies releases own p first m n d k) w.members.items u.members.items all r)
-      ws us (all_teams (IsDealt gives bodies releases own p.id (plans_from 0 releases) first) ws a.each) e
+      (λ w u all r. all_each (IsDealt gives bodies releases eager_jobs p.id (plans_from 0 releases) first) (HasPlayed gives (workload p.set bodies releases) eager_jobs p) (HasRun gives p)
+      (λ m n d k. has_played gives bodies releases eager_jobs p first m n d k) w.members.items u.members.items all r)
+      ws us (all_teams (IsDealt gives bodies releases eager_jobs p.id (plans_from 0 releases) first) ws a.each) e
 
   pub same_counts : (gives : Y → ℕ → List Outcome → Op) (p : PlantFacts) (tx : ℕ) (ws us : List (Worker B Y))
       → Each (λ (w u : Worker B Y). Each (HasRun gives p) w.members.items u.members.items) ws us

@@ -14,7 +14,7 @@ use Rattle.turn_cell.specs.Turn.{below, total}
 use Rattle.turn_cell.proofs.Sums.{total-append, below_next}
 use Rattle.shared_plant.specs.Seats.{TableId, SeatFacts, newcomer, newcomers, tx_of}
 use Rattle.law_histories.specs.Sim.{Body}
-use Rattle.sim_run.proofs.Turns.{mapped_at}
+use Rattle.sim_run.proofs.Calls.{mapped_at}
 use Rattle.txn_threads.specs.declared.member.Member.{Member}
 use Rattle.plant_run.specs.Deals.{sits_at, members_at, share, jobs_at, HavePlaces, IsDealt, AreDealt}
 
@@ -50,11 +50,11 @@ module _ {B Y : Type 0} where
       let there = ap (total f) (row_set lists at list') in
       omega (arith, t, here, there, more)
 
-  module _ (gives : Y → ℕ → List Outcome → Op) (bodies : List Body) (releases : List (List ℕ)) (own : ℕ → ℕ) (id : TableId) (past : List Entry) (first : ℕ) where
+  module _ (gives : Y → ℕ → List Outcome → Op) (bodies : List Body) (releases : List (List ℕ)) (eager_jobs : ℕ → ℕ) (id : TableId) (past : List Entry) (first : ℕ) where
     abbrev Is : Member B Y → Type 0
-    Is = IsDealt gives bodies releases own id past first
+    Is = IsDealt gives bodies releases eager_jobs id past first
 
-    pub none_dealt : (lists : List (Row B Y)) → All (λ (l : Row B Y). l.items ≡ []) lists → AreDealt gives bodies releases own id past first (length releases) (rows lists)
+    pub none_dealt : (lists : List (Row B Y)) → All (λ (l : Row B Y). l.items ≡ []) lists → AreDealt gives bodies releases eager_jobs id past first (length releases) (rows lists)
     none_dealt lists empty = record {
       each = none_each lists empty;
       once = λ tx. omega (arith, none_count (members_at tx) refl lists empty);
@@ -75,7 +75,7 @@ module _ {B Y : Type 0} where
     -- one more member
     pub dealt_more : (left tx at : ℕ) (lists : List (Row B Y)) (list list' : Row B Y) (m : Member B Y) → left ≡ tx + 1 → at < length lists → list ≡ slice_index_or lists at list
         → list'.items ≡ list.items ++ m ∷ [] → Is m → m.seat ≡ newcomer id past first (Some (tx_of tx))
-        → AreDealt gives bodies releases own id past first left (rows lists) → AreDealt gives bodies releases own id past first tx (rows (set lists at list'))
+        → AreDealt gives bodies releases eager_jobs id past first left (rows lists) → AreDealt gives bodies releases eager_jobs id past first tx (rows (set lists at list'))
     dealt_more left tx at lists list list' m left_is lt is more dealt seat a = record {
       each =
           let was : All Is list.items = subst (All Is) (row_at lists at list lt is) (a.each at list.items (omega (arith, rows_long lists))) in
@@ -166,11 +166,11 @@ bodies_more all old new x left tx left_is lt is e =
     let parts : take left all ≡ take tx all ++ get_or all tx x ∷ [] = ap (λ (k : ℕ). take k all) left_is ∙ take_more all tx x lt in
     snoc_same new (take tx all) x (get_or all tx x) (sym e ∙ (is ∙ parts))
 
-pub is_dealt : {B Y : Type 0} (gives : Y → ℕ → List Outcome → Op) (bodies : List Y) (releases : List (List ℕ)) (own : ℕ → ℕ) (id : TableId) (past : List Entry) (first tx : ℕ) (m : Member B Y) (body : Y)
+pub is_dealt : {B Y : Type 0} (gives : Y → ℕ → List Outcome → Op) (bodies : List Y) (releases : List (List ℕ)) (eager_jobs : ℕ → ℕ) (id : TableId) (past : List Entry) (first tx : ℕ) (m : Member B Y) (body : Y)
     → tx < length releases → tx < length bodies → body ≡ get_or bodies tx body → m.seat ≡ newcomer id past first (Some (tx_of tx)) → gives m.task.body ≡ gives body
-    → m.jobs ≡ jobs_at own releases tx → m.eager ≡ nat_lt 0 (own tx)
-    → IsDealt gives (map gives bodies) releases own id past first m
-is_dealt gives bodies releases own id past first tx m body within some is seat gives_is jobs eager = record {
+    → m.jobs ≡ jobs_at eager_jobs releases tx → m.eager ≡ nat_lt 0 (eager_jobs tx)
+    → IsDealt gives (map gives bodies) releases eager_jobs id past first m
+is_dealt gives bodies releases eager_jobs id past first tx m body within some is seat gives_is jobs eager = record {
   tx = tx;
   within = within;
   seat = seat;

@@ -5,7 +5,7 @@ use Rattle.std.proofs.Math.Seq.{take-append_seam}
 use Rattle.txn_set.specs.Set.{Set}
 use Rattle.step_journal.specs.declared.entry.Entry.{Entry}
 use Rattle.step_journal.specs.History.{IsLegal}
-use Rattle.board.specs.Stories.{IsStory}
+use Rattle.board.specs.Histories.{IsHistory}
 use Rattle.law_histories.specs.Sim.{Body, Workload, plans, plans_from}
 use Rattle.sim_run.specs.Workloads.{workload, AreAccepted}
 use Rattle.sim_run.specs.Handed.{CanAppend, CanTake, IsHanded, IsCut}
@@ -31,7 +31,7 @@ handed_rest got got' entries left rest h = record {
 }
 
 -- what a new board handed on of the plans
-pub plans_handed : (set : Set) (room first : ℕ) (before plans kept : List Entry) (got got' : List Entry → Type 0) → IsStory set room first before [] → IsHanded got got' (before ++ plans) kept → IsHanded got got' plans kept
+pub plans_handed : (set : Set) (room first : ℕ) (before plans kept : List Entry) (got got' : List Entry → Type 0) → IsHistory set room first before [] → IsHanded got got' (before ++ plans) kept → IsHanded got got' plans kept
 plans_handed set room first before plans kept got got' is h = subst (λ (l : List Entry). IsHanded got got' (l ++ plans) kept) (nothing_kept set room first before is) h
 
 -- the plans of all releases alone are a run so far
@@ -40,8 +40,8 @@ no_entry : {X : Type 0} (more after : List X) (e : X) → [] ≡ more ++ e ∷ a
 no_entry [] after e is = cc
 no_entry (x ∷ more) after e is = cc
 
-pub plans_so_far : (w : Workload) (own : ℕ → ℕ) → IsLegal w.set (plans w) → IsRunSoFar w own (plans w)
-plans_so_far w own legal = record {
+pub plans_so_far : (w : Workload) (eager_jobs : ℕ → ℕ) → IsLegal w.set (plans w) → IsRunSoFar w eager_jobs (plans w)
+plans_so_far w eager_jobs legal = record {
   legal = legal;
   script_run = (begins w).script_run;
   rest = [];
@@ -51,37 +51,37 @@ plans_so_far w own legal = record {
 
 -- where a growth was refused
 
-pub cut_before : (w : Workload) (own : ℕ → ℕ) (got lost : List Entry → Type 0) → IsLegal w.set (plans w) → lost [] → IsShortRun w own got got lost
-cut_before w own got lost legal none =
-    record { history = plans w; so_far = plans_so_far w own legal; passed = 0; grown = λ story g. subst got (sym (append-nil story)) g; none_lost = none }
+pub cut_before : (w : Workload) (eager_jobs : ℕ → ℕ) (got lost : List Entry → Type 0) → IsLegal w.set (plans w) → lost [] → IsShortRun w eager_jobs got got lost
+cut_before w eager_jobs got lost legal none =
+    record { history = plans w; so_far = plans_so_far w eager_jobs legal; passed = 0; grown = λ had g. subst got (sym (append-nil had)) g; none_lost = none }
 
-pub cut_short : (w : Workload) (own : ℕ → ℕ) (got got' lost' : List Entry → Type 0) (kept : List Entry) → IsLegal w.set (plans w)
-    → IsHanded got got' (plans w) kept → lost' [] → IsShortRun w own got got' lost'
-cut_short w own got got' lost' kept legal h none =
+pub cut_short : (w : Workload) (eager_jobs : ℕ → ℕ) (got got' lost' : List Entry → Type 0) (kept : List Entry) → IsLegal w.set (plans w)
+    → IsHanded got got' (plans w) kept → lost' [] → IsShortRun w eager_jobs got got' lost'
+cut_short w eager_jobs got got' lost' kept legal h none =
     let front : take (length h.passed) (plans w) ≡ h.passed = ap (take (length h.passed)) h.parts ∙ take-append_seam h.passed kept in
     record {
       history = plans w;
-      so_far = plans_so_far w own legal;
+      so_far = plans_so_far w eager_jobs legal;
       passed = length h.passed;
-      grown = λ story g. subst (λ (l : List Entry). got' (story ++ l)) (sym front) (h.grown story g);
+      grown = λ had g. subst (λ (l : List Entry). got' (had ++ l)) (sym front) (h.grown had g);
       none_lost = none;
     }
 
 -- where the out stopped
-pub cut_run : (w : Workload) (own : ℕ → ℕ) (got got' lost' : List Entry → Type 0) (history : List Entry) → IsRunSoFar w own history → IsCut got got' lost' history → IsStoppedRun w own got got' lost'
-cut_run w own got got' lost' history so_far k =
+pub cut_run : (w : Workload) (eager_jobs : ℕ → ℕ) (got got' lost' : List Entry → Type 0) (history : List Entry) → IsRunSoFar w eager_jobs history → IsCut got got' lost' history → IsStoppedRun w eager_jobs got got' lost'
+cut_run w eager_jobs got got' lost' history so_far k =
     let c = cut_at history k in record { history = history; so_far = so_far; passed = c.passed; missed = c.missed; grown = c.grown; is_lost = c.is_lost }
 
 -- where all was handed on
-whole_run : (w : Workload) (own : ℕ → ℕ) (stands got got' : List Entry → Type 0) (story : List Entry) → IsRunOf w own story → stands story → IsHanded got got' story [] → IsWholeRun w own stands got got'
-whole_run w own stands got got' story run stood h = record {
-  history = story;
+whole_run : (w : Workload) (eager_jobs : ℕ → ℕ) (stands got got' : List Entry → Type 0) (history : List Entry) → IsRunOf w eager_jobs history → stands history → IsHanded got got' history [] → IsWholeRun w eager_jobs stands got got'
+whole_run w eager_jobs stands got got' history run stood h = record {
+  history = history;
   run = run;
   stood = stood;
   grown = λ s g. subst (λ (l : List Entry). got' (s ++ l)) (sym (h.parts ∙ append-nil h.passed)) (h.grown s g);
 }
 
-module _ (set set' : Set) (bodies : List Body) (releases : List (List ℕ)) (own : ℕ → ℕ) (es : set' ≡ set) where
+module _ (set set' : Set) (bodies : List Body) (releases : List (List ℕ)) (eager_jobs : ℕ → ℕ) (es : set' ≡ set) where
   -- what the out can take after the plans
   pub can_go_on : (got good got' good' : List Entry → Type 0) (kept : List Entry) → ((history : List Entry) → IsLegal set history → CanTake got good history)
       → ((s : List Entry) → good s → good' s) → IsHanded got got' (plans_from 0 releases) kept → CanGoOn (workload set' bodies releases) got' good' kept
@@ -91,35 +91,35 @@ module _ (set set' : Set) (bodies : List Body) (releases : List (List ℕ)) (own
 
   -- where the out stopped while the workers ran
   pub stopped_at_work : (got got' got'' lost'' : List Entry → Type 0) (kept : List Entry)
-      → IsHanded got got' (plans_from 0 releases) kept → WasCut (workload set' bodies releases) own got' got'' lost'' kept → IsStoppedRun (workload set bodies releases) own got got'' lost''
+      → IsHanded got got' (plans_from 0 releases) kept → WasCut (workload set' bodies releases) eager_jobs got' got'' lost'' kept → IsStoppedRun (workload set bodies releases) eager_jobs got got'' lost''
   stopped_at_work got got' got'' lost'' kept h c =
-      let story : List Entry = plans_from 0 releases ++ c.rest in
-      cut_run (workload set bodies releases) own got got'' lost'' story (subst (λ (q : Set). IsRunSoFar (workload q bodies releases) own story) es c.so_far)
-      (cut_then got got' got'' lost'' story (kept ++ c.rest) (handed_rest got got' (plans_from 0 releases) kept c.rest h) c.cut)
+      let history : List Entry = plans_from 0 releases ++ c.rest in
+      cut_run (workload set bodies releases) eager_jobs got got'' lost'' history (subst (λ (q : Set). IsRunSoFar (workload q bodies releases) eager_jobs history) es c.so_far)
+      (cut_then got got' got'' lost'' history (kept ++ c.rest) (handed_rest got got' (plans_from 0 releases) kept c.rest h) c.cut)
 
   -- after the workers
   handed_all : (stands got got' got'' : List Entry → Type 0) (kept left : List Entry) → IsHanded got got' (plans_from 0 releases) kept
-      → (a : HasWorked (workload set' bodies releases) own stands got' got'' kept left) → IsHanded got got'' (plans_from 0 releases ++ a.rest) left
+      → (a : HasWorked (workload set' bodies releases) eager_jobs stands got' got'' kept left) → IsHanded got got'' (plans_from 0 releases ++ a.rest) left
   handed_all stands got got' got'' kept left h a = handed_then got got' got'' (plans_from 0 releases ++ a.rest) (kept ++ a.rest) left (handed_rest got got' (plans_from 0 releases) kept a.rest h) a.handed
 
   pub can_append_left : (stands got good got' got'' good'' : List Entry → Type 0) (kept left : List Entry) → ((history : List Entry) → IsLegal set history → CanTake got good history)
-      → ((s : List Entry) → good s → good'' s) → IsHanded got got' (plans_from 0 releases) kept → HasWorked (workload set' bodies releases) own stands got' got'' kept left → CanAppend got'' good'' left
+      → ((s : List Entry) → good s → good'' s) → IsHanded got got' (plans_from 0 releases) kept → HasWorked (workload set' bodies releases) eager_jobs stands got' got'' kept left → CanAppend got'' good'' left
   can_append_left stands got good got' got'' good'' kept left can same h a =
-      let story : List Entry = plans_from 0 releases ++ a.rest in
-      take_all got'' good'' left (take_rest got good got'' good'' story left same (handed_all stands got got' got'' kept left h a) (can story (subst (λ (q : Set). IsLegal q story) es a.run.so_far.legal)))
+      let history : List Entry = plans_from 0 releases ++ a.rest in
+      take_all got'' good'' left (take_rest got good got'' good'' history left same (handed_all stands got got' got'' kept left h a) (can history (subst (λ (q : Set). IsLegal q history) es a.run.so_far.legal)))
 
   pub stopped_at_end : (stands got got' got'' got''' lost''' : List Entry → Type 0) (kept left : List Entry)
-      → IsHanded got got' (plans_from 0 releases) kept → HasWorked (workload set' bodies releases) own stands got' got'' kept left → IsCut got'' got''' lost''' left
-      → IsStoppedRun (workload set bodies releases) own got got''' lost'''
+      → IsHanded got got' (plans_from 0 releases) kept → HasWorked (workload set' bodies releases) eager_jobs stands got' got'' kept left → IsCut got'' got''' lost''' left
+      → IsStoppedRun (workload set bodies releases) eager_jobs got got''' lost'''
   stopped_at_end stands got got' got'' got''' lost''' kept left h a c =
-      let story : List Entry = plans_from 0 releases ++ a.rest in
-      cut_run (workload set bodies releases) own got got''' lost''' story (subst (λ (q : Set). IsRunSoFar (workload q bodies releases) own story) es a.run.so_far)
-      (cut_then got got'' got''' lost''' story left (handed_all stands got got' got'' kept left h a) c)
+      let history : List Entry = plans_from 0 releases ++ a.rest in
+      cut_run (workload set bodies releases) eager_jobs got got''' lost''' history (subst (λ (q : Set). IsRunSoFar (workload q bodies releases) eager_jobs history) es a.run.so_far)
+      (cut_then got got'' got''' lost''' history left (handed_all stands got got' got'' kept left h a) c)
 
-  pub ended_whole : (stands stands' got got' got'' got''' : List Entry → Type 0) (kept left : List Entry) → ((story : List Entry) → stands story → stands' story)
-      → IsHanded got got' (plans_from 0 releases) kept → HasWorked (workload set' bodies releases) own stands got' got'' kept left → IsHanded got'' got''' left []
-      → IsWholeRun (workload set bodies releases) own stands' got got'''
+  pub ended_whole : (stands stands' got got' got'' got''' : List Entry → Type 0) (kept left : List Entry) → ((history : List Entry) → stands history → stands' history)
+      → IsHanded got got' (plans_from 0 releases) kept → HasWorked (workload set' bodies releases) eager_jobs stands got' got'' kept left → IsHanded got'' got''' left []
+      → IsWholeRun (workload set bodies releases) eager_jobs stands' got got'''
   ended_whole stands stands' got got' got'' got''' kept left same h a last =
-      let story : List Entry = plans_from 0 releases ++ a.rest in
-      whole_run (workload set bodies releases) own stands' got got''' story (subst (λ (q : Set). IsRunOf (workload q bodies releases) own story) es a.run) (same story a.stood)
-      (handed_then got got'' got''' story left [] (handed_all stands got got' got'' kept left h a) last)
+      let history : List Entry = plans_from 0 releases ++ a.rest in
+      whole_run (workload set bodies releases) eager_jobs stands' got got''' history (subst (λ (q : Set). IsRunOf (workload q bodies releases) eager_jobs history) es a.run) (same history a.stood)
+      (handed_then got got'' got''' history left [] (handed_all stands got got' got'' kept left h a) last)

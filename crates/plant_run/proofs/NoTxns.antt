@@ -7,7 +7,7 @@ use Rattle.item_model.specs.declared.decl.ItemDecl.{ItemDecl}
 use Rattle.txn_set.specs.declared.decl.TxnDecl.{TxnDecl}
 use Rattle.txn_set.specs.Set.{IsCompiled}
 use Rattle.plant_run.specs.NoTxns.{set_of_none}
-use Rattle.plant_run.specs.Runs.{own_at}
+use Rattle.plant_run.specs.Runs.{eager_jobs_at}
 
 undated : (item : ℕ) → IsTrue (is_dated set_of_none.items item) → ⊥
 undated zero h = cc
@@ -38,7 +38,7 @@ pub of_none : (items : List ItemDecl) (txns : List TxnDecl) (together : List Tog
 of_none items txns together a b c = subst IsCompiled (λ i. record { items = sym a i; txns = sym b i; together = sym c i }) compiled_none
 
 -- of two transactions neither plans jobs itself
-pub none_of_two : (tx : ℕ) → own_at (0 ∷ 0 ∷ []) tx ≡ 0
+pub none_of_two : (tx : ℕ) → eager_jobs_at (0 ∷ 0 ∷ []) tx ≡ 0
 none_of_two zero = refl
 none_of_two (suc zero) = refl
 none_of_two (suc (suc tx)) = refl

@@ -43,22 +43,22 @@ pub record IsReserved {B Y : Type 0} (txs : ℕ) (c : Crew B Y) : Type 0 where
 
 -- how many jobs a transaction's member is to have: those that the transaction plans itself, or else those of its releases
 abbrev pub jobs_at : (ℕ → ℕ) → List (List ℕ) → ℕ → ℕ
-jobs_at own releases tx = if nat_lt 0 (own tx) then own tx else length (ticks_of releases tx)
+jobs_at eager_jobs releases tx = if nat_lt 0 (eager_jobs tx) then eager_jobs tx else length (ticks_of releases tx)
 
 -- A member before a run: at a transaction's new seat, with its body, and eager where the transaction plans jobs itself.
-pub record IsDealt {B Y : Type 0} (gives : Y → ℕ → List Outcome → Op) (bodies : List Body) (releases : List (List ℕ)) (own : ℕ → ℕ)
+pub record IsDealt {B Y : Type 0} (gives : Y → ℕ → List Outcome → Op) (bodies : List Body) (releases : List (List ℕ)) (eager_jobs : ℕ → ℕ)
     (id : TableId) (past : List Entry) (first : ℕ) (m : Member B Y) : Type 0 where
   pub tx : ℕ
   pub within : tx < length releases
   pub seat : m.seat ≡ newcomer id past first (Some (tx_of tx))
   pub gives_is : gives m.task.body ≡ body_of bodies tx
-  pub jobs : m.jobs ≡ jobs_at own releases tx
-  pub eager : m.eager ≡ nat_lt 0 (own tx)
+  pub jobs : m.jobs ≡ jobs_at eager_jobs releases tx
+  pub eager : m.eager ≡ nat_lt 0 (eager_jobs tx)
 
 -- Of each transaction from `left` on one member is in one of the teams, and no other member is.
-pub record AreDealt {B Y : Type 0} (gives : Y → ℕ → List Outcome → Op) (bodies : List Body) (releases : List (List ℕ)) (own : ℕ → ℕ)
+pub record AreDealt {B Y : Type 0} (gives : Y → ℕ → List Outcome → Op) (bodies : List Body) (releases : List (List ℕ)) (eager_jobs : ℕ → ℕ)
     (id : TableId) (past : List Entry) (first left : ℕ) (teams : List (List (Member B Y))) : Type 0 where
-  pub each : All (All (IsDealt gives bodies releases own id past first)) teams
+  pub each : All (All (IsDealt gives bodies releases eager_jobs id past first)) teams
   pub once : (tx : ℕ) → total (members_at tx) teams + below tx left ≡ below tx (length releases)
   pub count : total length teams + left ≡ length releases
 

@@ -4,7 +4,7 @@ ghost use Rattle.std.specs.Prelude.{List as Many};
 ghost use Rattle.step_journal.specs.declared.entry.Entry.{Entry as Noted};
 ghost use Rattle.shared_plant.specs.Seats.{TableId, newcomers};
 ghost use Rattle.plant_run.specs.Deals.{AreDealt, HavePlaces, IsReserved, jobs_at, team_of};
-ghost use Rattle.plant_run.specs.Runs.{own_at};
+ghost use Rattle.plant_run.specs.Runs.{eager_jobs_at};
 
 use board::Board;
 use rt_base::{List, OutOfMemory, Tick};
@@ -44,20 +44,20 @@ impl<B: Board, Y: Body + Drop> Crew<B, Y> {
         seats: &mut Vec<Seat<B>>,
         bodies: Vec<Y>,
         releases: &[List<Tick>],
-        own: &[u32],
+        eager_jobs: &[u32],
     ) -> Vec<Worker<B, Y>>
         requires reserved { IsReserved (length releases.now) self }
-        requires each { (length bodies.items ≡ length releases.now) × (vec_len seats.old ≡ length releases.now) × (length own.now ≡ length releases.now) }
+        requires each { (length bodies.items ≡ length releases.now) × (vec_len seats.old ≡ length releases.now) × (length eager_jobs.now ≡ length releases.now) }
         requires few { All (λ ticks. length ticks < 2 ^ 32) releases.now }
         ensures dealt { (id : TableId) (past : Many Noted) (first : ℕ) → seats.old.items ≡ newcomers id past first (length releases.now) →
-            AreDealt Y.gives (map Y.gives bodies.items) releases.now (own_at own.now) id past first 0 (map (λ w. team_of w) result.items) }
+            AreDealt Y.gives (map Y.gives bodies.items) releases.now (eager_jobs_at eager_jobs.now) id past first 0 (map (λ w. team_of w) result.items) }
         ensures seats { (seats.new.items ≡ []) × (vec_capacity seats.new ≡ vec_capacity seats.old) }
     {
         let Crew {
             mut lists,
             mut workers,
         } = self;
-        deal(seats, bodies, releases, own, lists.as_mut_slice());
+        deal(seats, bodies, releases, eager_jobs, lists.as_mut_slice());
         staff(lists, &mut workers);
         workers
     }
@@ -85,15 +85,15 @@ fn empty_lists<B: Board, Y: Body + Drop>(
 }
 
 // How many jobs the member of a transaction is to have, and whether it plans them itself.
-fn jobs_of(releases: &[List<Tick>], own: &[u32], tx: usize) -> (u32, bool)
-    requires within { (tx < length releases.now) × (length own.now ≡ length releases.now) }
+fn jobs_of(releases: &[List<Tick>], eager_jobs: &[u32], tx: usize) -> (u32, bool)
+    requires within { (tx < length releases.now) × (length eager_jobs.now ≡ length releases.now) }
     requires few { All (λ ticks. length ticks < 2 ^ 32) releases.now }
-    ensures jobs { result.0 ≡ jobs_at (own_at own.now) releases.now tx }
-    ensures eager { result.1 ≡ nat_lt 0 (own_at own.now tx) }
+    ensures jobs { result.0 ≡ jobs_at (eager_jobs_at eager_jobs.now) releases.now tx }
+    ensures eager { result.1 ≡ nat_lt 0 (eager_jobs_at eager_jobs.now tx) }
 {
-    let own_jobs = own[tx];
-    if 0 < own_jobs {
-        return (own_jobs, true);
+    let count = eager_jobs[tx];
+    if 0 < count {
+        return (count, true);
     }
     (releases[tx].as_slice().len() as u32, false)
 }
@@ -104,16 +104,16 @@ fn deal<B: Board, Y: Body + Drop>(
     seats: &mut Vec<Seat<B>>,
     bodies: Vec<Y>,
     releases: &[List<Tick>],
-    own: &[u32],
+    eager_jobs: &[u32],
     lists: &mut [Vec<Member<B, Y>>],
 )
-    requires each { (length bodies.items ≡ length releases.now) × (vec_len seats.old ≡ length releases.now) × (length own.now ≡ length releases.now) }
+    requires each { (length bodies.items ≡ length releases.now) × (vec_len seats.old ≡ length releases.now) × (length eager_jobs.now ≡ length releases.now) }
     requires few { All (λ ticks. length ticks < 2 ^ 32) releases.now }
     requires some { 0 < length lists.old }
     requires places { HavePlaces (length releases.now) lists.old }
     requires empty { All (λ l. l.items ≡ []) lists.old }
     ensures dealt { (id : TableId) (past : Many Noted) (first : ℕ) → seats.old.items ≡ newcomers id past first (length releases.now) →
-        AreDealt Y.gives (map Y.gives bodies.items) releases.now (own_at own.now) id past first 0 (map (λ l. l.items) lists.new) }
+        AreDealt Y.gives (map Y.gives bodies.items) releases.now (eager_jobs_at eager_jobs.now) id past first 0 (map (λ l. l.items) lists.new) }
     ensures seats { (seats.new.items ≡ []) × (vec_capacity seats.new ≡ vec_capacity seats.old) }
 {
     let mut bodies = bodies;
@@ -122,7 +122,7 @@ fn deal<B: Board, Y: Body + Drop>(
         let tx = txs - 1 - dealt;
         let seat = seats.pop().unwrap();
         let body = bodies.pop().unwrap();
-        let (jobs, eager) = jobs_of(releases, own, tx);
+        let (jobs, eager) = jobs_of(releases, eager_jobs, tx);
         let at = tx % lists.len();
         let list = &mut lists[at];
         list.push_reserved(Member::new(seat, body, jobs, eager));

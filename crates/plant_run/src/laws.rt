@@ -1,13 +1,13 @@
 //! Laws of boards, and of runs where no transaction is eager.
-ghost use Rattle.plant_run.specs.Works.{StoriesAre};
+ghost use Rattle.plant_run.specs.Works.{HistoriesAre};
 ghost use Rattle.plant_run.specs.Runs.{FixedArePlannable, WholeIsSim, StoppedIsSim, ShortIsSim};
 
 use board::Board;
 use sim_run::EntryOut;
 
 // What a board stands for is legal, and what it keeps is the last part.
-pub(crate) fn stories_are<B: Board>()
-    ensures { StoriesAre B.stands B.set B.room B.first B.kept }
+pub(crate) fn histories_are<B: Board>()
+    ensures { HistoriesAre B.stands B.set B.room B.first B.kept }
 {}
 
 /// Where no transaction plans jobs itself, accepted releases of a compiled set are all that is to be planned, and a whole

@@ -1,6 +1,6 @@
 //! What is run.
 ghost use Rattle.std.specs.Prelude.{◌≡◌, ℕ, ◌<◌, true, false};
-ghost use Rattle.plant_run.specs.Ready.{own_in};
+ghost use Rattle.plant_run.specs.Ready.{eager_jobs_in};
 
 use rt_base::{List, Tick};
 use sim_run::Workers;
@@ -15,7 +15,7 @@ pub struct Run<'a, B, Y> {
     /// The ticks of each transaction's releases.
     pub ticks: &'a [List<Tick>],
     /// How many jobs each transaction plans itself, which has no release then; 0 where it is not eager.
-    pub own: &'a [u32],
+    pub eager_jobs: &'a [u32],
     pub workers: Workers,
     /// A place for all entries that the board keeps; it holds none.
     pub spare: Vec<Entry>,
@@ -24,10 +24,10 @@ pub struct Run<'a, B, Y> {
 impl<B, Y> Run<'_, B, Y> {
     /// Whether no transaction plans a job itself. It looks at each of them.
     pub fn is_fixed(&self) -> bool
-        ensures fixed { result ≡ true → (tx : ℕ) → own_in self.now tx ≡ 0 }
-        ensures eager { result ≡ false → (tx : ℕ) × (0 < own_in self.now tx) }
+        ensures fixed { result ≡ true → (tx : ℕ) → eager_jobs_in self.now tx ≡ 0 }
+        ensures eager { result ≡ false → (tx : ℕ) × (0 < eager_jobs_in self.now tx) }
     {
-        for jobs in self.own {
+        for jobs in self.eager_jobs {
             if *jobs > 0 {
                 return false;
             }

@@ -6,12 +6,12 @@ ghost use Rattle.step_journal.specs.declared.entry.Entry.{Entry as Noted};
 ghost use Rattle.step_journal.specs.History.{IsLegal};
 ghost use Rattle.sim_run.specs.Outs.{StaysGood, LosesNone};
 ghost use Rattle.sim_run.specs.Handed.{CanTake};
-ghost use Rattle.plant_run.specs.Ready.{CanRun, workload_in, own_in};
+ghost use Rattle.plant_run.specs.Ready.{CanRun, workload_in, eager_jobs_in};
 ghost use Rattle.plant_run.specs.Runs.{IsHandedBack, IsWholeRun, IsStoppedRun, IsShortRun};
 
 use crate::alone::run_alone;
 use crate::deal::Crew;
-use crate::laws::stories_are;
+use crate::laws::histories_are;
 use crate::run::Run;
 use crate::work::{Staffed, work};
 use board::Board;
@@ -43,11 +43,11 @@ pub fn run_workers<
     requires ready { CanRun B.stands B.set B.room Y.gives run }
     requires nothing_lost { O.lost out.old [] }
     requires good { (history : Many Noted) → IsLegal (B.set run.board) history → CanTake (O.got out.old) (O.good out.old) history }
-    ensures whole { IfOk result (λ b. IsWholeRun (workload_in B.set Y.gives run.entry) (own_in run.entry) (B.stands b) (O.got out.old) (O.got out.new)) }
+    ensures whole { IfOk result (λ b. IsWholeRun (workload_in B.set Y.gives run.entry) (eager_jobs_in run.entry) (B.stands b) (O.got out.old) (O.got out.new)) }
     ensures left { IfOk result (λ b. IsHandedBack B.kept B.set B.room run.entry.board b) }
     ensures none_lost { LosesNone O.lost out.new result }
-    ensures stopped { IsErrOf result RunFault.Writing → IsStoppedRun (workload_in B.set Y.gives run.entry) (own_in run.entry) (O.got out.old) (O.got out.new) (O.lost out.new) }
-    ensures short { IsErrOf result RunFault.Memory → IsShortRun (workload_in B.set Y.gives run.entry) (own_in run.entry) (O.got out.old) (O.got out.new) (O.lost out.new) }
+    ensures stopped { IsErrOf result RunFault.Writing → IsStoppedRun (workload_in B.set Y.gives run.entry) (eager_jobs_in run.entry) (O.got out.old) (O.got out.new) (O.lost out.new) }
+    ensures short { IsErrOf result RunFault.Memory → IsShortRun (workload_in B.set Y.gives run.entry) (eager_jobs_in run.entry) (O.got out.old) (O.got out.new) (O.lost out.new) }
     ensures cause { IsErrOf result RunFault.Writing → Rose (O.stops out.old) (O.stops out.new) }
     ensures later { O.stops out.old ≤ O.stops out.new }
     ensures good { StaysGood O.good out.old out.new }
@@ -55,12 +55,12 @@ pub fn run_workers<
     if run.workers.get() == 1 && run.is_fixed() {
         return run_alone(alloc, run, gate, out);
     }
-    stories_are::<B>();
+    histories_are::<B>();
     let Run {
         mut board,
         bodies,
         ticks,
-        own,
+        eager_jobs,
         workers,
         spare,
     } = run;
@@ -70,7 +70,7 @@ pub fn run_workers<
         board,
         bodies,
         ticks,
-        own,
+        eager_jobs,
         workers,
         spare,
     };

@@ -7,11 +7,11 @@ ghost use Rattle.law_histories.specs.Sim.{plans_from};
 ghost use Rattle.sim_run.specs.Boards.{IsFixed};
 ghost use Rattle.plant_run.specs.Deals.{IsReserved};
 ghost use Rattle.plant_run.specs.Works.{HasWorked, WasCut, CanGoOn};
-ghost use Rattle.plant_run.specs.Ready.{IsPlanned, workload_in, own_in};
+ghost use Rattle.plant_run.specs.Ready.{IsPlanned, workload_in, eager_jobs_in};
 
 use crate::deal::Crew;
 use crate::gather::shut;
-use crate::laws::stories_are;
+use crate::laws::histories_are;
 use crate::run::Run;
 use board::Board;
 use law_runs::{closed_so_far, closed_whole, never_unplanned, no_refusal};
@@ -78,28 +78,28 @@ pub(crate) fn work<
     requires crew { IsReserved (length staffed.run.ticks.now) staffed.crew }
     requires nothing_lost { O.lost out.old [] }
     requires good { CanGoOn (workload_in B.set Y.gives staffed.run) (O.got out.old) (O.good out.old) (B.kept staffed.run.board) }
-    ensures worked { IfOk result (λ b. HasWorked (workload_in B.set Y.gives staffed.entry.run) (own_in staffed.entry.run) (B.stands b) (O.got out.old) (O.got out.new) (B.kept staffed.entry.run.board) (B.kept b)) }
+    ensures worked { IfOk result (λ b. HasWorked (workload_in B.set Y.gives staffed.entry.run) (eager_jobs_in staffed.entry.run) (B.stands b) (O.got out.old) (O.got out.new) (B.kept staffed.entry.run.board) (B.kept b)) }
     ensures fixed { IfOk result (λ b. IsFixed B.set B.room staffed.entry.run.board b) }
     ensures none_lost { LosesNone O.lost out.new result }
-    ensures cut { IsErrOf result RunFault.Writing → WasCut (workload_in B.set Y.gives staffed.entry.run) (own_in staffed.entry.run) (O.got out.old) (O.got out.new) (O.lost out.new) (B.kept staffed.entry.run.board) }
+    ensures cut { IsErrOf result RunFault.Writing → WasCut (workload_in B.set Y.gives staffed.entry.run) (eager_jobs_in staffed.entry.run) (O.got out.old) (O.got out.new) (O.lost out.new) (B.kept staffed.entry.run.board) }
     ensures memory { IsErrOf result RunFault.Memory → out.new ≡ out.old }
     ensures cause { IsErrOf result RunFault.Writing → Rose (O.stops out.old) (O.stops out.new) }
     ensures later { O.stops out.old ≤ O.stops out.new }
     ensures good { StaysGood O.good out.old out.new }
 {
-    stories_are::<B>();
+    histories_are::<B>();
     let Staffed { run, crew } = staffed;
     let Run {
         board,
         bodies,
         ticks,
-        own,
+        eager_jobs,
         workers: _,
         spare,
     } = run;
     let (plant, mut seats) = start(alloc, board, ticks)?;
     let operator = seats.pop().unwrap();
-    let mut workers = crew.hire(&mut seats, bodies, ticks, own);
+    let mut workers = crew.hire(&mut seats, bodies, ticks, eager_jobs);
     let mut drain = Drain { operator, spare };
     let ran = run_all(rt, &plant, workers.as_mut_slice(), &mut drain, gate, out);
     let Drain { operator, spare: _ } = drain;

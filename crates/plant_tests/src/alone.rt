@@ -126,7 +126,7 @@ fn count_of_same(
     if same? { Ok(Some(count)) } else { Ok(None) }
 }
 
-// The same of so many jobs of the fast transaction and of the slow one.
+// How many entries a run of so many fast and slow jobs has; None where a board that keeps them notes others.
 fn same_entries(
     alloc: Global,
     computes: (bool, bool),

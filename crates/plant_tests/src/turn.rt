@@ -20,7 +20,7 @@ impl Storied for Diary {
 
     type Fixed = ();
 
-    ghost stands = { λ d story. (length story ≡ d.gone + length d.kept.items) × (drop d.gone story ≡ d.kept.items) };
+    ghost stands = { λ d history. (length history ≡ d.gone + length d.kept.items) × (drop d.gone history ≡ d.kept.items) };
 
     ghost fixed = { λ d. tt };
 
@@ -51,7 +51,7 @@ impl Diary {
 
     fn forget(&mut self) -> u64
         ensures gone { self.new.gone ≡ self.old.gone + result }
-        ensures stands { (story : List ℕ) → length story ≡ self.old.gone + length self.old.kept.items → (length story ≡ self.new.gone + length self.new.kept.items) × (drop self.new.gone story ≡ self.new.kept.items) }
+        ensures stands { (history : List ℕ) → length history ≡ self.old.gone + length self.old.kept.items → (length history ≡ self.new.gone + length self.new.kept.items) × (drop self.new.gone history ≡ self.new.kept.items) }
     {
         let count = self.kept.len() as u64;
         self.kept.clear();
@@ -62,7 +62,7 @@ impl Diary {
 
 type Writer = TurnSeat<Diary>;
 
-/// The story of a new diary.
+/// The history of a new diary.
 struct NoNote;
 
 impl Past<u8> for NoNote {
@@ -73,7 +73,7 @@ impl Past<u8> for NoNote {
 fn write(cell: &TurnCell<Diary>, seat: &mut Writer, taken: Taken<Diary>, note: u8) -> bool
     requires cell { seat.old.cell ≡ cell.now.id }
     requires turn { seat.old.view.holds ≡ true }
-    requires story { (length seat.old.view.seen ≡ taken.value.gone + length taken.value.kept.items) × (drop taken.value.gone seat.old.view.seen ≡ taken.value.kept.items) }
+    requires history { (length seat.old.view.seen ≡ taken.value.gone + length taken.value.kept.items) × (drop taken.value.gone seat.old.view.seen ≡ taken.value.kept.items) }
     requires first { taken.value.gone ≡ counted seat.old.view }
     ensures cell { (seat.new.cell ≡ seat.old.cell) × (seat.new.view.holds ≡ false) }
 {

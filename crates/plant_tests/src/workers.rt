@@ -4,7 +4,7 @@ ghost use Rattle.std.specs.Prelude.{◌≡◌, ℕ, ◌<◌, ◌≤◌, [], leng
 ghost use Rattle.sim_run.specs.Workloads.{workload, ticks_of, AreAccepted};
 ghost use Rattle.law_runs.specs.Plannable.{ArePlannable};
 ghost use Rattle.plant_run.specs.Ready.{CanRun};
-ghost use Rattle.plant_run.specs.Runs.{own_at};
+ghost use Rattle.plant_run.specs.Runs.{eager_jobs_at};
 ghost use Rattle.plant_run.specs.EagerSlow.{fast_releases};
 ghost use Rattle.plain_core.specs.Stands.{Stands};
 ghost use Rattle.sim_run.specs.Steady.{steady_op, steady_set as set_of_two};
@@ -96,12 +96,12 @@ fn run_of<'a>(
     alloc: Global,
     workers: Workers,
     releases: &'a [List<Tick>],
-    own: &'a [u32],
+    eager_jobs: &'a [u32],
 ) -> Result<Run<'a, PlainCore, Steady>, OutOfMemory>
     requires accepted { AreAccepted set_of_two releases.now }
-    requires each { length own.now ≡ 2 }
-    requires eager { (tx : ℕ) → 0 < own_at own.now tx → ticks_of releases.now tx ≡ [] }
-    requires plannable { ArePlannable (workload set_of_two [] releases.now) (own_at own.now) }
+    requires each { length eager_jobs.now ≡ 2 }
+    requires eager { (tx : ℕ) → 0 < eager_jobs_at eager_jobs.now tx → ticks_of releases.now tx ≡ [] }
+    requires plannable { ArePlannable (workload set_of_two [] releases.now) (eager_jobs_at eager_jobs.now) }
     ensures { IfOk result (λ r. CanRun Stands (λ c. c.set) (λ c. c.journal.room) (λ b serial outcomes. steady_op b.computes) r) }
 {
     let spare = spare(alloc)?;
@@ -112,7 +112,7 @@ fn run_of<'a>(
         board: new_board(alloc, ROOM)?,
         bodies,
         ticks: releases,
-        own,
+        eager_jobs,
         workers,
         spare,
     })
@@ -124,20 +124,20 @@ fn by_workers<R: Threads + Wait + Sync>(
     alloc: Global,
     workers: Workers,
     releases: &[List<Tick>],
-    own: &[u32],
+    eager_jobs: &[u32],
     most: usize,
 ) -> Result<(Result<(), RunFault>, Vec<Entry>), OutOfMemory>
     requires accepted { AreAccepted set_of_two releases.now }
-    requires each { length own.now ≡ 2 }
-    requires eager { (tx : ℕ) → 0 < own_at own.now tx → ticks_of releases.now tx ≡ [] }
-    requires plannable { ArePlannable (workload set_of_two [] releases.now) (own_at own.now) }
+    requires each { length eager_jobs.now ≡ 2 }
+    requires eager { (tx : ℕ) → 0 < eager_jobs_at eager_jobs.now tx → ticks_of releases.now tx ≡ [] }
+    requires plannable { ArePlannable (workload set_of_two [] releases.now) (eager_jobs_at eager_jobs.now) }
 {
     let out = FewEntries::new(alloc, 20000, most)?;
-    let run = run_of(alloc, workers, releases, own)?;
+    let run = run_of(alloc, workers, releases, eager_jobs)?;
     Ok(told(rt, alloc, run, out))
 }
 
-// The same where no transaction plans its jobs itself.
+// What a run by workers answers, and its entries, where no transaction plans its jobs itself.
 fn none_eager<R: Threads + Wait + Sync>(
     rt: &R,
     alloc: Global,
@@ -150,7 +150,7 @@ fn none_eager<R: Threads + Wait + Sync>(
     by_workers(rt, alloc, workers, releases, &[0u32, 0], most)
 }
 
-// The same of so many jobs of the fast transaction and of the slow one.
+// What a run by workers of so many fast and slow jobs answers, and its entries.
 fn of_fixed<R: Threads + Wait + Sync>(
     rt: &R,
     alloc: Global,
@@ -259,7 +259,7 @@ fn of_none<R: Threads + Wait + Sync>(
         board: board_of_none(alloc)?,
         bodies: Vec::<Steady>::new(alloc),
         ticks: &[],
-        own: &[],
+        eager_jobs: &[],
         workers,
         spare,
     };

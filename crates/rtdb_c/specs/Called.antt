@@ -1,7 +1,7 @@
 -- A call by a handle: `closed` where it is closed and stays so, and else `call` of the core before and after.
 use Rattle.std.specs.Prelude.{◌≡◌, ℕ, List, length, Option, None, Some}
 use Rattle.step_journal.specs.declared.entry.Entry.{Entry}
-use Rattle.board.specs.Stories.{now_of, planned_of}
+use Rattle.board.specs.Histories.{now_of, planned_of}
 use Rattle.lock_core.specs.Stands.{Stands}
 use Rattle.c_core.specs.Open.{OpenSeen}
 use Rattle.c_core.specs.declared.tables.Tables.{Tables}
@@ -25,7 +25,7 @@ ToldWhyNotTried tables room status form = (e : Refused) × WhyNotTried tables ro
 pub record IsNowOf (status tick : ℕ) (s t : OpenSeen) : Type 0 where
   pub same : t ≡ s
   pub status_is : status ≡ 0
-  pub now : (story : List Entry) → Stands s.board story → tick ≡ now_of s.board.set story
+  pub now : (history : List Entry) → Stands s.board history → tick ≡ now_of s.board.set history
 
 pub record IsKeptOf (status count drained : ℕ) (s t : OpenSeen) : Type 0 where
   pub same : t ≡ s
@@ -36,4 +36,4 @@ pub record IsKeptOf (status count drained : ℕ) (s t : OpenSeen) : Type 0 where
 pub record IsPlannedOf (status count : ℕ) (s t : OpenSeen) : Type 0 where
   pub same : t ≡ s
   pub status_is : status ≡ 0
-  pub planned : (story : List Entry) → Stands s.board story → count ≡ planned_of s.board.set story
+  pub planned : (history : List Entry) → Stands s.board history → count ≡ planned_of s.board.set history

@@ -69,7 +69,7 @@ fn opened(alloc: Global, tables: &Tables, room: usize) -> Result<Box<CheckedCore
     boxed(alloc, CheckedCore::open(alloc, tables, room)?)
 }
 
-// The same of a set that is not to be admitted.
+// A core over the set of these tables, which need not be admitted, in a box.
 fn opened_trial(alloc: Global, tables: &Tables, room: usize) -> Result<Box<CheckedCore>, Refused>
     ensures opened { IfOk result (λ b. OpenedTrial tables.now room b.value) }
     ensures refused { IfErr result (WhyNotTried tables.now room) }

@@ -72,7 +72,7 @@ good_ok one again true (Some file) (Some input) new status text good j =
     let can : CanJournal file input = good.1 in
     let s : Shown = can.is_read.is_read.scenario in
     journaled_ok one again s file status text can.front
-    (unhurried_goes (Journaled s (Some file)) s.names (first_eager s) status text can.calm
+    (unhurried_goes (Journaled s (Some file)) s.names (first_eager s) status text can.without_eager
     (admitted_ok (λ (q : Shown). Unhurried (Journaled q (Some file)) q.names (first_eager q)) input status text can.is_read good.0
     (asked_of_all (λ (q : Shown). JournalReply q (Some file)) input new status text good.0 j)))
 

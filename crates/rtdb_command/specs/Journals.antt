@@ -97,7 +97,7 @@ pub record HasFront (s : Shown) (file : List ℕ) : Type 0 where
 -- the scenario is read and admitted, has no eager transaction, and the disk is empty or has the first entries of its run
 pub record CanJournal (file : List ℕ) (input : List ℕ) : Type 0 where
   pub is_read : IsReadAdmitted input
-  pub calm : first_eager is_read.is_read.scenario ≡ None
+  pub without_eager : first_eager is_read.is_read.scenario ≡ None
   pub front : HasFront is_read.is_read.scenario file
 
 -- a source and a disk that tell such an input and such a file

@@ -37,7 +37,7 @@ fn put_pieces<O: EntryOut>(out: &mut O, entries: &[Entry], size: usize) -> Resul
     Ok(())
 }
 
-// The same, for an out as it was made.
+// Puts all entries, so many at a time, to an out that has got none.
 fn put_all<K: Sink, T: Reported>(
     out: &mut ReportOut<K, T>,
     set: &CompiledSet,

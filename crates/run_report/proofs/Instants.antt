@@ -34,13 +34,13 @@ now_moved set s next (Idle from to) m = ap (λ (t : State). t.now) m.next_is ∙
 pub now_next : (set : Set) (entries : List Entry) (i : ℕ) (d : Entry) → i < length entries → IsLegal set entries
     → (state_of set (take (i + 1) entries)).now ≡ instant_after (state_of set (take i entries)).now (get_or entries i d)
 now_next set entries i d lt legal =
-    let story : List Entry = take i entries in
+    let history : List Entry = take i entries in
     let e : Entry = get_or entries i d in
-    let s : State = state_of set story in
+    let s : State = state_of set history in
     ap (λ (l : List Entry). (state_of set l).now) (take_more entries i d lt)
-    ∙ ap (λ (t : State). t.now) (state_next set story e)
+    ∙ ap (λ (t : State). t.now) (state_next set history e)
     ∙ now_moved set s (state_after set s e) e
-    (moves set s e (next_legal set story e (fronts.next_legal set entries i d lt legal)))
+    (moves set s e (next_legal set history e (fronts.next_legal set entries i d lt legal)))
 
 pub now_low : (set : Set) (entries : List Entry) (i : ℕ) (d : Entry) (now : ℕ) → TimeIsBounded → IsCompiled set → i < length entries
     → IsLegal set entries → now ≡ (state_of set (take i entries)).now → instant_after now (get_or entries i d) < 2 ^ 64

@@ -139,11 +139,11 @@ pub end_stops : (test : Test) → Word (codes "end") test → Stops (first_word 
 end_stops test passes = first_passes test (codes "end") [] (lacks_test 32 (codes "end") refl) tt passes
 
 -- ceilings, bounds and ages in mode admitted, entries, jobs and last items
-pub record AreParts (kind : Kind) (names : Names) (story : List Entry) (c b a e j f : List ℕ) : Type 0 where
+pub record AreParts (kind : Kind) (names : Names) (history : List Entry) (c b a e j f : List ℕ) : Type 0 where
   pub ceilings : IsSection (Word (codes "ceiling")) (section_form Ceilings kind names) c
   pub bounds : kind.admitted ≡ true → IsSection (Word (codes "bound")) (section_form Bounds kind names) b
   pub ages : kind.admitted ≡ true → IsSection (Word (codes "age")) (section_form Ages kind names) a
   pub entries : IsSection EntryWords (entry_form kind.second names) e
-  pub read : (rest : List ℕ) → front (entry_form kind.second names) (lines_of (e ++ rest)).0 ≡ story ++ front (entry_form kind.second names) (lines_of rest).0
+  pub read : (rest : List ℕ) → front (entry_form kind.second names) (lines_of (e ++ rest)).0 ≡ history ++ front (entry_form kind.second names) (lines_of rest).0
   pub jobs : IsSection (Word (codes "job")) (section_form Jobs kind names) j
   pub finals : IsSection (Word (codes "final")) (section_form Finals kind names) f

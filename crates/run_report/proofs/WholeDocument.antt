@@ -14,7 +14,7 @@ use Rattle.run_report.proofs.Forms.{first_word}
 use Rattle.run_report.proofs.Entries.{EntryWords}
 use Rattle.run_report.proofs.Sections.{Test, Word, other_than, no_entry, first_stops, stays, end_stops, ceiling_leaves, bound_leaves, age_leaves, job_leaves, final_leaves, entry_leaves, AreParts}
 
-module _ (kind : Kind) (names : Names) (story : List Entry) (c b a e j f : List ℕ) (parts : AreParts kind names story c b a e j f) where
+module _ (kind : Kind) (names : Names) (history : List Entry) (c b a e j f : List ℕ) (parts : AreParts kind names history c b a e j f) where
   abbrev ending : List ℕ
   ending = codes "end\n"
 
@@ -115,10 +115,10 @@ module _ (kind : Kind) (names : Names) (story : List Entry) (c b a e j f : List 
       ap (λ (l : List (List ℕ)). after (section_form Finals kind names) (after (section_form Jobs kind names) l)) entries_over
       ∙ ap (after (section_form Finals kind names)) jobs_over ∙ finals_over
 
-  all_read : front (entry_form kind.second names) (lines_of told).0 ≡ story
+  all_read : front (entry_form kind.second names) (lines_of told).0 ≡ history
   all_read =
-      parts.read from_jobs ∙ ap (λ (l : List Entry). story ++ l) (stop_front (entry_form kind.second names) from_jobs entries_stop)
-      ∙ append-nil story
+      parts.read from_jobs ∙ ap (λ (l : List Entry). history ++ l) (stop_front (entry_form kind.second names) from_jobs entries_stop)
+      ∙ append-nil history
 
   no_more : (lines_of following).1 ≡ []
   no_more =
@@ -135,7 +135,7 @@ module _ (kind : Kind) (names : Names) (story : List Entry) (c b a e j f : List 
   made head n = record {
     head = head;
     second = kind.second;
-    entries = story;
+    entries = history;
     first = number_in n (lines_of following).0 (lines_of told).0;
   }
 
@@ -146,7 +146,7 @@ module _ (kind : Kind) (names : Names) (story : List Entry) (c b a e j f : List 
       let lines : List (List ℕ) = (lines_of following).0 in
       let from : from_entries kind head.names lines ≡ (lines_of told).0 = ap (λ (m : Names). from_entries kind m lines) is ∙ to_entries in
       let left : after_parts kind head.names (lines_of told).0 ≡ codes "end" ∷ [] = ap (λ (m : Names). after_parts kind m (lines_of told).0) is ∙ to_end in
-      let read : front (entry_form kind.second head.names) (lines_of told).0 ≡ story = ap (λ (m : Names). front (entry_form kind.second m) (lines_of told).0) is ∙ all_read in
+      let read : front (entry_form kind.second head.names) (lines_of told).0 ≡ history = ap (λ (m : Names). front (entry_form kind.second m) (lines_of told).0) is ∙ all_read in
       ap (λ (l : List (List ℕ)). document_from head kind n lines (lines_of following).1 l (after_parts kind head.names l)) from
       ∙ ap (λ (l : List (List ℕ)). document_from head kind n lines (lines_of following).1 (lines_of told).0 l) left
       ∙ ap (λ (l : List ℕ). document_from head kind n lines l (lines_of told).0 (codes "end" ∷ [])) no_more

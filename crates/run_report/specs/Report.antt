@@ -39,16 +39,16 @@ pub record Writes (names : Names) (rows : RowsSeen) (entry : Entry) : Type 0 whe
 -- the entries go on after a history that the rows follow, of no more jobs than there are places
 pub record Continues (names : Names) (rows : RowsSeen) (entries : List Entry) : Type 0 where
   pub set : Set
-  pub story : List Entry
+  pub history : List Entry
   pub one_each : NamesSet names set
-  pub follows : Follows set rows story
-  pub legal : IsLegal set (story ++ entries)
-  pub few : planned_jobs (story ++ entries) ≤ rows.room
+  pub follows : Follows set rows history
+  pub legal : IsLegal set (history ++ entries)
+  pub few : planned_jobs (history ++ entries) ≤ rows.room
 
 -- a history that the rows follow, of a set with these names, and its last items
 pub record Closes (names : Names) (rows : RowsSeen) (items : List Stored) : Type 0 where
   pub set : Set
-  pub story : List Entry
-  pub follows : Follows set rows story
+  pub history : List Entry
+  pub follows : Follows set rows history
   pub one_each : NamesSet names set
-  pub last : items ≡ (state_of set story).items
+  pub last : items ≡ (state_of set history).items

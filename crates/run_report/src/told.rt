@@ -71,7 +71,7 @@ fn is_told(
     }
 }
 
-// The same of a set whose report has this mode.
+// Whether the bytes are the report of a compiled set in this mode; if it is that of an admitted run, the set must be admitted.
 fn is_told_in(
     alloc: Global,
     names: &Names,

@@ -148,7 +148,7 @@ fn judge_entries(
     }
 }
 
-// The same of the set of a report.
+// The verdict on the report of a set, which ran on trial or is admitted.
 fn judge_reported(
     alloc: Global,
     names: &NameTables,

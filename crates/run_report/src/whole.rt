@@ -27,7 +27,7 @@ fn add_next(
     requires { Writes names.now writer.old entry }
     ensures text { OnOk result (into.new.items ≡ into.old.items ++ whole_entry_line names.now 0 entry) }
     ensures places { writer.new.room ≡ writer.old.room }
-    ensures follows { OnOk result ((set : Set) (story : Many Noted) → Follows set writer.old story → IsLegal set (story ++ entry ∷ []) → Follows set writer.new (story ++ entry ∷ [])) }
+    ensures follows { OnOk result ((set : Set) (history : Many Noted) → Follows set writer.old history → IsLegal set (history ++ entry ∷ []) → Follows set writer.new (history ++ entry ∷ [])) }
 {
     into.reserve(256)?;
     writer.push(names, &entry, into);
@@ -55,7 +55,7 @@ pub fn report(
     }
 }
 
-/// The same where the last items of the history are known. Each entry is gone through once.
+/// The report of a legal history whose last items are known. Each entry is gone through once.
 pub fn report_with_items(
     alloc: Global,
     names: &Names,

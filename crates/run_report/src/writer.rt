@@ -120,7 +120,7 @@ impl ReportWriter {
         ensures len { vec_len into.new ≤ vec_len into.old + 256 }
         ensures room { vec_capacity into.old ≤ vec_capacity into.new }
         ensures places { self.new.room ≡ self.old.room }
-        ensures follows { (set : Set) (story : Many Noted) → Follows set self.old story → IsLegal set (story ++ entry.now ∷ []) → Follows set self.new (story ++ entry.now ∷ []) }
+        ensures follows { (set : Set) (history : Many Noted) → Follows set self.old history → IsLegal set (history ++ entry.now ∷ []) → Follows set self.new (history ++ entry.now ∷ []) }
     {
         self.rows.push(entry);
         write_entry(names, entry, &mut self.numerals, into);
@@ -136,7 +136,7 @@ impl ReportWriter {
         ensures len { vec_len into.new ≤ vec_len into.old + 256 * length entries.now }
         ensures room { vec_capacity into.old ≤ vec_capacity into.new }
         ensures places { self.new.room ≡ self.old.room }
-        ensures follows { (set : Set) (story : Many Noted) → Follows set self.old story → IsLegal set (story ++ entries.now) → Follows set self.new (story ++ entries.now) }
+        ensures follows { (set : Set) (history : Many Noted) → Follows set self.old history → IsLegal set (history ++ entries.now) → Follows set self.new (history ++ entries.now) }
     {
         self.rows.push_all(entries);
         write_entries(names, entries, &mut self.numerals, into);
@@ -152,7 +152,7 @@ impl ReportWriter {
     /// Ends the report: adds the jobs, the last items and the last line. After Err the text is as it was.
     pub fn finish(self, names: &Names, items: &Items, into: &mut Vec<u8>) -> Result<(), OutOfMemory>
         requires { Closes names.now self items.now }
-        ensures text { (set : Set) (story : Many Noted) → Follows set self story → OnOk result (into.new.items ≡ into.old.items ++ closing_text names.now (job_rows set story) items.now) }
+        ensures text { (set : Set) (history : Many Noted) → Follows set self history → OnOk result (into.new.items ≡ into.old.items ++ closing_text names.now (job_rows set history) items.now) }
         ensures unchanged { OnErr result (into.new.items ≡ into.old.items) }
     {
         let ReportWriter { rows, numerals: _ } = self;

@@ -166,7 +166,7 @@ impl<'t> Page<'t> {
         self.put_rest(is_told?, refusal)
     }
 
-    // The same of a walk over the whole text.
+    // The faults of the whole text, by a walk from its beginning.
     fn put_all(&mut self, refusal: Refusal) -> Result<(), OutOfMemory>
         requires { self.old.out.items ≡ [] }
         ensures { OnOk result (AreLines (Some refusal) [] none self.new.out.items) }

@@ -49,11 +49,11 @@ begins_walking decls t ops w w' sized is = subst (λ (x : Walk). IsWalking decls
   same = refl;
 })
 
-pub turns : (decls : List ItemDecl) (t : TxnDecl) (ops : List ScriptOp) (place : ℕ) (op : ScriptOp) (w w' : Walk)
+pub rounds : (decls : List ItemDecl) (t : TxnDecl) (ops : List ScriptOp) (place : ℕ) (op : ScriptOp) (w w' : Walk)
     → IsWalking decls t ops place w → place < length ops → op ≡ get_or ops place op
     → list_all (is_good (length decls)) (map operation ops) ≡ true → may_stand decls t w (operation op) ≡ true
     → w' ≡ after w (operation op) → IsWalking decls t ops (place + 1) w'
-turns decls t ops place op w w' h lt is good may next =
+rounds decls t ops place op w w' h lt is good may next =
     subst (λ (x : Walk). IsWalking decls t ops (place + 1) x) (sym next) (record {
       sized = sized_after (length decls) w (operation op) h.sized;
       stands = subst (λ (before : List Operation). StandsFor (length decls) t before (after w (operation op)))

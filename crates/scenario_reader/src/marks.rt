@@ -8,11 +8,11 @@ use std::alloc::Global;
 use std::marker::Model;
 
 /// Marks of items that are all taken away in one step. Contracts see for each item whether it is marked. A mark is the
-/// stamp of the present turn.
+/// stamp of the present round.
 #[derive(Drop)]
 pub(crate) struct Marks {
     stamps: Vec<u64>,
-    turn: u64,
+    round: u64,
 }
 
 impl Model for Marks {
@@ -21,9 +21,9 @@ impl Model for Marks {
 
     ghost Value = { ListOf Bool };
 
-    ghost view = { λ m. map (λ s. s == m.turn) m.stamps.items };
+    ghost view = { λ m. map (λ s. s == m.round) m.stamps.items };
 
-    ghost invariant = { λ m. All (λ s. s ≤ m.turn) m.stamps.items };
+    ghost invariant = { λ m. All (λ s. s ≤ m.round) m.stamps.items };
 }
 
 // Sets each stamp to 0.
@@ -35,14 +35,14 @@ fn zero(stamps: &mut [u64])
     }
 }
 
-// The next turn, which no stamp has.
-fn next_turn(stamps: &mut [u64], turn: u64) -> u64
-    requires { All (λ s. s ≤ turn) stamps.old }
+// The next round, which no stamp has.
+fn next_round(stamps: &mut [u64], round: u64) -> u64
+    requires { All (λ s. s ≤ round) stamps.old }
     ensures later { All (λ s. s < result) stamps.new }
     ensures all { length stamps.new ≡ length stamps.old }
 {
-    if turn < u64::MAX {
-        return turn + 1;
+    if round < u64::MAX {
+        return round + 1;
     }
     zero(stamps);
     1
@@ -54,14 +54,14 @@ impl Marks {
         ensures { IfOk result (λ m. m ≡ replicate items false) }
     {
         let stamps = vec![in alloc; 0u64; items]?;
-        Ok(Marks { stamps, turn: 1 })
+        Ok(Marks { stamps, round: 1 })
     }
 
     /// Takes all marks away, in one step but for one in 2^64 - 1 times.
     pub(crate) fn clear(&mut self)
         ensures { self.new ≡ replicate (length self.old) false }
     {
-        self.turn = next_turn(&mut self.stamps, self.turn);
+        self.round = next_round(&mut self.stamps, self.round);
     }
 
     /// Marks an item.
@@ -70,7 +70,7 @@ impl Marks {
     {
         let at = item.0 as usize;
         if at < self.stamps.len() {
-            self.stamps[at] = self.turn;
+            self.stamps[at] = self.round;
         }
     }
 
@@ -79,7 +79,7 @@ impl Marks {
         ensures { result ≡ slice_index_or self.now item.0 false }
     {
         match self.stamps.get(item.0 as usize) {
-            Some(stamp) => *stamp == self.turn,
+            Some(stamp) => *stamp == self.round,
             None => false,
         }
     }

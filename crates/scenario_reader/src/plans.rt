@@ -68,7 +68,7 @@ fn refused_in(txn: &TxnDecl, releases: &Releases) -> Option<(u32, PlanRefused)>
     None
 }
 
-// The same over all transactions.
+// The first tick of all transactions that may not be planned: its transaction, its place there, and why.
 fn first_refused(txns: &[TxnDecl], releases: &[Releases]) -> Option<(usize, u32, PlanRefused)>
     requires each { length releases.now ≡ length txns.now }
     requires few { total_jobs_of releases.now ≤ 65536 }

@@ -33,7 +33,7 @@ fn bad_op(walk: &mut Walk, items: &[ItemDecl], txn: &TxnDecl, ops: &[ScriptOp]) 
     None
 }
 
-// The same over all transactions.
+// The first operation of all scripts that may not stand where it does: its transaction and its place.
 fn first_bad(
     alloc: Global,
     items: &[ItemDecl],

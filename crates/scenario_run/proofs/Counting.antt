@@ -13,7 +13,7 @@ use Rattle.law_histories.specs.Sim.{Workload}
 use Rattle.sim_run.specs.Workloads.{ticks_of}
 use Rattle.job_rows.specs.Upkeep.{planned_jobs}
 use Rattle.law_runs.specs.Histories.{IsRunOf}
-use Rattle.law_runs.specs.Plannable.{own_jobs}
+use Rattle.law_runs.specs.Plannable.{total_eager_jobs}
 use Rattle.law_runs.proofs.Near.{plan_here, plan_there, plan_may}
 use Rattle.law_runs.proofs.Plans.{own_sum, listed_sum}
 
@@ -38,14 +38,14 @@ sum_both : (f g : ℕ → ℕ) (n : ℕ) → sum_below (λ k. f k + g k) n ≡ s
 sum_both f g zero = refl
 sum_both f g (suc n) = omega (arith, sum_both f g n)
 
-pub planned_run : (w : Workload) (own : ℕ → ℕ) (history : List Entry) → length w.releases ≡ length w.set.txns → IsRunOf w own history
-    → planned_jobs history ≡ sum (map length w.releases) + own_jobs w.set own
-planned_run w own history each r =
+pub planned_run : (w : Workload) (eager_jobs : ℕ → ℕ) (history : List Entry) → length w.releases ≡ length w.set.txns → IsRunOf w eager_jobs history
+    → planned_jobs history ≡ sum (map length w.releases) + total_eager_jobs w.set eager_jobs
+planned_run w eager_jobs history each r =
     let n = length w.set.txns in
-    let by_tx : sum_below (plan_count history) n ≡ sum_below (λ tx. length (ticks_of w.releases tx) + own tx) n =
-    sum_same (λ tx. length (ticks_of w.releases tx) + own tx) (plan_count history) n r.jobs in
-    let both : sum_below (λ tx. length (ticks_of w.releases tx) + own tx) n ≡ sum_below (λ tx. length (ticks_of w.releases tx)) n + sum_below own n =
-    sum_both (λ tx. length (ticks_of w.releases tx)) own n in
+    let by_tx : sum_below (plan_count history) n ≡ sum_below (λ tx. length (ticks_of w.releases tx) + eager_jobs tx) n =
+    sum_same (λ tx. length (ticks_of w.releases tx) + eager_jobs tx) (plan_count history) n r.jobs in
+    let both : sum_below (λ tx. length (ticks_of w.releases tx) + eager_jobs tx) n ≡ sum_below (λ tx. length (ticks_of w.releases tx)) n + sum_below eager_jobs n =
+    sum_both (λ tx. length (ticks_of w.releases tx)) eager_jobs n in
     let released : sum_below (λ tx. length (ticks_of w.releases tx)) n ≡ sum (map length w.releases) =
     ap (sum_below (λ tx. length (ticks_of w.releases tx))) (sym each) ∙ (sum_places length w.releases [] ∙ (listed_sum length w.releases ∙ sym (sum-map length w.releases))) in
-    omega (arith, planned_from w.set _ history r.so_far.legal, by_tx, both, released, own_sum own n)
+    omega (arith, planned_from w.set _ history r.so_far.legal, by_tx, both, released, own_sum eager_jobs n)

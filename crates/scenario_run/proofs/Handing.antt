@@ -25,7 +25,7 @@ use Rattle.scenario_run.proofs.Plans.{planned_sim}
 
 -- what an out got, as its trait says it
 abbrev pub Got : Begun → ℕ → OutSeen → List Entry → Type 0
-Got begun sink out story = (begun.sink ≡ sink) × HasTaken begun out story
+Got begun sink out history = (begun.sink ≡ sink) × HasTaken begun out history
 
 -- a front of a front
 front_front : (xs ys : List ℕ) (n : ℕ) → take n xs ≡ take (length (take n xs)) (xs ++ ys)

@@ -29,13 +29,13 @@ agree_of (x ∷ t) (y ∷ e) h =
     let rest : Agree t e = agree_of t e tail in
     cc
 
-pub agree_on : (there story e : List Entry) → Agree there story → Agree (drop (length story) there) e → Agree there (story ++ e)
+pub agree_on : (there history e : List Entry) → Agree there history → Agree (drop (length history) there) e → Agree there (history ++ e)
 agree_on there [] e h k = k
-agree_on [] (s ∷ story) e h k = refl
-agree_on (t ∷ there) (s ∷ story) e h k =
+agree_on [] (s ∷ history) e h k = refl
+agree_on (t ∷ there) (s ∷ history) e h k =
     let head : t ≡ s = cc in
-    let tail : Agree there story = cc in
-    let rest : Agree there (story ++ e) = agree_on there story e tail k in
+    let tail : Agree there history = cc in
+    let rest : Agree there (history ++ e) = agree_on there history e tail k in
     cc
 
 -- what is not among the first so many
@@ -44,35 +44,35 @@ known_behind [] e = ap (λ (l : List Entry). drop (length l) e) (take-nil (lengt
 known_behind (x ∷ t) [] = refl
 known_behind (x ∷ t) (y ∷ e) = known_behind t e
 
-drop_behind : (story e there : List Entry) → drop (length (story ++ e)) there ≡ drop (length e) (drop (length story) there)
+drop_behind : (history e there : List Entry) → drop (length (history ++ e)) there ≡ drop (length e) (drop (length history) there)
 drop_behind [] e there = refl
-drop_behind (s ∷ story) e [] = sym (drop-nil (length e))
-drop_behind (s ∷ story) e (t ∷ there) = drop_behind story e there
+drop_behind (s ∷ history) e [] = sym (drop-nil (length e))
+drop_behind (s ∷ history) e (t ∷ there) = drop_behind history e there
 
-pub rest_on : (there story e : List Entry) → Agree (drop (length story) there) e
-    → with_rest there story ++ drop (length (take (length e) (drop (length story) there))) e ≡ with_rest there (story ++ e)
-rest_on there story e h =
-    let t : List Entry = drop (length story) there in
-    append_assoc story t (drop (length (take (length e) t)) e)
-    ∙ (ap (λ (l : List Entry). story ++ (t ++ l)) (known_behind t e)
-    ∙ (ap (λ (l : List Entry). story ++ l) (joined t e h)
-    ∙ (sym (append_assoc story e (drop (length e) t))
-    ∙ ap (λ (l : List Entry). (story ++ e) ++ l) (sym (drop_behind story e there)))))
+pub rest_on : (there history e : List Entry) → Agree (drop (length history) there) e
+    → with_rest there history ++ drop (length (take (length e) (drop (length history) there))) e ≡ with_rest there (history ++ e)
+rest_on there history e h =
+    let t : List Entry = drop (length history) there in
+    append_assoc history t (drop (length (take (length e) t)) e)
+    ∙ (ap (λ (l : List Entry). history ++ (t ++ l)) (known_behind t e)
+    ∙ (ap (λ (l : List Entry). history ++ l) (joined t e h)
+    ∙ (sym (append_assoc history e (drop (length e) t))
+    ∙ ap (λ (l : List Entry). (history ++ e) ++ l) (sym (drop_behind history e there)))))
 
 -- the longer one is legal, and it is what is added to
-pub legal_on : (set : Set) (there story e : List Entry) → Agree (drop (length story) there) e → IsLegal set (with_rest there story) → IsLegal set (story ++ e)
-    → IsLegal set (with_rest there story ++ drop (length (take (length e) (drop (length story) there))) e)
-legal_on set there story e h had goes =
-    let t : List Entry = drop (length story) there in
+pub legal_on : (set : Set) (there history e : List Entry) → Agree (drop (length history) there) e → IsLegal set (with_rest there history) → IsLegal set (history ++ e)
+    → IsLegal set (with_rest there history ++ drop (length (take (length e) (drop (length history) there))) e)
+legal_on set there history e h had goes =
+    let t : List Entry = drop (length history) there in
     let known : List Entry = take (length e) t in
     let shorter : length known ≡ min (length e) (length t) = length-take (length e) t in
     elim (cases_lt (length t) (length e)) [
       | inl lt ↦
           let none : drop (length e) t ≡ [] = drop_of_length-le t (omega (arith, lt)) in
-          subst (IsLegal set) (sym (rest_on there story e h ∙ (ap (λ (l : List Entry). (story ++ e) ++ l) (drop_behind story e there ∙ none) ∙ append-nil (story ++ e)))) goes
+          subst (IsLegal set) (sym (rest_on there history e h ∙ (ap (λ (l : List Entry). (history ++ e) ++ l) (drop_behind history e there ∙ none) ∙ append-nil (history ++ e)))) goes
       | inr le ↦
           let none : drop (length known) e ≡ [] = drop_of_length-le e (omega (arith, shorter, le)) in
-          subst (IsLegal set) (sym (ap (λ (l : List Entry). with_rest there story ++ l) none ∙ append-nil (with_rest there story))) had
+          subst (IsLegal set) (sym (ap (λ (l : List Entry). with_rest there history ++ l) none ∙ append-nil (with_rest there history))) had
     ]
 
 -- ---- another entry
@@ -95,19 +95,19 @@ other_among (suc n) (x ∷ t) (y ∷ e) (suc at) h =
     let rest : IsFirstOther (take n t) e at = record { same = cc; within = omega (arith, h.within); other = h.other } in
     subst (λ (z : Entry). IsFirstOther (x ∷ t) (z ∷ e) (suc at)) head (other_next x t e at (other_among n t e at rest))
 
-pub other_behind : (there story e : List Entry) (at : ℕ) → Agree there story → IsFirstOther (take (length e) (drop (length story) there)) e at
-    → IsFirstOther there (story ++ e) (length story + at)
+pub other_behind : (there history e : List Entry) (at : ℕ) → Agree there history → IsFirstOther (take (length e) (drop (length history) there)) e at
+    → IsFirstOther there (history ++ e) (length history + at)
 other_behind there [] e at h o =
     let same : at ≡ 0 + at = omega arith in
     subst (λ (n : ℕ). IsFirstOther there e n) same (other_among (length e) there e at o)
-other_behind [] (s ∷ story) e at h o = absurd (omega (arith, o.within, ap (λ (l : List Entry). length l) (take-nil {A = Entry} (length e))))
-other_behind (t ∷ there) (s ∷ story) e at h o =
+other_behind [] (s ∷ history) e at h o = absurd (omega (arith, o.within, ap (λ (l : List Entry). length l) (take-nil {A = Entry} (length e))))
+other_behind (t ∷ there) (s ∷ history) e at h o =
     let head : t ≡ s = cc in
-    let tail : Agree there story = cc in
-    let rest = other_next t there (story ++ e) (length story + at) (other_behind there story e at tail o) in
-    let place : suc (length story + at) ≡ suc (length story) + at = omega arith in
-    subst (λ (n : ℕ). IsFirstOther (t ∷ there) (s ∷ (story ++ e)) n) place
-    (subst (λ (z : Entry). IsFirstOther (t ∷ there) (z ∷ (story ++ e)) (suc (length story + at))) head rest)
+    let tail : Agree there history = cc in
+    let rest = other_next t there (history ++ e) (length history + at) (other_behind there history e at tail o) in
+    let place : suc (length history + at) ≡ suc (length history) + at = omega arith in
+    subst (λ (n : ℕ). IsFirstOther (t ∷ there) (s ∷ (history ++ e)) n) place
+    (subst (λ (z : Entry). IsFirstOther (t ∷ there) (z ∷ (history ++ e)) (suc (length history + at))) head rest)
 
 -- of a history that goes on it is the same place
 pub other_on : (there history rest : List Entry) (place : ℕ) → place < length history → IsFirstOther there history place → IsFirstOther there (history ++ rest) place

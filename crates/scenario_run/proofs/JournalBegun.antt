@@ -14,7 +14,7 @@ use Rattle.law_histories.specs.Sim.{Workload, IsSim}
 use Rattle.sim_run.specs.Workloads.{AreAccepted, IsObedient}
 use Rattle.sim_run.proofs.Exist.{runs_are}
 use Rattle.law_runs.specs.Runs.{workload_of}
-use Rattle.law_runs.specs.Plannable.{own_of}
+use Rattle.law_runs.specs.Plannable.{eager_jobs_of}
 use Rattle.law_runs.proofs.Scenario.{none_eager}
 use Rattle.law_runs.proofs.Fits.{run_fits, scenario_room}
 use Rattle.law_runs.proofs.Fixed.{sim_is_run}
@@ -34,21 +34,21 @@ use Rattle.scenario_run.specs.Compared.{Begins}
 use Rattle.scenario_run.specs.Found.{IsFound, IsBadFor, RefusedAt}
 use Rattle.scenario_run.specs.Ran.{HasOther, HaltedBy}
 use Rattle.scenario_run.specs.JournalReplies.{first_eager, Unhurried, JournalReply, TookUp, HasBad, Journaled, LeavesDisk}
-use Rattle.scenario_run.specs.Plans.{IsCalm, HasBegun}
+use Rattle.scenario_run.specs.Plans.{AdmittedWithoutEager, HasBegun}
 use Rattle.scenario_run.specs.declared.equip.Begun.{Begun}
 use Rattle.scenario_run.specs.Refused.{IsNamed, NamesRecord, IsHaltReply}
 use Rattle.scenario_run.specs.declared.over.Halt.{Halt}
 use Rattle.scenario_run.specs.declared.over.Halt.TheVariants.{Other, Fault}
 
 -- no transaction is eager where none is the first
-calm_from : (i : ℕ) (rs : List Releases) → position_from is_eager i rs ≡ None → list_any is_eager rs ≡ false
-calm_from i [] h = refl
-calm_from i (At ticks ∷ rs) h = calm_from (i + 1) rs h
-calm_from i (Jobs n ∷ rs) h = calm_from (i + 1) rs h
-calm_from i (Eager n ∷ rs) h = absurd cc
+without_eager_from : (i : ℕ) (rs : List Releases) → position_from is_eager i rs ≡ None → list_any is_eager rs ≡ false
+without_eager_from i [] h = refl
+without_eager_from i (At ticks ∷ rs) h = without_eager_from (i + 1) rs h
+without_eager_from i (Jobs n ∷ rs) h = without_eager_from (i + 1) rs h
+without_eager_from i (Eager n ∷ rs) h = absurd cc
 
-pub is_calm : (s : Shown) → first_eager s ≡ None → has_eager s ≡ false
-is_calm s h = calm_from 0 s.releases (sym (position_from-zero is_eager s.releases) ∙ h)
+pub without_eager : (s : Shown) → first_eager s ≡ None → has_eager s ≡ false
+without_eager s h = without_eager_from 0 s.releases (sym (position_from-zero is_eager s.releases) ∙ h)
 
 -- a header is more than nothing
 some_bytes : (file : List ℕ) → IsHeader (slot_at 0 file) → 0 < length file
@@ -57,7 +57,7 @@ some_bytes (b ∷ bs) h = omega arith
 
 module _ (s : Shown) (w : Workload) (b : Begun) (is : HasBegun s w b) where
   compiled : IsCompiled (set_of s)
-  compiled = is_compiled s is.calm.is is.calm.compiles
+  compiled = is_compiled s is.admitted_without_eager.is is.admitted_without_eager.compiles
 
   abbrev SetOf : Workload → Set
   SetOf x = x.set
@@ -76,20 +76,20 @@ module _ (s : Shown) (w : Workload) (b : Begun) (is : HasBegun s w b) where
   pub sim_of : (history : List Entry) → IsSim w history → IsSim (workload_of s) history
   sim_of history h = subst (λ (x : Workload). IsSim x history) is.runs h
 
-  none_own : (tx : ℕ) → own_of s tx ≡ 0
-  none_own = none_eager s (is_calm s is.calm.none_eager)
+  none_eager_jobs : (tx : ℕ) → eager_jobs_of s tx ≡ 0
+  none_eager_jobs = none_eager s (without_eager s is.admitted_without_eager.none_eager)
 
   pub short : (history : List Entry) → IsSim w history → length history < b.room
   short history h =
-      let run = sim_is_run (workload_of s) (own_of s) history none_own (sim_of history h) in
-      omega (arith, run_fits (workload_of s) (own_of s) history compiled run.so_far, scenario_room s is.calm.is, is.room_is)
+      let run = sim_is_run (workload_of s) (eager_jobs_of s) history none_eager_jobs (sim_of history h) in
+      omega (arith, run_fits (workload_of s) (eager_jobs_of s) history compiled run.so_far, scenario_room s is.admitted_without_eager.is, is.room_is)
 
   -- the text of a run
   pub text_of : (history : List Entry) (text : List ℕ) → IsSim w history → text ≡ report_of b.names b.set true history → IsRunText false s text
   text_of history text h e =
-      run_text false s text is.calm.is compiled is.calm.admits (record {
+      run_text false s text is.admitted_without_eager.is compiled is.admitted_without_eager.admits (record {
         history = history;
-        run = sim_is_run (workload_of s) (own_of s) history none_own (sim_of history h);
+        run = sim_is_run (workload_of s) (eager_jobs_of s) history none_eager_jobs (sim_of history h);
         written = e ∙ (ap (λ (n : Names). report_of n b.set true history) is.names_are ∙ ap (λ (q : Set). report_of s.names q true history) is.set_is);
       })
 
@@ -152,10 +152,10 @@ module _ (s : Shown) (w : Workload) (b : Begun) (is : HasBegun s w b) where
       subst (λ (k : Status). Journaled s told k text) (sym n.1) (n.0, n.2, named_bad told error n.0 run.0 run.1 n.3 refused)
 
 -- the reply of a scenario that may be run
-pub journal_reply : (s : Shown) (told : Option (List ℕ)) (status : Status) (text : List ℕ) → IsCalm s → Journaled s told status text → JournalReply s told status text
-journal_reply s told status text calm h =
-    admitted_reply (Unhurried (Journaled s told) s.names (first_eager s)) s status text calm.compiles calm.admits
-    (subst (λ (o : Option ℕ). Unhurried (Journaled s told) s.names o status text) (sym calm.none_eager) h)
+pub journal_reply : (s : Shown) (told : Option (List ℕ)) (status : Status) (text : List ℕ) → AdmittedWithoutEager s → Journaled s told status text → JournalReply s told status text
+journal_reply s told status text admitted_without_eager h =
+    admitted_reply (Unhurried (Journaled s told) s.names (first_eager s)) s status text admitted_without_eager.compiles admitted_without_eager.admits
+    (subst (λ (o : Option ℕ). Unhurried (Journaled s told) s.names o status text) (sym admitted_without_eager.none_eager) h)
 
 -- a run that was begun is answered Ok or names a bad record
 pub journaled_begun : (s : Shown) (told : Option (List ℕ)) (status : Status) (text : List ℕ) → Journaled s told status text → LeavesDisk status → ⊥

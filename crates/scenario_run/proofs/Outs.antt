@@ -38,9 +38,9 @@ made names set there room disk = record { names = names; set = set; there = ther
 module _ {D : Type 0} (seen : D → Option (List ℕ)) (may_leave : D → List ℕ → Type 0) (moment : D → ℕ) (left_since : D → ℕ → List ℕ → Type 0) (begun : Begun D) where
   -- what an out with these fields got
   abbrev pub Got : JournalStanding → Names → Set → RecordsSeen D → List Entry → List Entry → ℕ → List Entry → Type 0
-  Got standing names set log there kept room story =
-      (kept ≡ story) × IsOf seen begun names set there room log.disk
-      × TakenAt standing (IsGoing seen may_leave moment left_since begun.names begun.set begun.disk log begun.there story)
+  Got standing names set log there kept room history =
+      (kept ≡ history) × IsOf seen begun names set there room log.disk
+      × TakenAt standing (IsGoing seen may_leave moment left_since begun.names begun.set begun.disk log begun.there history)
 
   -- and what it lost
   abbrev pub Lost : JournalStanding → RecordsSeen D → List Entry → List Entry → Type 0
@@ -60,7 +60,7 @@ module _ {D : Type 0} (seen : D → Option (List ℕ)) (may_leave : D → List �
 
   -- it can take each run
   pub can_take : (w : Workload) (got : List Entry → Type 0) (history : List Entry) → got [] → begun.set ≡ w.set → length history ≤ begun.room → IsSim w history
-      → CanTake got (λ story. IsLegal begun.set story × (length story ≤ begun.room)) history
+      → CanTake got (λ history. IsLegal begun.set history × (length history ≤ begun.room)) history
   can_take w got history none same fits sim = λ n. record {
     begun = [];
     is_got = none;
@@ -74,7 +74,7 @@ module _ {D : Type 0} (seen : D → Option (List ℕ)) (may_leave : D → List �
   module _ (w : Workload) (standing' : JournalStanding) (names' : Names) (set' : Set) (log' : RecordsSeen D) (there' kept' : List Entry) (room' : ℕ)
       (got : List Entry → Type 0) (none : got []) where
     abbrev Got' : List Entry → Type 0
-    Got' story = Got standing' names' set' log' there' kept' room' story
+    Got' history = Got standing' names' set' log' there' kept' room' history
 
     -- an out that stopped
     pub got_front : (names : Names) (there : List Entry) (room : ℕ) (disk : D) → begun ≡ made names w.set there room disk → IsStopped w got Got' (Lost standing' log' kept')

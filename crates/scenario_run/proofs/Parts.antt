@@ -56,9 +56,9 @@ module _ (head text last : List ℕ) where
       (appends_then taken then taken' (head ++ text) last (appends_then taken mid then head text first second) third)
 
 -- the report of a run
-module _ (names : Names) (admitted : Bool) (w : Workload) (own : ℕ → ℕ) (head : List ℕ) (history : List Entry)
-    (is_head : head ≡ opening_text names w.set admitted) (run : IsRunOf w own history) where
-  text_is : (text : List ℕ) → text ≡ after_head head names w.set history → IsRunTextBy names admitted w own text
+module _ (names : Names) (admitted : Bool) (w : Workload) (eager_jobs : ℕ → ℕ) (head : List ℕ) (history : List Entry)
+    (is_head : head ≡ opening_text names w.set admitted) (run : IsRunOf w eager_jobs history) where
+  text_is : (text : List ℕ) → text ≡ after_head head names w.set history → IsRunTextBy names admitted w eager_jobs text
   text_is text e = record {
     history = history;
     run = run;
@@ -66,12 +66,12 @@ module _ (names : Names) (admitted : Bool) (w : Workload) (own : ℕ → ℕ) (h
   }
 
   pub wrote_front : (taken taken' : Option (List ℕ)) → WroteFront (λ t. t ≡ after_head head names w.set history) taken taken'
-      → WroteFront (IsRunTextBy names admitted w own) taken taken'
+      → WroteFront (IsRunTextBy names admitted w eager_jobs) taken taken'
   wrote_front taken taken' h = record { front = h.front; left = h.left; is = text_is _ h.is; written = h.written }
 
 -- where no transaction is eager it is that of the one run
-pub fixed_text : (names : Names) (admitted : Bool) (w : Workload) (own : ℕ → ℕ) (text : List ℕ) → ((tx : ℕ) → own tx ≡ 0) → IsTextBy names admitted w text → IsRunTextBy names admitted w own text
-fixed_text names admitted w own text none h = record { history = h.history; run = sim_is_run w own h.history none h.sim; written = h.written }
+pub fixed_text : (names : Names) (admitted : Bool) (w : Workload) (eager_jobs : ℕ → ℕ) (text : List ℕ) → ((tx : ℕ) → eager_jobs tx ≡ 0) → IsTextBy names admitted w text → IsRunTextBy names admitted w eager_jobs text
+fixed_text names admitted w eager_jobs text none h = record { history = h.history; run = sim_is_run w eager_jobs h.history none h.sim; written = h.written }
 
 -- what was written of the one is what was written of the other
 pub wrote_of : (P Q : List ℕ → Type 0) (taken taken' : Option (List ℕ)) → ((text : List ℕ) → P text → Q text) → Wrote P taken taken' → Wrote Q taken taken'

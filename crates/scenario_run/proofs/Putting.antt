@@ -117,27 +117,27 @@ module _ {D : Type 0} (seen : D → Option (List ℕ)) (may_leave : D → List �
 module _ {D : Type 0} (seen : D → Option (List ℕ)) (may_leave : D → List ℕ → Type 0) (moment : D → ℕ) (left_since : D → ℕ → List ℕ → Type 0) (begun : Begun D) (names : Names) (set : Set) (there : List Entry) (room : ℕ) (now : D)
     (of : IsOf seen begun names set there room now) where
   abbrev pub Goes : Names → Set → RecordsSeen D → List Entry → List Entry → Type 0
-  Goes n s log l story = IsGoing seen may_leave moment left_since n s begun.disk log l story
+  Goes n s log l history = IsGoing seen may_leave moment left_since n s begun.disk log l history
 
-  pub going_here : (standing : JournalStanding) (log : RecordsSeen D) (kept story : List Entry) → LostAt standing begun.there kept [] → kept ≡ story
-      → TakenAt standing (Goes begun.names begun.set log begun.there story) → Goes names set log there kept
-  going_here standing log kept story lost is taken =
+  pub going_here : (standing : JournalStanding) (log : RecordsSeen D) (kept history : List Entry) → LostAt standing begun.there kept [] → kept ≡ history
+      → TakenAt standing (Goes begun.names begun.set log begun.there history) → Goes names set log there kept
+  going_here standing log kept history lost is taken =
       subst (λ (n : Names). Goes n set log there kept) (sym of.names_are)
       (subst (λ (s : Set). Goes begun.names s log there kept) (sym of.set_is)
       (subst (λ (l : List Entry). Goes begun.names begun.set log l kept) (sym of.there_is)
       (subst (λ (l : List Entry). Goes begun.names begun.set log begun.there l) (sym is)
       (going_at standing _ (goes standing begun.there kept lost) taken))))
 
-  pub going_back : (log : RecordsSeen D) (kept e story : List Entry) → kept ≡ story → Goes names set log there (kept ++ e)
-      → Goes begun.names begun.set log begun.there (story ++ e)
-  going_back log kept e story is g =
-      subst (λ (n : Names). Goes n begun.set log begun.there (story ++ e)) of.names_are
-      (subst (λ (s : Set). Goes names s log begun.there (story ++ e)) of.set_is
-      (subst (λ (l : List Entry). Goes names set log l (story ++ e)) of.there_is
+  pub going_back : (log : RecordsSeen D) (kept e history : List Entry) → kept ≡ history → Goes names set log there (kept ++ e)
+      → Goes begun.names begun.set log begun.there (history ++ e)
+  going_back log kept e history is g =
+      subst (λ (n : Names). Goes n begun.set log begun.there (history ++ e)) of.names_are
+      (subst (λ (s : Set). Goes names s log begun.there (history ++ e)) of.set_is
+      (subst (λ (l : List Entry). Goes names set log l (history ++ e)) of.there_is
       (subst (λ (l : List Entry). Goes names set log there (l ++ e)) is g)))
 
-  pub legal_back : (kept e story : List Entry) → kept ≡ story → IsLegal begun.set (story ++ e) → IsLegal set (kept ++ e)
-  legal_back kept e story is legal =
+  pub legal_back : (kept e history : List Entry) → kept ≡ history → IsLegal begun.set (history ++ e) → IsLegal set (kept ++ e)
+  legal_back kept e history is legal =
       subst (λ (s : Set). IsLegal s (kept ++ e)) (sym of.set_is) (subst (λ (l : List Entry). IsLegal begun.set (l ++ e)) (sym is) legal)
 
   pub begins_back : (history : List Entry) → Begins there history → Begins begun.there history

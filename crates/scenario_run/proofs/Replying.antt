@@ -6,7 +6,7 @@ use Rattle.step_script.specs.Shown.{Shown, set_of}
 use Rattle.step_script.specs.Scenarios.{IsScenario}
 use Rattle.law_runs.specs.Runs.{workload_of}
 use Rattle.io_edge.specs.declared.status.Status.TheVariants as statuses
-use Rattle.law_runs.specs.Plannable.{own_of}
+use Rattle.law_runs.specs.Plannable.{eager_jobs_of}
 use Rattle.command_replies.specs.Replies.{IsUncompiled}
 use Rattle.command_replies.proofs.Compiles.{is_compiled}
 use Rattle.command_replies.proofs.Replying.{compiled_reply, uncompiled_reply, admitted_reply, refused_reply}
@@ -16,7 +16,7 @@ use Rattle.scenario_run.specs.Replies.{Ran, RunReply}
 use Rattle.scenario_run.proofs.Guarantees.{run_text}
 
 pub run_reply : (trial : Bool) (s : Shown) (text : List ℕ) → IsScenario s → compile_refusal (set_of s) ≡ None → IsAdmittedUnless trial (set_of s)
-    → IsRunTextBy s.names (not trial) (workload_of s) (own_of s) text → RunReply trial s statuses.Ok text
+    → IsRunTextBy s.names (not trial) (workload_of s) (eager_jobs_of s) text → RunReply trial s statuses.Ok text
 run_reply true s text is none h t = compiled_reply (Ran true s) s statuses.Ok text none (refl, run_text true s text is (is_compiled s is none) tt t)
 run_reply false s text is none h t = admitted_reply (Ran false s) s statuses.Ok text none h (refl, run_text false s text is (is_compiled s is none) h t)
 

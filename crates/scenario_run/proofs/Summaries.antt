@@ -10,7 +10,7 @@ use Rattle.law_histories.specs.Sim.{Workload, IsSim}
 use Rattle.law_histories.specs.Counting.{room_of_jobs}
 use Rattle.sim_run.specs.Workloads.{workload, ticks_of}
 use Rattle.law_runs.specs.Histories.{IsRunOf}
-use Rattle.law_runs.specs.Plannable.{own_of}
+use Rattle.law_runs.specs.Plannable.{eager_jobs_of}
 use Rattle.law_runs.proofs.Fits.{run_fits, scenario_room}
 use Rattle.step_script.specs.declared.script.Script.{Script}
 use Rattle.step_script.specs.Scripts.{next_of}
@@ -23,7 +23,7 @@ use Rattle.law_runs.specs.Runs.{workload_of}
 use Rattle.run_report.specs.Summary.{summary_of}
 use Rattle.step_journal.specs.History.{IsLegal}
 use Rattle.scenario_writer.specs.Generated.{generated_of, releases_each, each}
-use Rattle.plant_run.specs.Runs.{own_at}
+use Rattle.plant_run.specs.Runs.{eager_jobs_at}
 use Rattle.scenario_run.specs.Runs.{Declares, functions_of, IsSummaryBy, IsLoadText}
 use Rattle.scenario_run.proofs.Owned.{own_is}
 use Rattle.scenario_run.proofs.Ready.{functions_same, moved, ticks_same}
@@ -49,26 +49,26 @@ pub summary_as : (set : Set) (scripts : List Script) (releases : List Releases) 
     → IsSummaryBy (workload set (functions_of scripts') ticks) text → IsSummaryBy (workload_of d.scenario) text
 summary_as set scripts releases d scripts' ticks text e g h =
     let s = d.scenario in
-    moved (λ w own. IsSummaryBy w text) set (set_of s) (functions_of scripts') (map next_of s.programs) ticks (fixed_ticks s.txns s.releases) (λ tx. 0) (λ tx. 0) d.set_is
+    moved (λ w eager_jobs. IsSummaryBy w text) set (set_of s) (functions_of scripts') (map next_of s.programs) ticks (fixed_ticks s.txns s.releases) (λ tx. 0) (λ tx. 0) d.set_is
     (ap functions_of e ∙ (functions_same scripts ∙ ap (map next_of) d.programs_are)) (ticks_same set scripts releases d ticks g) refl h
 
 pub legal_as : (set set' : Set) (h kept : List Entry) → set' ≡ set → kept ≡ h → IsLegal set h → IsLegal set' kept
 legal_as set set' h kept e f legal = subst (λ (q : Set). IsLegal q kept) (sym e) (subst (IsLegal set) (sym f) legal)
 
 -- where no transaction plans a job itself a run has at most the entries of its releases
-pub fixed_fits : (w : Workload) (own : ℕ → ℕ) (history : List Entry) → IsCompiled w.set → ((tx : ℕ) → own tx ≡ 0) → IsRunOf w own history
+pub fixed_fits : (w : Workload) (eager_jobs : ℕ → ℕ) (history : List Entry) → IsCompiled w.set → ((tx : ℕ) → eager_jobs tx ≡ 0) → IsRunOf w eager_jobs history
     → length history ≤ room_of_jobs w.set.txns (λ tx. length (ticks_of w.releases tx))
-fixed_fits w own history ok none run =
+fixed_fits w eager_jobs history ok none run =
     subst (λ (jobs : ℕ → ℕ). length history ≤ room_of_jobs w.set.txns jobs)
-    (fun_ext {f = λ tx. length (ticks_of w.releases tx) + own tx} {g = λ tx. length (ticks_of w.releases tx)} (λ tx. omega (arith, none tx)))
-    (run_fits w own history ok run.so_far)
+    (fun_ext {f = λ tx. length (ticks_of w.releases tx) + eager_jobs tx} {g = λ tx. length (ticks_of w.releases tx)} (λ tx. omega (arith, none tx)))
+    (run_fits w eager_jobs history ok run.so_far)
 
 -- a scenario in which no transaction is eager has more room than its releases need
 fixed_room : (s : Shown) → IsScenario s → list_any is_eager s.releases ≡ false
     → room_of_jobs s.txns (λ tx. length (ticks_of (workload_of s).releases tx)) < s.room
-fixed_room s is calm =
+fixed_room s is without_eager =
     subst (λ (jobs : ℕ → ℕ). room_of_jobs s.txns jobs < s.room)
-    (fun_ext {f = λ tx. length (ticks_of (workload_of s).releases tx) + own_of s tx} {g = λ tx. length (ticks_of (workload_of s).releases tx)} (λ tx. omega (arith, none_eager s calm tx)))
+    (fun_ext {f = λ tx. length (ticks_of (workload_of s).releases tx) + eager_jobs_of s tx} {g = λ tx. length (ticks_of (workload_of s).releases tx)} (λ tx. omega (arith, none_eager s without_eager tx)))
     (scenario_room s is)
 
 calm_from : (ns : List ℕ) → list_any is_eager (map releases_each ns) ≡ false
@@ -95,8 +95,8 @@ load_text n s text text' is e f h =
     }
 
 -- no transaction of the generated scenario is eager
-pub generated_own : (n : ℕ) (s : Shown) (own : List ℕ) → s ≡ generated_of n → own ≡ map eager_of s.releases → (tx : ℕ) → own_at own tx ≡ 0
-generated_own n s own e f tx =
-    let calm : list_any is_eager s.releases ≡ false =
+pub generated_eager_jobs : (n : ℕ) (s : Shown) (eager_jobs : List ℕ) → s ≡ generated_of n → eager_jobs ≡ map eager_of s.releases → (tx : ℕ) → eager_jobs_at eager_jobs tx ≡ 0
+generated_eager_jobs n s eager_jobs e f tx =
+    let without_eager : list_any is_eager s.releases ≡ false =
     ap (λ (q : Shown). list_any is_eager q.releases) e ∙ calm_generated n in
-    ap (λ (o : ℕ → ℕ). o tx) (own_is s own f) ∙ none_eager s calm tx
+    ap (λ (o : ℕ → ℕ). o tx) (own_is s eager_jobs f) ∙ none_eager s without_eager tx

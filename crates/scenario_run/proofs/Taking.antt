@@ -26,14 +26,14 @@ going_if Full begun out h = absurd (omega (arith, h.over))
 pub goes : (begun : Begun) (out : OutSeen) → IsLost begun out [] → out.standing ≡ Going
 goes begun out h = going_if out.standing begun out h
 
-going_at : (standing : ReportStanding) (begun : Begun) (out : OutSeen) (story : List Entry) → LostAt standing begun out [] → TakenAt standing begun out story
-    → IsGoing begun out story
-going_at Going begun out story h t = t
-going_at Cut begun out story h t = absurd (omega (arith, h.some))
-going_at Full begun out story h t = t
+going_at : (standing : ReportStanding) (begun : Begun) (out : OutSeen) (history : List Entry) → LostAt standing begun out [] → TakenAt standing begun out history
+    → IsGoing begun out history
+going_at Going begun out history h t = t
+going_at Cut begun out history h t = absurd (omega (arith, h.some))
+going_at Full begun out history h t = t
 
-taken_going : (standing : ReportStanding) (begun : Begun) (out : OutSeen) (story : List Entry) → standing ≡ Going → IsGoing begun out story → TakenAt standing begun out story
-taken_going standing begun out story e t = subst (λ (s : ReportStanding). TakenAt s begun out story) (sym e) t
+taken_going : (standing : ReportStanding) (begun : Begun) (out : OutSeen) (history : List Entry) → standing ≡ Going → IsGoing begun out history → TakenAt standing begun out history
+taken_going standing begun out history e t = subst (λ (s : ReportStanding). TakenAt s begun out history) (sym e) t
 
 -- an out that has taken nothing
 pub opens : (begun : Begun) (sink : ℕ) (set : Set) (out : OutSeen)
@@ -57,98 +57,98 @@ opens begun sink set out is goes none empty named follows =
 
 module _ (begun : Begun) (out : OutSeen) (entries : List Entry) where
   -- the history that can go on is the one whose lines the sink has
-  pub going : (story : List Entry) → IsLost begun out [] → HasTaken begun out story → IsLegal begun.set (story ++ entries) → IsGoing begun out story
-  going story h t legal = going_at out.standing begun out story h (t (legal_front begun.set story entries legal))
+  pub going : (history : List Entry) → IsLost begun out [] → HasTaken begun out history → IsLegal begun.set (history ++ entries) → IsGoing begun out history
+  going history h t legal = going_at out.standing begun out history h (t (legal_front begun.set history entries legal))
 
-  pub few_entries : (story : List Entry) → IsGoing begun out story → IsLegal begun.set (story ++ entries) → length (story ++ entries) < 2 ^ 42
-  few_entries story t legal = (entries_few begun.set (story ++ entries) t.follows.compiled legal).all
+  pub few_entries : (history : List Entry) → IsGoing begun out history → IsLegal begun.set (history ++ entries) → length (history ++ entries) < 2 ^ 42
+  few_entries history t legal = (entries_few begun.set (history ++ entries) t.follows.compiled legal).all
 
-  pub few_next : (story : List Entry) → IsGoing begun out story → IsLegal begun.set (story ++ entries) → length entries < 2 ^ 42
-  few_next story t legal = omega (arith, few_entries story t legal, length-append story entries)
+  pub few_next : (history : List Entry) → IsGoing begun out history → IsLegal begun.set (history ++ entries) → length entries < 2 ^ 42
+  few_next history t legal = omega (arith, few_entries history t legal, length-append history entries)
 
   -- the count of bytes does not come to its end
-  pub bytes_fit : (story : List Entry) (n : ℕ) → IsGoing begun out story → IsLegal begun.set (story ++ entries) → n ≤ 256 * length entries → out.bytes + n < 2 ^ 64
-  bytes_fit story n t legal le = omega (arith, few_entries story t legal, length-append story entries, t.short, le)
+  pub bytes_fit : (history : List Entry) (n : ℕ) → IsGoing begun out history → IsLegal begun.set (history ++ entries) → n ≤ 256 * length entries → out.bytes + n < 2 ^ 64
+  bytes_fit history n t legal le = omega (arith, few_entries history t legal, length-append history entries, t.short, le)
 
-  pub continues : (story : List Entry) (left : ℕ) → IsGoing begun out story → IsLegal begun.set (story ++ entries) → out.rows.planned + left ≡ out.rows.room
+  pub continues : (history : List Entry) (left : ℕ) → IsGoing begun out history → IsLegal begun.set (history ++ entries) → out.rows.planned + left ≡ out.rows.room
       → planned_jobs entries ≤ left → Continues out.names out.rows entries
-  continues story left t legal places few = record {
+  continues history left t legal places few = record {
     set = begun.set;
-    story = story;
+    history = history;
     one_each = subst (λ (n : Names). NamesSet n begun.set) (sym t.names_are) t.one_each;
     follows = t.follows;
     legal = legal;
-    few = omega (arith, planned_append story entries, t.follows.planned, places, few);
+    few = omega (arith, planned_append history entries, t.follows.planned, places, few);
   }
 
-  text_after : (story : List Entry) → IsGoing begun out story → entries_text begun.names story ++ entries_text out.names entries ≡ entries_text begun.names (story ++ entries)
-  text_after story t =
-      ap (λ (m : Names). entries_text begun.names story ++ entries_text m entries) t.names_are ∙ sym (text_append begun.names story entries)
+  text_after : (history : List Entry) → IsGoing begun out history → entries_text begun.names history ++ entries_text out.names entries ≡ entries_text begun.names (history ++ entries)
+  text_after history t =
+      ap (λ (m : Names). entries_text begun.names history ++ entries_text m entries) t.names_are ∙ sym (text_append begun.names history entries)
 
   -- after all lines of the piece
   module _ (rows' : RowsSeen) (lines' : List ℕ) (n : ℕ) (taken' : Option (List ℕ)) (left : ℕ) where
     abbrev After : OutSeen
     After = record { standing = out.standing; names = out.names; rows = rows'; lines = lines'; bytes = out.bytes + n; taken = taken' }
 
-    going_after : (story : List Entry) → IsGoing begun out story → IsLegal begun.set (story ++ entries) → rows'.room ≡ out.rows.room
+    going_after : (history : List Entry) → IsGoing begun out history → IsLegal begun.set (history ++ entries) → rows'.room ≡ out.rows.room
         → ((set : Set) (before : List Entry) → Follows set out.rows before → IsLegal set (before ++ entries) → Follows set rows' (before ++ entries))
         → Appends out.taken taken' (entries_text out.names entries) → lines' ≡ [] → out.rows.planned + left ≡ out.rows.room → planned_jobs entries ≤ left
-        → n ≡ length (entries_text out.names entries) → n ≤ 256 * length entries → IsGoing begun After (story ++ entries)
-    going_after story t legal room follows has none places few bytes short = record {
+        → n ≡ length (entries_text out.names entries) → n ≤ 256 * length entries → IsGoing begun After (history ++ entries)
+    going_after history t legal room follows has none places few bytes short = record {
       names_are = t.names_are;
       room_is = room ∙ t.room_is;
       one_each = t.one_each;
-      follows = follows begun.set story t.follows legal;
-      few = omega (arith, planned_append story entries, t.follows.planned, places, few, t.room_is);
+      follows = follows begun.set history t.follows legal;
+      few = omega (arith, planned_append history entries, t.follows.planned, places, few, t.room_is);
       sent = none;
-      has = subst (λ (x : List ℕ). Appends begun.front taken' x) (text_after story t)
-          (appends_then begun.front out.taken taken' (entries_text begun.names story) (entries_text out.names entries) t.has has);
+      has = subst (λ (x : List ℕ). Appends begun.front taken' x) (text_after history t)
+          (appends_then begun.front out.taken taken' (entries_text begun.names history) (entries_text out.names entries) t.has has);
       bytes_are =
-          ap (λ (x : List ℕ). length x) (sym (text_after story t))
-          ∙ (length-append (entries_text begun.names story) (entries_text out.names entries)
+          ap (λ (x : List ℕ). length x) (sym (text_after history t))
+          ∙ (length-append (entries_text begun.names history) (entries_text out.names entries)
           ∙ omega (arith, t.bytes_are, bytes));
-      short = omega (arith, t.short, short, length-append story entries);
+      short = omega (arith, t.short, short, length-append history entries);
     }
 
     pub taken_on : IsLost begun out [] → rows'.room ≡ out.rows.room
         → ((set : Set) (before : List Entry) → Follows set out.rows before → IsLegal set (before ++ entries) → Follows set rows' (before ++ entries))
         → Appends out.taken taken' (entries_text out.names entries) → lines' ≡ [] → out.rows.planned + left ≡ out.rows.room → planned_jobs entries ≤ left
         → n ≡ length (entries_text out.names entries) → n ≤ 256 * length entries
-        → (story : List Entry) → HasTaken begun out story → HasTaken begun After (story ++ entries)
-    taken_on h room follows has none places few bytes short story t = λ legal.
-        taken_going out.standing begun After (story ++ entries) (goes begun out h)
-        (going_after story (going story h t legal) legal room follows has none places few bytes short)
+        → (history : List Entry) → HasTaken begun out history → HasTaken begun After (history ++ entries)
+    taken_on h room follows has none places few bytes short history t = λ legal.
+        taken_going out.standing begun After (history ++ entries) (goes begun out h)
+        (going_after history (going history h t legal) legal room follows has none places few bytes short)
 
   -- after a fault of the sink
   module _ (rows' : RowsSeen) (lines' : List ℕ) (taken' : Option (List ℕ)) (n : ℕ) (has : Appends out.taken taken' (take n (entries_text out.names entries))) where
     abbrev Off : OutSeen
     Off = record { standing = Cut; names = out.names; rows = rows'; lines = lines'; bytes = out.bytes; taken = taken' }
 
-    pub cut_taken : IsLost begun out [] → (story : List Entry) → HasTaken begun out story → HasTaken begun Off story
-    cut_taken h story t = λ legal.
-        let was : IsGoing begun out story = going_at out.standing begun out story h (t legal) in
+    pub cut_taken : IsLost begun out [] → (history : List Entry) → HasTaken begun out history → HasTaken begun Off history
+    cut_taken h history t = λ legal.
+        let was : IsGoing begun out history = going_at out.standing begun out history h (t legal) in
         record {
           more = take n (entries_text out.names entries);
-          has = appends_then begun.front out.taken taken' (entries_text begun.names story) (take n (entries_text out.names entries)) was.has has;
+          has = appends_then begun.front out.taken taken' (entries_text begun.names history) (take n (entries_text out.names entries)) was.has has;
           bytes_are = was.bytes_are;
         }
 
-    pub cut_lost : (story : List Entry) → IsGoing begun out story → 0 < length entries → IsLost begun Off entries
-    cut_lost story t some = record {
+    pub cut_lost : (history : List Entry) → IsGoing begun out history → 0 < length entries → IsLost begun Off entries
+    cut_lost history t some = record {
       some = some;
-      before = entries_text begun.names story;
+      before = entries_text begun.names history;
       bytes_are = t.bytes_are;
       count = n;
-      has = subst (λ (m : Names). Appends begun.front taken' (entries_text begun.names story ++ take n (entries_text m entries))) t.names_are
-          (appends_then begun.front out.taken taken' (entries_text begun.names story) (take n (entries_text out.names entries)) t.has has);
+      has = subst (λ (m : Names). Appends begun.front taken' (entries_text begun.names history ++ take n (entries_text m entries))) t.names_are
+          (appends_then begun.front out.taken taken' (entries_text begun.names history) (take n (entries_text out.names entries)) t.has has);
     }
 
   -- where places are wanting
   abbrev Over : OutSeen
   Over = record { standing = Full; names = out.names; rows = out.rows; lines = out.lines; bytes = out.bytes; taken = out.taken }
 
-  pub over_lost : (story : List Entry) (left : ℕ) → IsGoing begun out story → out.rows.planned + left ≡ out.rows.room → left < planned_jobs entries → IsLost begun Over entries
-  over_lost story left t places over = record {
+  pub over_lost : (history : List Entry) (left : ℕ) → IsGoing begun out history → out.rows.planned + left ≡ out.rows.room → left < planned_jobs entries → IsLost begun Over entries
+  over_lost history left t places over = record {
     left = left;
     places = places ∙ t.room_is;
     over = over;

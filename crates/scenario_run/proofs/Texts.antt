@@ -36,47 +36,47 @@ rest_is n entries = take_all (length entries - n) (drop n entries) (omega (arith
 -- a front of the entries goes on too
 pub continues_front : (names : Names) (rows : RowsSeen) (entries : List Entry) (n : ℕ) → Continues names rows entries → Continues names rows (take n entries)
 continues_front names rows entries n c =
-    let parts : c.story ++ entries ≡ (c.story ++ take n entries) ++ drop n entries =
-    ap (λ (l : List Entry). c.story ++ l) (sym (take-append-drop n entries)) ∙ sym (append_assoc c.story (take n entries) (drop n entries)) in
-    let fewer : planned_jobs (c.story ++ take n entries) ≤ planned_jobs (c.story ++ entries) =
-    subst (λ (l : List Entry). planned_jobs (c.story ++ take n entries) ≤ planned_jobs l) (sym parts) (planned_front (c.story ++ take n entries) (drop n entries)) in
+    let parts : c.history ++ entries ≡ (c.history ++ take n entries) ++ drop n entries =
+    ap (λ (l : List Entry). c.history ++ l) (sym (take-append-drop n entries)) ∙ sym (append_assoc c.history (take n entries) (drop n entries)) in
+    let fewer : planned_jobs (c.history ++ take n entries) ≤ planned_jobs (c.history ++ entries) =
+    subst (λ (l : List Entry). planned_jobs (c.history ++ take n entries) ≤ planned_jobs l) (sym parts) (planned_front (c.history ++ take n entries) (drop n entries)) in
     record {
       set = c.set;
-      story = c.story;
+      history = c.history;
       one_each = c.one_each;
       follows = c.follows;
-      legal = legal_front c.set (c.story ++ take n entries) (drop n entries) (subst (IsLegal c.set) parts c.legal);
+      legal = legal_front c.set (c.history ++ take n entries) (drop n entries) (subst (IsLegal c.set) parts c.legal);
       few = omega (arith, fewer, c.few);
     }
 
 -- what is left of the entries goes on after those before
 pub continues_rest : (names : Names) (rows now : RowsSeen) (entries : List Entry) (i : ℕ) → (c : Continues names rows entries) → now.room ≡ rows.room
-    → ((set : Set) (story : List Entry) → Follows set rows story → IsLegal set (story ++ entries) → Follows set now (story ++ take i entries))
+    → ((set : Set) (history : List Entry) → Follows set rows history → IsLegal set (history ++ entries) → Follows set now (history ++ take i entries))
     → Continues names now (drop i entries)
 continues_rest names rows now entries i c room follows =
-    let parts : c.story ++ entries ≡ (c.story ++ take i entries) ++ drop i entries =
-    ap (λ (l : List Entry). c.story ++ l) (sym (take-append-drop i entries)) ∙ sym (append_assoc c.story (take i entries) (drop i entries)) in
+    let parts : c.history ++ entries ≡ (c.history ++ take i entries) ++ drop i entries =
+    ap (λ (l : List Entry). c.history ++ l) (sym (take-append-drop i entries)) ∙ sym (append_assoc c.history (take i entries) (drop i entries)) in
     record {
       set = c.set;
-      story = c.story ++ take i entries;
+      history = c.history ++ take i entries;
       one_each = c.one_each;
-      follows = follows c.set c.story c.follows c.legal;
+      follows = follows c.set c.history c.follows c.legal;
       legal = subst (IsLegal c.set) parts c.legal;
       few = omega (arith, ap planned_jobs parts, c.few, room);
     }
 
 pub follows_more : (rows now now' : RowsSeen) (entries : List Entry) (i n : ℕ)
-    → ((set : Set) (story : List Entry) → Follows set rows story → IsLegal set (story ++ entries) → Follows set now (story ++ take i entries))
+    → ((set : Set) (history : List Entry) → Follows set rows history → IsLegal set (history ++ entries) → Follows set now (history ++ take i entries))
     → ((set : Set) (before : List Entry) → Follows set now before → IsLegal set (before ++ take n (drop i entries)) → Follows set now' (before ++ take n (drop i entries)))
-    → (set : Set) (story : List Entry) → Follows set rows story → IsLegal set (story ++ entries) → Follows set now' (story ++ take (i + n) entries)
-follows_more rows now now' entries i n so_far next set story h legal =
-    let front : story ++ take (i + n) entries ≡ (story ++ take i entries) ++ take n (drop i entries) =
-    ap (λ (l : List Entry). story ++ l) (take_plus i n entries) ∙ sym (append_assoc story (take i entries) (take n (drop i entries))) in
-    let parts : story ++ entries ≡ (story ++ take (i + n) entries) ++ drop (i + n) entries =
-    ap (λ (l : List Entry). story ++ l) (sym (take-append-drop (i + n) entries)) ∙ sym (append_assoc story (take (i + n) entries) (drop (i + n) entries)) in
-    let here : IsLegal set ((story ++ take i entries) ++ take n (drop i entries)) =
-    subst (IsLegal set) front (legal_front set (story ++ take (i + n) entries) (drop (i + n) entries) (subst (IsLegal set) parts legal)) in
-    subst (Follows set now') (sym front) (next set (story ++ take i entries) (so_far set story h legal) here)
+    → (set : Set) (history : List Entry) → Follows set rows history → IsLegal set (history ++ entries) → Follows set now' (history ++ take (i + n) entries)
+follows_more rows now now' entries i n so_far next set history h legal =
+    let front : history ++ take (i + n) entries ≡ (history ++ take i entries) ++ take n (drop i entries) =
+    ap (λ (l : List Entry). history ++ l) (take_plus i n entries) ∙ sym (append_assoc history (take i entries) (take n (drop i entries))) in
+    let parts : history ++ entries ≡ (history ++ take (i + n) entries) ++ drop (i + n) entries =
+    ap (λ (l : List Entry). history ++ l) (sym (take-append-drop (i + n) entries)) ∙ sym (append_assoc history (take (i + n) entries) (drop (i + n) entries)) in
+    let here : IsLegal set ((history ++ take i entries) ++ take n (drop i entries)) =
+    subst (IsLegal set) front (legal_front set (history ++ take (i + n) entries) (drop (i + n) entries) (subst (IsLegal set) parts legal)) in
+    subst (Follows set now') (sym front) (next set (history ++ take i entries) (so_far set history h legal) here)
 
 -- ---- their lines
 
@@ -146,14 +146,14 @@ appends_none (Some xs) = sym (append-nil xs)
 pub record HasCome (names : Names) (rows now : RowsSeen) (entries : List Entry) (i : ℕ) (taken taken' : Option (List ℕ)) (lines : List ℕ)
     : Type 0 where
   pub way : IsOnTheWay taken taken' lines (entries_text names (drop i entries)) (entries_text names entries)
-  pub follows : (set : Set) (story : List Entry) → Follows set rows story → IsLegal set (story ++ entries) → Follows set now (story ++ take i entries)
+  pub follows : (set : Set) (history : List Entry) → Follows set rows history → IsLegal set (history ++ entries) → Follows set now (history ++ take i entries)
   pub places : now.room ≡ rows.room
 
 pub has_begun : (names : Names) (rows : RowsSeen) (entries : List Entry) (taken : Option (List ℕ)) (lines : List ℕ) → lines ≡ []
     → HasCome names rows rows entries 0 taken taken lines
 has_begun names rows entries taken lines none = record {
   way = starts taken lines (entries_text names entries) none (appends_none taken);
-  follows = λ set story h legal. subst (Follows set rows) (sym (append-nil story)) h;
+  follows = λ set history h legal. subst (Follows set rows) (sym (append-nil history)) h;
   places = refl;
 }
 

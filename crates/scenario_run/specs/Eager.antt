@@ -10,9 +10,9 @@ use Rattle.run_report.specs.Report.{report_of}
 use Rattle.scenario_run.specs.Written.{closing_of}
 
 -- the report of a run of the workload, in which transactions plan so many jobs themselves, as admitted or as a trial
-pub record IsRunTextBy (names : Names) (admitted : Bool) (w : Workload) (own : ℕ → ℕ) (text : List ℕ) : Type 0 where
+pub record IsRunTextBy (names : Names) (admitted : Bool) (w : Workload) (eager_jobs : ℕ → ℕ) (text : List ℕ) : Type 0 where
   pub history : List Entry
-  pub run : IsRunOf w own history
+  pub run : IsRunOf w eager_jobs history
   pub written : text ≡ report_of names w.set admitted history
 
 -- a head, the lines of a history, and the closing lines of its report

@@ -51,15 +51,15 @@ IsUntouched begun now = IfSome begun (λ disk. now ≡ disk)
 -- The log, which goes on, stands for what the out got and for what the disk has beyond it, and both agree as far as they go.
 -- The disk is untouched while it has all that the out got.
 pub record IsGoing {D : Type 0} (seen : D → Option (List ℕ)) (may_leave : D → List ℕ → Type 0) (moment : D → ℕ) (left_since : D → ℕ → List ℕ → Type 0) (names : Names) (set : Set)
-    (begun : Option D) (log : RecordsSeen D) (there story : List Entry) : Type 0 where
+    (begun : Option D) (log : RecordsSeen D) (there history : List Entry) : Type 0 where
   pub item_names : AreNames names.items
   pub txn_names : AreNames names.txns
   pub one_each : NamesSet names set
   pub goes : log.stopped ≡ false
-  pub agrees : Agree there story
-  pub stands : StandsFor seen may_leave names set log (with_rest there story)
-  pub untouched : length story ≤ length there → IsUntouched begun log.disk
-  pub moments : LeavesFronts seen moment left_since names set begun log.disk there story
+  pub agrees : Agree there history
+  pub stands : StandsFor seen may_leave names set log (with_rest there history)
+  pub untouched : length history ≤ length there → IsUntouched begun log.disk
+  pub moments : LeavesFronts seen moment left_since names set begun log.disk there history
 
 -- The log goes on and stands for this history, which begins with what the disk had.
 pub record IsWritten {D : Type 0} (seen : D → Option (List ℕ)) (may_leave : D → List ℕ → Type 0) (names : Names) (set : Set)

@@ -14,7 +14,7 @@ use Rattle.scenario_run.specs.declared.plan.Plan.{Plan}
 use Rattle.scenario_run.specs.declared.equip.Begun.{Begun}
 
 -- a scenario that may be run over a journal
-pub record IsCalm (s : Shown) : Type 0 where
+pub record AdmittedWithoutEager (s : Shown) : Type 0 where
   pub is : IsScenario s
   pub compiles : compile_refusal (set_of s) ≡ None
   pub admits : refusal (set_of s) ≡ None
@@ -22,17 +22,17 @@ pub record IsCalm (s : Shown) : Type 0 where
 
 -- the names, the set, the scripts and the ticks are the scenario's
 pub record IsPlan (s : Shown) (p : Plan) : Type 0 where
-  pub calm : IsCalm s
+  pub admitted_without_eager : AdmittedWithoutEager s
   pub names_are : p.names ≡ s.names
   pub set_is : p.set ≡ set_of s
   pub room_is : p.room ≡ s.room
-  pub ready : IsReady p.set p.bodies.scripts.items p.bodies.ticks.items p.bodies.own.items
+  pub ready : IsReady p.set p.bodies.scripts.items p.bodies.ticks.items p.bodies.eager_jobs.items
   pub runs : workload p.set (map next_of (map program_of p.bodies.scripts.items)) p.bodies.ticks.items ≡ workload_of s
 
 -- What the run of a scenario has beside its board and bodies: its names, its set, and a place for its entries. The workload is
 -- the scenario's.
 pub record HasBegun (s : Shown) (w : Workload) (b : Begun) : Type 0 where
-  pub calm : IsCalm s
+  pub admitted_without_eager : AdmittedWithoutEager s
   pub runs : w ≡ workload_of s
   pub names_are : b.names ≡ s.names
   pub set_is : b.set ≡ set_of s

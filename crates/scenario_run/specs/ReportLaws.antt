@@ -16,20 +16,20 @@ pub record IsFrontOf (begun : Begun) (out : OutSeen) (entries : List Entry) : Ty
 -- all lines of what was got, and then a front of those of what was lost
 abbrev pub AfterCut : Type 0
 AfterCut =
-    (begun : Begun) (out : OutSeen) (story piece : List Entry) → out.standing ≡ Cut → IsLegal begun.set (story ++ piece)
-    → HasTaken begun out story → IsLost begun out piece
-    → (front : IsFrontOf begun out (story ++ piece)) × (length (entries_text begun.names story) ≤ front.count)
+    (begun : Begun) (out : OutSeen) (history piece : List Entry) → out.standing ≡ Cut → IsLegal begun.set (history ++ piece)
+    → HasTaken begun out history → IsLost begun out piece
+    → (front : IsFrontOf begun out (history ++ piece)) × (length (entries_text begun.names history) ≤ front.count)
 
 -- the lines of what was got, and too many plans
 abbrev pub AfterFull : Type 0
 AfterFull =
-    (begun : Begun) (out : OutSeen) (story piece : List Entry) → out.standing ≡ Full → IsLegal begun.set story
-    → HasTaken begun out story → IsLost begun out piece
-    → IsGoing begun out story × (out.rows.room < planned_jobs (story ++ piece))
+    (begun : Begun) (out : OutSeen) (history piece : List Entry) → out.standing ≡ Full → IsLegal begun.set history
+    → HasTaken begun out history → IsLost begun out piece
+    → IsGoing begun out history × (out.rows.room < planned_jobs (history ++ piece))
 
 -- with no more plans than places
 abbrev pub HasFront : Type 0
 HasFront =
-    (begun : Begun) (out : OutSeen) (story piece : List Entry) → IsLegal begun.set (story ++ piece)
-    → planned_jobs (story ++ piece) ≤ begun.room → HasTaken begun out story → IsLost begun out piece
-    → (out.standing ≢ Full) × IsFrontOf begun out (story ++ piece)
+    (begun : Begun) (out : OutSeen) (history piece : List Entry) → IsLegal begun.set (history ++ piece)
+    → planned_jobs (history ++ piece) ≤ begun.room → HasTaken begun out history → IsLost begun out piece
+    → (out.standing ≢ Full) × IsFrontOf begun out (history ++ piece)

@@ -47,22 +47,22 @@ seen standing names rows lines bytes taken =
     record { standing = standing; names = names; rows = rows; lines = lines; bytes = bytes; taken = taken }
 
 -- the sink has the lines of this history and no more, and the rows are those of its jobs, which all have places
-pub record IsGoing (begun : Begun) (out : OutSeen) (story : List Entry) : Type 0 where
+pub record IsGoing (begun : Begun) (out : OutSeen) (history : List Entry) : Type 0 where
   pub names_are : out.names ≡ begun.names
   pub room_is : out.rows.room ≡ begun.room
   pub one_each : NamesSet begun.names begun.set
-  pub follows : Follows begun.set out.rows story
-  pub few : planned_jobs story ≤ begun.room
+  pub follows : Follows begun.set out.rows history
+  pub few : planned_jobs history ≤ begun.room
   pub sent : out.lines ≡ []
-  pub has : Appends begun.front out.taken (entries_text begun.names story)
-  pub bytes_are : length (entries_text begun.names story) ≡ out.bytes
-  pub short : out.bytes ≤ 256 * length story
+  pub has : Appends begun.front out.taken (entries_text begun.names history)
+  pub bytes_are : length (entries_text begun.names history) ≡ out.bytes
+  pub short : out.bytes ≤ 256 * length history
 
 -- the sink has the lines of this history, and maybe more
-pub record IsBefore (begun : Begun) (out : OutSeen) (story : List Entry) : Type 0 where
+pub record IsBefore (begun : Begun) (out : OutSeen) (history : List Entry) : Type 0 where
   pub more : List ℕ
-  pub has : Appends begun.front out.taken (entries_text begun.names story ++ more)
-  pub bytes_are : length (entries_text begun.names story) ≡ out.bytes
+  pub has : Appends begun.front out.taken (entries_text begun.names history ++ more)
+  pub bytes_are : length (entries_text begun.names history) ≡ out.bytes
 
 -- after so many bytes as the lines of what was got have, the sink has a front of the lines of this piece
 pub record IsCut (begun : Begun) (out : OutSeen) (piece : List Entry) : Type 0 where
@@ -79,9 +79,9 @@ pub record IsOver (begun : Begun) (out : OutSeen) (piece : List Entry) : Type 0 
   pub over : left < planned_jobs piece
 
 abbrev pub TakenAt : ReportStanding → Begun → OutSeen → List Entry → Type 0
-TakenAt Going begun out story = IsGoing begun out story
-TakenAt Cut begun out story = IsBefore begun out story
-TakenAt Full begun out story = IsGoing begun out story
+TakenAt Going begun out history = IsGoing begun out history
+TakenAt Cut begun out history = IsBefore begun out history
+TakenAt Full begun out history = IsGoing begun out history
 
 abbrev pub LostAt : ReportStanding → Begun → OutSeen → List Entry → Type 0
 LostAt Going begun out piece = piece ≡ []
@@ -90,7 +90,7 @@ LostAt Full begun out piece = IsOver begun out piece
 
 -- what the out got, of legal histories: its sink has their lines, and after a fault maybe more
 abbrev pub HasTaken : Begun → OutSeen → List Entry → Type 0
-HasTaken begun out story = IsLegal begun.set story → TakenAt out.standing begun out story
+HasTaken begun out history = IsLegal begun.set history → TakenAt out.standing begun out history
 
 -- what the out lost: nothing, the piece at which the sink failed, or the one for which it has too few places
 abbrev pub IsLost : Begun → OutSeen → List Entry → Type 0

@@ -13,8 +13,8 @@ use Rattle.set_admission.specs.Laws.{KeepsBounds}
 use Rattle.law_histories.specs.Sim.{Body, Workload, IsSim}
 use Rattle.sim_run.specs.Workloads.{workload, ticks_of, AreAccepted, IsObedient}
 use Rattle.law_runs.specs.Histories.{IsRunOf}
-use Rattle.law_runs.specs.Plannable.{ArePlannable, own_of}
-use Rattle.plant_run.specs.Runs.{own_at}
+use Rattle.law_runs.specs.Plannable.{ArePlannable, eager_jobs_of}
+use Rattle.plant_run.specs.Runs.{eager_jobs_at}
 use Rattle.step_script.specs.declared.script.Script.{Script}
 use Rattle.step_script.specs.Scripts.{program_of, next_of}
 use Rattle.step_script.specs.declared.releases.Releases.{Releases}
@@ -65,13 +65,13 @@ abbrev pub functions_of : List Script → List Body
 functions_of scripts = map asked_by scripts
 
 -- scripts, ticks and own jobs with which a board of this set can be run
-pub record IsReady (set : Set) (scripts : List Script) (ticks : List (List ℕ)) (own : List ℕ) : Type 0 where
+pub record IsReady (set : Set) (scripts : List Script) (ticks : List (List ℕ)) (eager_jobs : List ℕ) : Type 0 where
   pub scripts_each : length scripts ≡ length set.txns
-  pub own_each : length own ≡ length set.txns
+  pub eager_jobs_each : length eager_jobs ≡ length set.txns
   pub accepted : AreAccepted set ticks
   pub obedient : IsObedient (workload set (functions_of scripts) ticks)
-  pub eager : (tx : ℕ) → 0 < own_at own tx → ticks_of ticks tx ≡ []
-  pub plannable : ArePlannable (workload set (functions_of scripts) ticks) (own_at own)
+  pub eager : (tx : ℕ) → 0 < eager_jobs_at eager_jobs tx → ticks_of ticks tx ≡ []
+  pub plannable : ArePlannable (workload set (functions_of scripts) ticks) (eager_jobs_at eager_jobs)
 
 -- the summary of the run of a workload
 pub record IsSummaryBy (w : Workload) (text : List ℕ) : Type 0 where
@@ -84,7 +84,7 @@ pub record IsSummaryBy (w : Workload) (text : List ℕ) : Type 0 where
 -- run where no transaction is eager, and has fewer entries than the scenario's room.
 pub record IsRunText (trial : Bool) (s : Shown) (text : List ℕ) : Type 0 where
   pub history : List Entry
-  pub run : IsRunOf (workload_of s) (own_of s) history
+  pub run : IsRunOf (workload_of s) (eager_jobs_of s) history
   pub determined : has_eager s ≡ false → IsSim (workload_of s) history
   pub guaranteed : IsGuaranteed (set_of s) history
   pub bounded : KeepsBoundsUnless trial (set_of s) history

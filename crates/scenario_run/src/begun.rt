@@ -133,19 +133,19 @@ pub(crate) fn run_begun<R: Threads + Wait + Sync, B: Board + Send + Drop, K: Sin
     let Bodies {
         scripts,
         ticks,
-        own,
+        eager_jobs,
     } = bodies;
-    let run = match run_on(alloc, board, scripts, &ticks, &own, workers) {
+    let run = match run_on(alloc, board, scripts, &ticks, &eager_jobs, workers) {
         Ok(run) => run,
         Err(OutOfMemory) => {
             drop(report);
             drop(ticks);
-            drop(own);
+            drop(eager_jobs);
             return Err(RunFault::Memory);
         }
     };
     let written = write_run(rt, alloc, run, report, gate, sink);
     drop(ticks);
-    drop(own);
+    drop(eager_jobs);
     written
 }

@@ -53,7 +53,7 @@ fn on_board(
     set: CompiledSet,
     bodies: Bodies,
 ) -> Result<Runner<Core, Script>, OutOfMemory>
-    requires { IsReady set bodies.scripts.items bodies.ticks.items bodies.own.items }
+    requires { IsReady set bodies.scripts.items bodies.ticks.items bodies.eager_jobs.items }
     ensures ready { IfOk result (λ r. CanRun ⟦<Core as Board>⟧.stands ⟦<Core as Board>⟧.set ⟦<Core as Board>⟧.room asked_by r) }
     ensures runs { IfOk result (λ r. workload_in ⟦<Core as Board>⟧.set asked_by r ≡ workload set (functions_of bodies.scripts.items) bodies.ticks.items) }
 {
@@ -76,9 +76,9 @@ fn on_board(
     let Bodies {
         scripts,
         ticks,
-        own,
+        eager_jobs,
     } = bodies;
-    drop(own);
+    drop(eager_jobs);
     Ok(Runner {
         board,
         bodies: scripts,

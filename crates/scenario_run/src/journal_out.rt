@@ -119,14 +119,14 @@ impl<'a, D: Disk, T: Journaled<D>> EntryOut for JournalOut<'a, D, T> {
     ghost use Rattle.step_journal.specs.History.{IsLegal};
     ghost use Rattle.scenario_run.specs.Outs.{IsGoing, IsOf, TakenAt, LeftAt, LostAt, other_stops};
 
-    ghost got = { λ out story. (out.kept.items ≡ story) ×
+    ghost got = { λ out history. (out.kept.items ≡ history) ×
         IsOf D.seen T.begun out.names.now out.set.now out.there.items out.room out.log.disk ×
-        TakenAt out.standing (IsGoing D.seen D.may_leave D.moment D.left_since T.begun.names T.begun.set T.begun.disk out.log T.begun.there story) };
+        TakenAt out.standing (IsGoing D.seen D.may_leave D.moment D.left_since T.begun.names T.begun.set T.begun.disk out.log T.begun.there history) };
 
-    ghost lost = { λ out story. LostAt out.standing T.begun.there out.kept.items story ×
-        LeftAt D.seen D.moment D.left_since T.begun.names T.begun.set T.begun.disk out.log.disk out.standing T.begun.there out.kept.items story };
+    ghost lost = { λ out history. LostAt out.standing T.begun.there out.kept.items history ×
+        LeftAt D.seen D.moment D.left_since T.begun.names T.begun.set T.begun.disk out.log.disk out.standing T.begun.there out.kept.items history };
 
-    ghost good = { λ out story. IsLegal T.begun.set story × (length story ≤ T.begun.room) };
+    ghost good = { λ out history. IsLegal T.begun.set history × (length history ≤ T.begun.room) };
 
     ghost stops = { λ out. D.faults out.log.disk + other_stops out.standing };
 

@@ -66,8 +66,8 @@ fn add_some<K: Sink>(
         (sent ++ lines.new.items ≡ lines.old.items ++ entries_text names.now (take p.0 entries.now))) }
     ensures bytes { IfOk result (λ p. (p.1 ≡ length (entries_text names.now (take p.0 entries.now))) × (p.1 ≤ 256 * p.0)) }
     ensures front { OnErr result ((n : ℕ) × Appends (K.taken sink.old) (K.taken sink.new) (take n lines.old.items)) }
-    ensures follows { IfOk result (λ p. (set : Set) (story : Many Noted) → Follows set writer.old story →
-        IsLegal set (story ++ take p.0 entries.now) → Follows set writer.new (story ++ take p.0 entries.now)) }
+    ensures follows { IfOk result (λ p. (set : Set) (history : Many Noted) → Follows set writer.old history →
+        IsLegal set (history ++ take p.0 entries.now) → Follows set writer.new (history ++ take p.0 entries.now)) }
     ensures places { writer.new.room ≡ writer.old.room }
     ensures room { vec_capacity lines.old ≤ vec_capacity lines.new }
     ensures cause { HasCause (K.faults sink.old) (K.faults sink.new) result }
@@ -95,8 +95,8 @@ pub(crate) fn add_lines<K: Sink>(
     ensures all { OnOk result (Appends (K.taken sink.old) (K.taken sink.new) (entries_text names.now entries.now) × (lines.new.items ≡ [])) }
     ensures bytes { IfOk result (λ n. (n ≡ length (entries_text names.now entries.now)) × (n ≤ 256 * length entries.now)) }
     ensures front { OnErr result ((n : ℕ) × Appends (K.taken sink.old) (K.taken sink.new) (take n (entries_text names.now entries.now))) }
-    ensures follows { OnOk result ((set : Set) (story : Many Noted) → Follows set writer.old story →
-        IsLegal set (story ++ entries.now) → Follows set writer.new (story ++ entries.now)) }
+    ensures follows { OnOk result ((set : Set) (history : Many Noted) → Follows set writer.old history →
+        IsLegal set (history ++ entries.now) → Follows set writer.new (history ++ entries.now)) }
     ensures places { writer.new.room ≡ writer.old.room }
     ensures room { vec_capacity lines.old ≤ vec_capacity lines.new }
     ensures cause { HasCause (K.faults sink.old) (K.faults sink.new) result }

@@ -3,8 +3,8 @@ ghost use Rattle.std.specs.Prelude.{◌≡◌, ◌+◌, ◌<◌, ◌≤◌, ℕ,
 ghost use Rattle.txn_set.specs.Set.{IsCompiled};
 ghost use Rattle.law_histories.specs.Counting.{room_of_jobs};
 ghost use Rattle.sim_run.specs.Workloads.{workload, ticks_of};
-ghost use Rattle.plant_run.specs.Runs.{own_at};
-ghost use Rattle.plant_run.specs.Ready.{CanRun, workload_in, own_in};
+ghost use Rattle.plant_run.specs.Runs.{eager_jobs_at};
+ghost use Rattle.plant_run.specs.Ready.{CanRun, workload_in, eager_jobs_in};
 ghost use Rattle.scenario_run.specs.Runs.{Declares, IsReady, asked_by, functions_of, IsSummaryBy};
 ghost use Rattle.scenario_run.specs.Begun.{workload_by, own_by};
 ghost use Rattle.scenario_run.specs.Replies.{LoadReply};
@@ -36,8 +36,8 @@ fn summary_on<R: Threads + Wait + Sync, B: Board + Send + Drop, G: Gate + Sync>(
 ) -> Result<Vec<u8>, OutOfMemory>
     requires ready { CanRun B.stands B.set B.room asked_by run }
     requires compiled { IsCompiled (B.set run.board) }
-    requires fixed { (tx : ℕ) → own_in run tx ≡ 0 }
-    requires entries { room_of_jobs (B.set run.board).txns (λ tx. length (ticks_of run.ticks.now tx) + own_in run tx) ≤ entries }
+    requires fixed { (tx : ℕ) → eager_jobs_in run tx ≡ 0 }
+    requires entries { room_of_jobs (B.set run.board).txns (λ tx. length (ticks_of run.ticks.now tx) + eager_jobs_in run tx) ≤ entries }
     ensures { IfOk result (λ text. IsSummaryBy (workload_in B.set asked_by run.entry) text.items) }
 {
     let (board, history) = keep_run(rt, alloc, run, entries, gate)?;
@@ -61,10 +61,10 @@ fn summary_of<R: Threads + Wait + Sync, B: Board + Send + Drop, G: Gate + Sync>(
 ) -> Result<Vec<u8>, OutOfMemory>
     requires opened { B.stands load.board [] }
     requires room { 1024 < B.room load.board }
-    requires ready { IsReady (B.set load.board) load.bodies.scripts.items load.bodies.ticks.items load.bodies.own.items }
+    requires ready { IsReady (B.set load.board) load.bodies.scripts.items load.bodies.ticks.items load.bodies.eager_jobs.items }
     requires compiled { IsCompiled (B.set load.board) }
-    requires fixed { (tx : ℕ) → own_at load.bodies.own.items tx ≡ 0 }
-    requires entries { room_of_jobs (B.set load.board).txns (λ tx. length (ticks_of load.bodies.ticks.items tx) + own_at load.bodies.own.items tx) ≤ load.room }
+    requires fixed { (tx : ℕ) → eager_jobs_at load.bodies.eager_jobs.items tx ≡ 0 }
+    requires entries { room_of_jobs (B.set load.board).txns (λ tx. length (ticks_of load.bodies.ticks.items tx) + eager_jobs_at load.bodies.eager_jobs.items tx) ≤ load.room }
     ensures { IfOk result (λ text. IsSummaryBy (workload (B.set load.board) (functions_of load.bodies.scripts.items) load.bodies.ticks.items) text.items) }
 {
     let LoadRun {
@@ -75,19 +75,19 @@ fn summary_of<R: Threads + Wait + Sync, B: Board + Send + Drop, G: Gate + Sync>(
     let Bodies {
         scripts,
         ticks,
-        own,
+        eager_jobs,
     } = bodies;
-    let run = match run_on(alloc, board, scripts, &ticks, &own, workers) {
+    let run = match run_on(alloc, board, scripts, &ticks, &eager_jobs, workers) {
         Ok(run) => run,
         Err(OutOfMemory) => {
             drop(ticks);
-            drop(own);
+            drop(eager_jobs);
             return Err(OutOfMemory);
         }
     };
     let text = summary_on(rt, alloc, run, room, gate);
     drop(ticks);
-    drop(own);
+    drop(eager_jobs);
     text
 }
 

@@ -8,7 +8,7 @@ ghost use Rattle.plant_run.specs.Ready.{CanRun};
 ghost use Rattle.scenario_run.specs.Runs.{Declares, IsReady, asked_by};
 ghost use Rattle.scenario_run.specs.Replies.{IsJudged, RunReply};
 
-use crate::ticks::{all_fixed, all_own, count, count_own};
+use crate::ticks::{all_fixed, count, count_eager_jobs, eager_jobs_of_all};
 use board::Board;
 use command_replies::{Accepted, Reply, Tasks, admitted_scenario, compiled_scenario};
 use plant_run::Run;
@@ -27,17 +27,17 @@ pub const BOARD_ROOM: usize = 4_096;
 pub struct Bodies {
     pub scripts: Vec<Script>,
     pub ticks: Vec<List<Tick>>,
-    pub own: Vec<u32>,
+    pub eager_jobs: Vec<u32>,
 }
 
 impl Bodies {
     /// How many jobs there are, eager ones too.
     pub fn jobs(&self) -> usize
         requires fixed { sum (map length self.now.ticks.items) ≤ 65536 }
-        requires eager { sum self.now.own.items ≤ 65536 }
-        ensures { result ≡ sum (map length self.now.ticks.items) + sum self.now.own.items }
+        requires eager { sum self.now.eager_jobs.items ≤ 65536 }
+        ensures { result ≡ sum (map length self.now.ticks.items) + sum self.now.eager_jobs.items }
     {
-        count(&self.ticks) + count_own(&self.own)
+        count(&self.ticks) + count_eager_jobs(&self.eager_jobs)
     }
 }
 
@@ -83,8 +83,8 @@ fn jobs_of(
 {
     set.is_compiled();
     let ticks = all_fixed(alloc, set.txns(), tasks.releases.as_slice())?;
-    let own = all_own(alloc, tasks.releases.as_slice())?;
-    Ok((ticks, own))
+    let eager_jobs = eager_jobs_of_all(alloc, tasks.releases.as_slice())?;
+    Ok((ticks, eager_jobs))
 }
 
 /// The scripts, the fixed ticks of the releases, and the eager jobs.
@@ -92,8 +92,8 @@ pub fn prepared(alloc: Global, set: &CompiledSet, tasks: Tasks) -> Result<Bodies
     requires { Declares set.now tasks.scripts tasks.releases }
     ensures scripts { IfOk result (λ b. b.scripts.items ≡ tasks.scripts) }
     ensures ticks { IfOk result (λ b. b.ticks.items ≡ fixed_ticks set.now.txns tasks.releases) }
-    ensures own { IfOk result (λ b. b.own.items ≡ map eager_of tasks.releases) }
-    ensures ready { IfOk result (λ b. IsReady set.now b.scripts.items b.ticks.items b.own.items) }
+    ensures eager_jobs { IfOk result (λ b. b.eager_jobs.items ≡ map eager_of tasks.releases) }
+    ensures ready { IfOk result (λ b. IsReady set.now b.scripts.items b.ticks.items b.eager_jobs.items) }
 {
     set.is_compiled();
     let jobs = jobs_of(alloc, set, &tasks);
@@ -104,10 +104,10 @@ pub fn prepared(alloc: Global, set: &CompiledSet, tasks: Tasks) -> Result<Bodies
     } = tasks;
     drop(releases);
     match jobs {
-        Ok((ticks, own)) => Ok(Bodies {
+        Ok((ticks, eager_jobs)) => Ok(Bodies {
             scripts: scripts.into_vec(),
             ticks,
-            own,
+            eager_jobs,
         }),
         Err(OutOfMemory) => {
             drop(scripts);
@@ -122,22 +122,22 @@ pub(crate) fn run_on<'a, B: Board + Drop>(
     board: B,
     scripts: Vec<Script>,
     ticks: &'a [List<Tick>],
-    own: &'a [u32],
+    eager_jobs: &'a [u32],
     workers: Workers,
 ) -> Result<Run<'a, B, Script>, OutOfMemory>
     requires opened { B.stands board [] }
     requires room { 1024 < B.room board }
-    requires ready { IsReady (B.set board) scripts.items ticks.now own.now }
+    requires ready { IsReady (B.set board) scripts.items ticks.now eager_jobs.now }
     ensures ready { IfOk result (λ r. CanRun B.stands B.set B.room asked_by r) }
     ensures board { IfOk result (λ r. r.board ≡ board) }
-    ensures parts { IfOk result (λ r. (r.bodies ≡ scripts) × (r.ticks.now ≡ ticks.now) × (r.own.now ≡ own.now)) }
+    ensures parts { IfOk result (λ r. (r.bodies ≡ scripts) × (r.ticks.now ≡ ticks.now) × (r.eager_jobs.now ≡ eager_jobs.now)) }
 {
     let spare = Vec::with_capacity(alloc, board.room())?;
     Ok(Run {
         board,
         bodies: scripts,
         ticks,
-        own,
+        eager_jobs,
         workers,
         spare,
     })

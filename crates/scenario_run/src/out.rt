@@ -78,13 +78,13 @@ impl<'a, K: Sink, T: Reported> EntryOut for ReportOut<'a, K, T> {
     ghost use Rattle.step_journal.specs.History.{IsLegal};
     ghost use Rattle.scenario_run.specs.ReportOuts.{HasTaken, IsLost, seen, full_stops};
 
-    ghost got = { λ out story. (T.begun.sink ≡ out.sink.ghost_name) ×
-        HasTaken T.begun (seen out.standing out.names.now out.writer out.lines.items out.bytes (K.taken out.sink.now)) story };
+    ghost got = { λ out history. (T.begun.sink ≡ out.sink.ghost_name) ×
+        HasTaken T.begun (seen out.standing out.names.now out.writer out.lines.items out.bytes (K.taken out.sink.now)) history };
 
-    ghost lost = { λ out story.
-        IsLost T.begun (seen out.standing out.names.now out.writer out.lines.items out.bytes (K.taken out.sink.now)) story };
+    ghost lost = { λ out history.
+        IsLost T.begun (seen out.standing out.names.now out.writer out.lines.items out.bytes (K.taken out.sink.now)) history };
 
-    ghost good = { λ out story. IsLegal T.begun.set story };
+    ghost good = { λ out history. IsLegal T.begun.set history };
 
     ghost stops = { λ out. K.faults out.sink.now + full_stops out.standing };
 

@@ -51,7 +51,7 @@ impl<B: Board, Y: Body> Runner<B, Y> {
 impl<B: Board + Drop, Y: Drop> Runner<B, Y> {
     /// The items of the board as they are installed.
     pub(crate) fn into_items(self) -> Items
-        ensures { (story : Many Noted) → B.stands self.board story → result ≡ (state_of (B.set self.board) story).items }
+        ensures { (history : Many Noted) → B.stands self.board history → result ≡ (state_of (B.set self.board) history).items }
     {
         let Runner {
             board,

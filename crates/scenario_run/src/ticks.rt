@@ -65,7 +65,7 @@ pub(crate) fn count(ticks: &[List<Tick>]) -> usize
     count
 }
 
-fn eager_jobs(releases: &Releases) -> u32
+fn eager_count(releases: &Releases) -> u32
     ensures { result ≡ eager_of releases.now }
 {
     match releases {
@@ -75,23 +75,26 @@ fn eager_jobs(releases: &Releases) -> u32
 }
 
 /// How many jobs each transaction plans itself.
-pub(crate) fn all_own(alloc: Global, releases: &[Releases]) -> Result<Vec<u32>, OutOfMemory>
-    ensures { IfOk result (λ own. own.items ≡ map eager_of releases.now) }
+pub(crate) fn eager_jobs_of_all(
+    alloc: Global,
+    releases: &[Releases],
+) -> Result<Vec<u32>, OutOfMemory>
+    ensures { IfOk result (λ eager_jobs. eager_jobs.items ≡ map eager_of releases.now) }
 {
-    let mut own = Vec::with_capacity(alloc, releases.len())?;
+    let mut eager_jobs = Vec::with_capacity(alloc, releases.len())?;
     for list in releases {
-        own.push(eager_jobs(list))?;
+        eager_jobs.push(eager_count(list))?;
     }
-    Ok(own)
+    Ok(eager_jobs)
 }
 
 /// How many jobs the transactions plan themselves in all.
-pub(crate) fn count_own(own: &[u32]) -> usize
-    requires { sum own.now ≤ 65536 }
-    ensures { result ≡ sum own.now }
+pub(crate) fn count_eager_jobs(eager_jobs: &[u32]) -> usize
+    requires { sum eager_jobs.now ≤ 65536 }
+    ensures { result ≡ sum eager_jobs.now }
 {
     let mut count = 0;
-    for jobs in own {
+    for jobs in eager_jobs {
         count += *jobs as usize;
     }
     count

@@ -4,7 +4,7 @@ ghost use Rattle.txn_set.specs.Set.{IsCompiled};
 ghost use Rattle.law_histories.specs.Counting.{room_of_jobs};
 ghost use Rattle.sim_run.specs.Workloads.{ticks_of};
 ghost use Rattle.law_runs.specs.Histories.{IsRunOf};
-ghost use Rattle.plant_run.specs.Ready.{CanRun, workload_in, own_in};
+ghost use Rattle.plant_run.specs.Ready.{CanRun, workload_in, eager_jobs_in};
 ghost use Rattle.sim_run.specs.declared.fault.RunFault.TheVariants as faults;
 
 use board::Board;
@@ -43,11 +43,11 @@ impl<T: Roomy> EntryOut for RunEntries<T> {
     ghost use Rattle.std.specs.Prelude.{◌≡◌, ⊤};
     ghost use Rattle.scenario_run.specs.Kept.{IsRefused, stops_of};
 
-    ghost got = { λ out story. (out.room ≡ T.room) × (out.entries.items ≡ story) };
+    ghost got = { λ out history. (out.room ≡ T.room) × (out.entries.items ≡ history) };
 
-    ghost lost = { λ out story. IsRefused (record { room = out.room; kept = out.entries.items; full = out.full }) story };
+    ghost lost = { λ out history. IsRefused (record { room = out.room; kept = out.entries.items; full = out.full }) history };
 
-    ghost good = { λ out story. ⊤ };
+    ghost good = { λ out history. ⊤ };
 
     ghost stops = { λ out. stops_of out.full };
 
@@ -87,9 +87,9 @@ fn run_into<
 ) -> Result<B, OutOfMemory>
     requires ready { CanRun B.stands B.set B.room Y.gives run }
     requires compiled { IsCompiled (B.set run.board) }
-    requires entries { room_of_jobs (B.set run.board).txns (λ tx. length (ticks_of run.ticks.now tx) + own_in run tx) ≤ out.old.room }
+    requires entries { room_of_jobs (B.set run.board).txns (λ tx. length (ticks_of run.ticks.now tx) + eager_jobs_in run tx) ≤ out.old.room }
     requires fresh { (out.old.room ≡ T.room) × (out.old.entries.items ≡ []) × (out.old.full ≡ false) }
-    ensures run { IfOk result (λ b. IsRunOf (workload_in B.set Y.gives run.entry) (own_in run.entry) out.new.entries.items) }
+    ensures run { IfOk result (λ b. IsRunOf (workload_in B.set Y.gives run.entry) (eager_jobs_in run.entry) out.new.entries.items) }
     ensures stood { IfOk result (λ b. B.stands b out.new.entries.items) }
     ensures set { IfOk result (λ b. B.set b ≡ B.set run.entry.board) }
 {
@@ -116,8 +116,8 @@ pub fn keep_run<
 ) -> Result<(B, Vec<Entry>), OutOfMemory>
     requires ready { CanRun B.stands B.set B.room Y.gives run }
     requires compiled { IsCompiled (B.set run.board) }
-    requires entries { room_of_jobs (B.set run.board).txns (λ tx. length (ticks_of run.ticks.now tx) + own_in run tx) ≤ entries }
-    ensures run { IfOk result (λ r. IsRunOf (workload_in B.set Y.gives run.entry) (own_in run.entry) r.1.items) }
+    requires entries { room_of_jobs (B.set run.board).txns (λ tx. length (ticks_of run.ticks.now tx) + eager_jobs_in run tx) ≤ entries }
+    ensures run { IfOk result (λ r. IsRunOf (workload_in B.set Y.gives run.entry) (eager_jobs_in run.entry) r.1.items) }
     ensures stood { IfOk result (λ r. B.stands r.0 r.1.items) }
     ensures set { IfOk result (λ r. B.set r.0 ≡ B.set run.entry.board) }
 {

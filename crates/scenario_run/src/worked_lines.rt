@@ -7,7 +7,7 @@ ghost use Rattle.report_text.specs.Texts.{NamesSet};
 ghost use Rattle.scenario_run.specs.declared.standing.ReportStanding.TheVariants.{Going};
 ghost use Rattle.scenario_run.specs.ReportOuts.{IsBegun};
 ghost use Rattle.sim_run.specs.declared.fault.RunFault.TheVariants.{Writing};
-ghost use Rattle.plant_run.specs.Ready.{CanRun, workload_in, own_in};
+ghost use Rattle.plant_run.specs.Ready.{CanRun, workload_in, eager_jobs_in};
 ghost use Rattle.scenario_run.specs.Lines.{HasLines, HasFirstLines};
 
 use crate::out::{ReportOut, Reported};
@@ -32,7 +32,7 @@ pub(crate) fn run_lines<
     T: Reported,
 >(rt: &R, alloc: Global, run: Run<B, Y>, gate: &G, out: &mut ReportOut<K, T>) -> Result<B, RunFault>
     requires ready { CanRun B.stands B.set B.room Y.gives run }
-    requires none_eager { (tx : ℕ) → own_in run tx ≡ 0 }
+    requires none_eager { (tx : ℕ) → eager_jobs_in run tx ≡ 0 }
     requires begun { IsBegun T.begun out.old.sink.ghost_name (K.taken out.old.sink.now) out.old.names.now (B.set run.board) out.old.writer.room }
     requires one_each { NamesSet out.old.names.now (B.set run.board) }
     requires rows { Follows (B.set run.board) out.old.writer [] }

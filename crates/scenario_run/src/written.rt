@@ -5,8 +5,8 @@ ghost use Rattle.std.specs.Io.KnownBytes.{Keeps};
 ghost use Rattle.io_edge.specs.Causes.{Rose};
 ghost use Rattle.law_histories.specs.Counting.{room_of_jobs};
 ghost use Rattle.sim_run.specs.Workloads.{ticks_of};
-ghost use Rattle.law_runs.specs.Plannable.{own_jobs};
-ghost use Rattle.plant_run.specs.Ready.{CanRun, workload_in, own_in};
+ghost use Rattle.law_runs.specs.Plannable.{total_eager_jobs};
+ghost use Rattle.plant_run.specs.Ready.{CanRun, workload_in, eager_jobs_in};
 ghost use Rattle.scenario_run.specs.Opened.{IsOpened};
 ghost use Rattle.scenario_run.specs.Written.{Wrote, WroteFront};
 ghost use Rattle.sim_run.specs.declared.fault.RunFault.TheVariants.{Writing, Memory};
@@ -46,7 +46,7 @@ fn write_fixed<
     sink: &mut K,
 ) -> Result<(), RunFault>
     requires ready { CanRun B.stands B.set B.room Y.gives run }
-    requires none_eager { (tx : ℕ) → own_in run tx ≡ 0 }
+    requires none_eager { (tx : ℕ) → eager_jobs_in run tx ≡ 0 }
     requires opened { IsOpened (B.set run.board) report }
     requires places { sum (map length run.ticks.now) ≤ report.writer.room }
     ensures whole { OnOk result (Wrote (IsTextBy report.entry.names.now report.entry.admitted (workload_in B.set Y.gives run.entry)) (K.taken sink.old) (K.taken sink.new)) }
@@ -109,11 +109,11 @@ pub fn write_run<
 ) -> Result<(), RunFault>
     requires ready { CanRun B.stands B.set B.room Y.gives run }
     requires opened { IsOpened (B.set run.board) report }
-    requires places { sum (map length run.ticks.now) + own_jobs (B.set run.board) (own_in run) ≤ report.writer.room }
-    requires entries { room_of_jobs (B.set run.board).txns (λ tx. length (ticks_of run.ticks.now tx) + own_in run tx) ≤ report.entries }
-    ensures whole { OnOk result (Wrote (IsRunTextBy report.entry.names.now report.entry.admitted (workload_in B.set Y.gives run.entry) (own_in run.entry)) (K.taken sink.old) (K.taken sink.new)) }
-    ensures cut { IsErrOf result Writing → WroteFront (IsRunTextBy report.entry.names.now report.entry.admitted (workload_in B.set Y.gives run.entry) (own_in run.entry)) (K.taken sink.old) (K.taken sink.new) }
-    ensures short { IsErrOf result Memory → Keeps (K.taken sink.old) (K.taken sink.new) ⊎ WroteFront (IsRunTextBy report.entry.names.now report.entry.admitted (workload_in B.set Y.gives run.entry) (own_in run.entry)) (K.taken sink.old) (K.taken sink.new) }
+    requires places { sum (map length run.ticks.now) + total_eager_jobs (B.set run.board) (eager_jobs_in run) ≤ report.writer.room }
+    requires entries { room_of_jobs (B.set run.board).txns (λ tx. length (ticks_of run.ticks.now tx) + eager_jobs_in run tx) ≤ report.entries }
+    ensures whole { OnOk result (Wrote (IsRunTextBy report.entry.names.now report.entry.admitted (workload_in B.set Y.gives run.entry) (eager_jobs_in run.entry)) (K.taken sink.old) (K.taken sink.new)) }
+    ensures cut { IsErrOf result Writing → WroteFront (IsRunTextBy report.entry.names.now report.entry.admitted (workload_in B.set Y.gives run.entry) (eager_jobs_in run.entry)) (K.taken sink.old) (K.taken sink.new) }
+    ensures short { IsErrOf result Memory → Keeps (K.taken sink.old) (K.taken sink.new) ⊎ WroteFront (IsRunTextBy report.entry.names.now report.entry.admitted (workload_in B.set Y.gives run.entry) (eager_jobs_in run.entry)) (K.taken sink.old) (K.taken sink.new) }
     ensures fault { IsErrOf result Writing → Rose (K.faults sink.old) (K.faults sink.new) }
     ensures later { K.faults sink.old ≤ K.faults sink.new }
 {

@@ -38,7 +38,7 @@ pub(crate) fn is_job(a: JobId, b: JobId) -> bool
     a.tx.0 == b.tx.0 && a.serial == b.serial
 }
 
-// The same of a job by its row, and 0 where it has none.
+// The tick at which a job ended, or where the picture stops; 0 for a job that has no row.
 fn until_of(stop: Tick, rows: &[JobRow], job: JobId) -> Tick
     ensures { result ≡ until_in_rows stop rows.now job }
 {

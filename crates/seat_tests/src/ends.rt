@@ -86,7 +86,7 @@ fn ended(alloc: Global, set: &CompiledSet, history: &[Entry], tx: TxId) -> Optio
     ended
 }
 
-// The same by the entries alone.
+// How the jobs of a transaction ended, by the entries of a history alone.
 fn told_ends(history: &[Entry], tx: TxId, text: &mut String) -> Option<Ends> {
     let mut ends = Ends {
         planned: 0,

@@ -44,7 +44,7 @@ struct Held<B: Board> {
 }
 
 impl<B: Board> Board for Held<B> {
-    ghost stands = { λ h story. B.stands h.board story };
+    ghost stands = { λ h history. B.stands h.board history };
 
     ghost set = { λ h. B.set h.board };
 
@@ -54,7 +54,7 @@ impl<B: Board> Board for Held<B> {
 
     ghost kept = { λ h. B.kept h.board };
 
-    ghost is_story = { λ h story s. B.is_story h.board story s };
+    ghost is_history = { λ h history s. B.is_history h.board history s };
 
     fn plan(&mut self, tx: TxId, tick: Tick) -> Result<JobId, PlanRefused> {
         self.board.plan(tx, tick)

@@ -14,7 +14,7 @@ use Rattle.step_journal.specs.declared.entry.Entry.TheVariants.{Step}
 use Rattle.step_journal.specs.Step.{step, ask}
 use Rattle.step_journal.specs.History.{event_of, entry_given, IsLegal, state_of}
 use Rattle.board.specs.Answers.{step_reply}
-use Rattle.board.specs.Stories.{IsStory, noted, step_entry}
+use Rattle.board.specs.Histories.{IsHistory, noted, step_entry}
 use Rattle.board.specs.declared.replies.StepReply.TheVariants.{Done}
 use Rattle.job_rows.proofs.Going as going
 use Rattle.job_rows.proofs.Fronts.{next_legal}
@@ -37,15 +37,15 @@ end_of : (kept : List Entry) (e : Entry) → slice_get (kept ++ e ∷ []) (lengt
 end_of [] e = refl
 end_of (x ∷ xs) e = end_of xs e
 
-pub last_noted : (set set' : Set) (room room' first first' : ℕ) (kept kept' story : List Entry) (o : Option Entry)
-    → IsStory set room first kept story → IsStory set' room' first' kept' (noted story o) → first' ≡ first → true ≡ is_some o
+pub last_noted : (set set' : Set) (room room' first first' : ℕ) (kept kept' history : List Entry) (o : Option Entry)
+    → IsHistory set room first kept history → IsHistory set' room' first' kept' (noted history o) → first' ≡ first → true ≡ is_some o
     → slice_get kept' (length kept' - 1) ≡ o
-last_noted set set' room room' first first' kept kept' story None is is' same some = absurd cc
-last_noted set set' room room' first first' kept kept' story (Some e) is is' same some =
-    let le : first ≤ length story = omega (arith, is.counted) in
+last_noted set set' room room' first first' kept kept' history None is is' same some = absurd cc
+last_noted set set' room room' first first' kept kept' history (Some e) is is' same some =
+    let le : first ≤ length history = omega (arith, is.counted) in
     let kept_is : kept' ≡ kept ++ e ∷ [] = is'.rest
-    ∙ (ap (λ (n : ℕ). drop n (story ++ e ∷ [])) same
-    ∙ (drop-append-le first story (e ∷ []) le
+    ∙ (ap (λ (n : ℕ). drop n (history ++ e ∷ [])) same
+    ∙ (drop-append-le first history (e ∷ []) le
     ∙ ap (λ (l : List Entry). l ++ e ∷ []) (sym is.rest))) in
     let at : length kept' - 1 ≡ length kept = omega (arith, ap (λ (l : List Entry). length l) kept_is, length-append kept (e ∷ [])) in
     ap (slice_get kept') at ∙ (ap (λ (l : List Entry). slice_get l (length kept)) kept_is ∙ end_of kept e)
@@ -66,11 +66,11 @@ no_last (Some e) T is h = absurd cc
 
 -- a Compute by which nothing else happens is the step that is made
 
-pub compute_made : (set : Set) (story : List Entry) (kept room : ℕ) (job : JobId) (op : Op) → op ≡ Compute
-    → step_entry (state_of set story).now job op (step_reply set (state_of set story) kept room job op) ≡ made_by set story (ask job op)
-    → step_reply set (state_of set story) kept room job Compute ≡ Done Computed None
-    → made_by set story (ask job op) ≡ Some (Step job Compute Computed None (state_of set story).now)
-compute_made set story kept room job op e law answer =
+pub compute_made : (set : Set) (history : List Entry) (kept room : ℕ) (job : JobId) (op : Op) → op ≡ Compute
+    → step_entry (state_of set history).now job op (step_reply set (state_of set history) kept room job op) ≡ made_by set history (ask job op)
+    → step_reply set (state_of set history) kept room job Compute ≡ Done Computed None
+    → made_by set history (ask job op) ≡ Some (Step job Compute Computed None (state_of set history).now)
+compute_made set history kept room job op e law answer =
     sym law
-    ∙ (ap (step_entry (state_of set story).now job op) (ap (step_reply set (state_of set story) kept room job) e ∙ answer)
-    ∙ ap (λ (o : Op). step_entry (state_of set story).now job o (Done Computed None)) e)
+    ∙ (ap (step_entry (state_of set history).now job op) (ap (step_reply set (state_of set history) kept room job) e ∙ answer)
+    ∙ ap (λ (o : Op). step_entry (state_of set history).now job o (Done Computed None)) e)

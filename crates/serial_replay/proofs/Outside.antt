@@ -27,9 +27,9 @@ asks_nobody : (set : Set) (s : State) (job : JobId) (op : Op) (o : Option Row) �
 asks_nobody set s job op None h = refl
 asks_nobody set s job op (Some x) h = sym (ap (λ (b : Bool). entry_given (option_and_then (asked set s op) (cond b (Some x) None))) (h x refl))
 
-pub ask_outside : (set : Set) (story : List Entry) (job : JobId) (op : Op) → IsCompiled set → IsLegal set story → nat_lt job.tx.0 (length set.txns) ≡ false → None ≡ entry_given (step set (state_of set story) (ask job op))
+pub ask_outside : (set : Set) (history : List Entry) (job : JobId) (op : Op) → IsCompiled set → IsLegal set history → nat_lt job.tx.0 (length set.txns) ≡ false → None ≡ entry_given (step set (state_of set history) (ask job op))
 unfolding step
-ask_outside set story job op ok legal out = asks_nobody set (state_of set story) job op (running set (state_of set story).rows) (λ x runs.
-    let here = running_here set story ok legal x runs in
-    let lt : x.job.tx.0 < length set.txns = omega (arith, in_range (state_of set story).rows x.job.tx.0 x here, (legal_sound set story ok legal).frame.count) in
+ask_outside set history job op ok legal out = asks_nobody set (state_of set history) job op (running set (state_of set history).rows) (λ x runs.
+    let here = running_here set history ok legal x runs in
+    let lt : x.job.tx.0 < length set.txns = omega (arith, in_range (state_of set history).rows x.job.tx.0 x here, (legal_sound set history ok legal).frame.count) in
     other_false x.job job (λ same. clash (nat_lt job.tx.0 (length set.txns)) (ap (λ (j : JobId). nat_lt j.tx.0 (length set.txns)) (sym same) ∙ lt-ltb _ _ lt) out))

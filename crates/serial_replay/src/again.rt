@@ -5,7 +5,7 @@ ghost use Rattle.rt_base.specs.declared.operation.Op.{Op as Operation};
 ghost use Rattle.step_journal.specs.declared.entry.Entry.{Entry as Noted};
 ghost use Rattle.step_journal.specs.Step.{plan as planning, ask as asking, idle as idling};
 ghost use Rattle.step_journal.specs.History.{event_of};
-ghost use Rattle.board.specs.Stories.{step_entry};
+ghost use Rattle.board.specs.Histories.{step_entry};
 ghost use Rattle.serial_replay.specs.Boards.{GoesOnBy, made_by};
 ghost use Rattle.serial_replay.specs.Replays.{IsFirstIllegal, HasReplayed};
 
@@ -22,7 +22,7 @@ fn is_in_set<B: Board>(board: &B, tx: TxId) -> bool
 
 fn is_plan_noted<B: Board>(board: &mut B, tx: TxId, tick: Tick) -> bool
     requires { length (B.kept board.old) < B.room board.old }
-    ensures noted { (story : Many Noted) → B.stands board.old story → result ≡ is_some (made_by (B.set board.old) story (planning tx.0 tick)) }
+    ensures noted { (history : Many Noted) → B.stands board.old history → result ≡ is_some (made_by (B.set board.old) history (planning tx.0 tick)) }
     ensures goes_on { GoesOnBy B.stands B.set B.room B.first board.old board.new (planning tx.0 tick) }
 {
     answers_are_steps();
@@ -55,7 +55,7 @@ fn has_entry(reply: StepReply) -> bool
 #[inline(always)]
 fn is_step_noted<B: Board>(board: &mut B, job: JobId, op: Op) -> bool
     requires { length (B.kept board.old) < B.room board.old }
-    ensures noted { (story : Many Noted) → B.stands board.old story → result ≡ is_some (made_by (B.set board.old) story (asking job op)) }
+    ensures noted { (history : Many Noted) → B.stands board.old history → result ≡ is_some (made_by (B.set board.old) history (asking job op)) }
     ensures goes_on { GoesOnBy B.stands B.set B.room B.first board.old board.new (asking job op) }
 {
     answers_are_steps();
@@ -72,7 +72,7 @@ fn is_step_noted<B: Board>(board: &mut B, job: JobId, op: Op) -> bool
 
 fn is_idle_noted<B: Board>(board: &mut B) -> bool
     requires { length (B.kept board.old) < B.room board.old }
-    ensures noted { (story : Many Noted) → B.stands board.old story → result ≡ is_some (made_by (B.set board.old) story idling) }
+    ensures noted { (history : Many Noted) → B.stands board.old history → result ≡ is_some (made_by (B.set board.old) history idling) }
     ensures goes_on { GoesOnBy B.stands B.set B.room B.first board.old board.new idling }
 {
     answers_are_steps();
@@ -88,7 +88,7 @@ fn is_idle_noted<B: Board>(board: &mut B) -> bool
 #[inline(always)]
 fn is_noted<B: Board>(board: &mut B, entry: &Entry) -> bool
     requires { length (B.kept board.old) < B.room board.old }
-    ensures noted { (story : Many Noted) → B.stands board.old story → result ≡ is_some (made_by (B.set board.old) story (event_of entry.now)) }
+    ensures noted { (history : Many Noted) → B.stands board.old history → result ≡ is_some (made_by (B.set board.old) history (event_of entry.now)) }
     ensures goes_on { GoesOnBy B.stands B.set B.room B.first board.old board.new (event_of entry.now) }
 {
     match *entry {
@@ -163,7 +163,7 @@ fn is_same(made: &Entry, entry: &Entry) -> bool
 #[inline(always)]
 fn is_made_again<B: Board>(board: &mut B, entry: &Entry) -> bool
     requires { length (B.kept board.old) < B.room board.old }
-    ensures made { (story : Many Noted) → B.stands board.old story → IsTrue result ↔ (made_by (B.set board.old) story (event_of entry.now) ≡ Some entry.now) }
+    ensures made { (history : Many Noted) → B.stands board.old history → IsTrue result ↔ (made_by (B.set board.old) history (event_of entry.now) ≡ Some entry.now) }
     ensures goes_on { GoesOnBy B.stands B.set B.room B.first board.old board.new (event_of entry.now) }
 {
     if !is_noted(board, entry) {
@@ -178,7 +178,7 @@ fn is_made_again<B: Board>(board: &mut B, entry: &Entry) -> bool
 // Lets go of the entries of a board that has room for no more.
 fn make_room<B: Board>(board: &mut B)
     requires some { 0 < B.room board.old }
-    ensures stands { (story : Many Noted) → B.stands board.old story → B.stands board.new story }
+    ensures stands { (history : Many Noted) → B.stands board.old history → B.stands board.new history }
     ensures fixed { (B.set board.new ≡ B.set board.old) × (B.room board.new ≡ B.room board.old) }
     ensures kept { length (B.kept board.new) < B.room board.new }
 {

@@ -19,11 +19,11 @@ module _ {B : Type 0} (stands : B → List Entry → Type 0) (set : B → Set) (
   -- each of two seats made one entry: both stand in the history, at distinct places
   pub both_stand : (plant : PlantFacts) (b : B) (seats : List SeatFacts) (j k : ℕ) (s t : SeatFacts) (p q : ℕ) (x y : Entry) → Closed stands set room first kept plant b seats
       → j ≢ k → get_elem? seats j ≡ some s → get_elem? seats k ≡ some t → s.mine ≡ (p, x) ∷ [] → t.mine ≡ (q, y) ∷ []
-      → (story : List Entry) × stands b story × (get_elem? story p ≡ some x) × (get_elem? story q ≡ some y) × (p ≢ q)
+      → (history : List Entry) × stands b history × (get_elem? history p ≡ some x) × (get_elem? history q ≡ some y) × (p ≢ q)
   both_stand plant b seats j k s t p q x y c ne at_s at_t mine_s mine_t =
       let stand_s = (c.each j s at_s).1 in
       let stand_t = (c.each k t at_t).1 in (
-        c.story,
+        c.history,
         c.stood,
         stand_s 0 (p, x) (ap (λ m. get_elem? m 0) mine_s),
         stand_t 0 (q, y) (ap (λ m. get_elem? m 0) mine_t),
@@ -32,6 +32,6 @@ module _ {B : Type 0} (stands : B → List Entry → Type 0) (set : B → Set) (
             let one_s : times p s.mine ≡ 1 = subst (λ m. times p m ≡ 1) (sym mine_s) (once p x) in
             let one_t : times p t.mine ≡ 1 = subst (λ m. times p m ≡ 1) (sym mine_t) (subst (λ (n : ℕ). times n ((q, y) ∷ []) ≡ 1) (sym e) (once q y)) in
             let placed = c.placed p in
-            let most = below_once p (length c.story) in
+            let most = below_once p (length c.history) in
             absurd (omega arith),
       )

@@ -4,7 +4,7 @@ use mathlib.Core.Option.{some, some-injective, some-ne-none}
 use lib.ListN.{get_elem?}
 use Rattle.step_journal.specs.declared.entry.Entry.{Entry}
 use Rattle.txn_set.specs.Set.{Set}
-use Rattle.board.specs.Stories.{IsStory}
+use Rattle.board.specs.Histories.{IsHistory}
 use Rattle.turn_cell.specs.declared.view.View.{View}
 use Rattle.turn_cell.specs.Turn.{Begins, Stand, below, total, times_in}
 use Rattle.turn_cell.specs.Seats.{marks_in}
@@ -19,17 +19,17 @@ total_map : {X Y : Type 0} (g : Y → ℕ) (f : X → Y) (xs : List X) → total
 total_map g f [] = refl
 total_map g f (x ∷ xs) = ap (λ (n : ℕ). g (f x) + n) (total_map g f xs)
 
-pub closed : {B : Type 0} (stands : B → List Entry → Type 0) (set : B → Set) (room first : B → ℕ) (kept : B → List Entry) → ((b : B) (story : List Entry) → stands b story → IsStory (set b) (room b) (first b) (kept b) story)
-    → (p : PlantFacts) (b : B) (seats : List SeatFacts) (story : List Entry) → stands b story → set b ≡ p.set → room b ≡ p.room → p.start ≤ length story
-    → ((k : ℕ) (v : View Entry) → get_elem? (map view_of seats) k ≡ some v → Begins v.seen story × Stand v.mine story × (v.base ≤ first b))
-    → ((place : ℕ) → total (times_in place) (map view_of seats) + below place p.start ≡ below place (length story))
+pub closed : {B : Type 0} (stands : B → List Entry → Type 0) (set : B → Set) (room first : B → ℕ) (kept : B → List Entry) → ((b : B) (history : List Entry) → stands b history → IsHistory (set b) (room b) (first b) (kept b) history)
+    → (p : PlantFacts) (b : B) (seats : List SeatFacts) (history : List Entry) → stands b history → set b ≡ p.set → room b ≡ p.room → p.start ≤ length history
+    → ((k : ℕ) (v : View Entry) → get_elem? (map view_of seats) k ≡ some v → Begins v.seen history × Stand v.mine history × (v.base ≤ first b))
+    → ((place : ℕ) → total (times_in place) (map view_of seats) + below place p.start ≡ below place (length history))
     → total marks_in (map view_of seats) ≡ 1
     → ((k : ℕ) (v : View Entry) → get_elem? (map view_of seats) k ≡ some v → v.marked ≡ true → v.drained ≡ first b)
     → Closed stands set room first kept p b seats
-closed stands set room first kept law p b seats story stood set_is room_is began each placed marked drained = record {
-  story = story;
+closed stands set room first kept law p b seats history stood set_is room_is began each placed marked drained = record {
+  history = history;
   stood = stood;
-  legal = subst (λ (r : ℕ). IsStory p.set r (first b) (kept b) story) room_is (subst (λ (s : Set). IsStory s (room b) (first b) (kept b) story) set_is (law b story stood));
+  legal = subst (λ (r : ℕ). IsHistory p.set r (first b) (kept b) history) room_is (subst (λ (s : Set). IsHistory s (room b) (first b) (kept b) history) set_is (law b history stood));
   set_is = set_is;
   room_is = room_is;
   began = began;

@@ -7,7 +7,7 @@ use Rattle.rt_base.specs.declared.ids.JobId.{JobId}
 use Rattle.txn_set.specs.Set.{Set}
 use Rattle.board.specs.declared.replies.StepReply.{StepReply}
 use Rattle.board.specs.declared.replies.StepReply.TheVariants.{NoJob, NotYet, Undeclared, TooEarly, Unwritten, Full, Blocked, Done}
-use Rattle.board.specs.Stories.{step_entry, step_answer}
+use Rattle.board.specs.Histories.{step_entry, step_answer}
 use Rattle.shared_plant.specs.Seats.{SeatFacts, PlantFacts, IsOf}
 use Rattle.shared_plant.specs.Answers.{Later, Answered, Tries, IsNotYet, WaitsAt, missed_once, missed_more, turned}
 
@@ -19,11 +19,11 @@ later_missed s t u l e = subst (λ (x : SeatFacts). Later s x) (sym e)
     (record { plant = l.plant; tx = l.tx; seen = l.seen; mine = l.mine; turns = l.turns; missed = let m = l.missed in omega arith; drained = l.drained; base = l.base })
 
 -- after an answer that made no entry
-pub later_answered : (set : Set) (s t u : SeatFacts) (found : List Entry → ℕ → Type 0) (own : List Entry → Option Entry) → Later s t → Answered set found own t u → ((story : List Entry) → own story ≡ None) → Later s u
+pub later_answered : (set : Set) (s t u : SeatFacts) (found : List Entry → ℕ → Type 0) (own : List Entry → Option Entry) → Later s t → Answered set found own t u → ((history : List Entry) → own history ≡ None) → Later s u
 later_answered set s t u found own l a none =
-    let is : u ≡ turned t a.story a.base None = a.after ∙ ap (turned t a.story a.base) (none a.story) in
+    let is : u ≡ turned t a.history a.base None = a.after ∙ ap (turned t a.history a.base) (none a.history) in
     subst (λ (x : SeatFacts). Later s x) (sym is)
-    (record { plant = l.plant; tx = l.tx; seen = chained s.seen t.seen a.story l.seen a.begins; mine = l.mine; turns = let n = l.turns in omega arith; missed = l.missed; drained = l.drained; base = let p = l.base in let q = a.rises in omega arith })
+    (record { plant = l.plant; tx = l.tx; seen = chained s.seen t.seen a.history l.seen a.begins; mine = l.mine; turns = let n = l.turns in omega arith; missed = l.missed; drained = l.drained; base = let p = l.base in let q = a.rises in omega arith })
 
 pub not_yet_has_none : (r : StepReply) (job : JobId) (op : Op) (now : ℕ) → IsNotYet r → step_entry now job op r ≡ None
 not_yet_has_none (NoJob ended last) job op now h = absurd h
@@ -58,24 +58,24 @@ pub tried_missed : (set : Set) (waits : List Entry → ℕ → Type 0) (s t u : 
 tried_missed set waits s t u l e = record { number = suc l.number; tries = (t, l.tries, inl e); later = later_missed s t u l.later e }
 
 pub tried_answered : (set : Set) (room : ℕ) (job : JobId) (op : Op) (now : List Entry → ℕ) (r : StepReply) (s t u : SeatFacts) → Tried set (WaitsAt set room job op) s t
-    → Answered set (λ story base. r ≡ step_answer set story (length story - base) room job op) (λ story. step_entry (now story) job op r) t u → IsNotYet r → Tried set (WaitsAt set room job op) s u
+    → Answered set (λ history base. r ≡ step_answer set history (length history - base) room job op) (λ history. step_entry (now history) job op r) t u → IsNotYet r → Tried set (WaitsAt set room job op) s u
 tried_answered set room job op now r s t u l a yet =
-    let none : step_entry (now a.story) job op r ≡ None = not_yet_has_none r job op (now a.story) yet in
+    let none : step_entry (now a.history) job op r ≡ None = not_yet_has_none r job op (now a.history) yet in
     record {
       number = suc l.number;
       tries = (
         t,
         l.tries,
         inr (record {
-          story = a.story;
+          history = a.history;
           base = a.base;
           begins = a.begins;
           rises = a.rises;
           within = a.within;
           says = subst IsNotYet a.says yet;
-          after = a.after ∙ ap (turned t a.story a.base) none;
+          after = a.after ∙ ap (turned t a.history a.base) none;
           legal = a.legal;
         }),
       );
-      later = later_answered set s t u (λ story base. r ≡ step_answer set story (length story - base) room job op) (λ story. step_entry (now story) job op r) l.later a (λ story. not_yet_has_none r job op (now story) yet);
+      later = later_answered set s t u (λ history base. r ≡ step_answer set history (length history - base) room job op) (λ history. step_entry (now history) job op r) l.later a (λ history. not_yet_has_none r job op (now history) yet);
     }

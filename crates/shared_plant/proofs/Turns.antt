@@ -6,7 +6,7 @@ use Rattle.rt_base.specs.declared.operation.Op.{Op}
 use Rattle.step_journal.specs.declared.entry.Entry.{Entry}
 use Rattle.step_journal.specs.History.{IsLegal}
 use Rattle.txn_set.specs.Set.{Set}
-use Rattle.board.specs.Stories.{noted, running_of}
+use Rattle.board.specs.Histories.{noted, running_of}
 use Rattle.board.specs.declared.replies.StepReply.{StepReply}
 use Rattle.turn_cell.specs.declared.view.View.{View}
 use Rattle.turn_cell.specs.Turn.{Begins, counted, taking, released}
@@ -134,20 +134,20 @@ module _ {A : Type 0} (asks : A → Op → Type 0) (hears : A → Op → StepRep
       subst (λ (x : Set × ℕ × ℕ). OneStep asks hears x.0 x.1 x.2 job on off a b v w) (λ i. (p i, q i, r i)) o
 
   -- what the call has done
-  pub stepped_of : (p : PlantFacts) (set : Set) (room : ℕ) (job : JobId) (running : Option JobId) (a b : A) (f old t new : SeatFacts) (story : List Entry) (base : ℕ) → set ≡ p.set → room ≡ p.room → f ≡ old → t ≡ new
-      → Begins f.seen story → f.base ≤ base → base ≤ length story → Steps asks hears set room job 64 a b (turned f story base None) t → running ≡ running_of set t.seen → IsLegal set t.seen
+  pub stepped_of : (p : PlantFacts) (set : Set) (room : ℕ) (job : JobId) (running : Option JobId) (a b : A) (f old t new : SeatFacts) (history : List Entry) (base : ℕ) → set ≡ p.set → room ≡ p.room → f ≡ old → t ≡ new
+      → Begins f.seen history → f.base ≤ base → base ≤ length history → Steps asks hears set room job 64 a b (turned f history base None) t → running ≡ running_of set t.seen → IsLegal set t.seen
       → Stepped asks hears p job 64 running a b old new
-  stepped_of p set room job running a b f old t new story base set_is room_is old_is new_is begins rises within steps runs legal =
+  stepped_of p set room job running a b f old t new history base set_is room_is old_is new_is begins rises within steps runs legal =
       subst (λ (x : Set × ℕ × SeatFacts × SeatFacts). Stepped asks hears (record p { set = x.0; room = x.1 }) job 64 running a b x.2 x.3) (λ i. (set_is i, room_is i, old_is i, new_is i))
-      (record { story = story; base = base; begins = begins; rises = rises; within = within; steps = steps; running_is = runs; legal = legal })
+      (record { history = history; base = base; begins = begins; rises = rises; within = within; steps = steps; running_is = runs; legal = legal })
 
 -- a turn begins
 
-pub held_taken : (s t : Standing Entry) (tx : Option TxId) (front : ℕ) (story : List Entry) (base : ℕ) → IsKept s tx front → t.cell ≡ s.cell → t.view ≡ taking s.view story base → IsHeld (turned (facts_of s tx) story base None) t
-held_taken s t tx front story base k cell view = (cell, view ∙ ap (λ (v : View Entry). taking v story base) k.0)
+pub held_taken : (s t : Standing Entry) (tx : Option TxId) (front : ℕ) (history : List Entry) (base : ℕ) → IsKept s tx front → t.cell ≡ s.cell → t.view ≡ taking s.view history base → IsHeld (turned (facts_of s tx) history base None) t
+held_taken s t tx front history base k cell view = (cell, view ∙ ap (λ (v : View Entry). taking v history base) k.0)
 
-pub sound_taken : (s : Standing Entry) (tx : Option TxId) (front : ℕ) (story : List Entry) (base : ℕ) → IsKept s tx front → Begins s.view.seen story → IsSound (turned (facts_of s tx) story base None)
-sound_taken s tx front story base k b = let more = begins_long s.view.seen story b in let few = k.2.1 in (stand_longer s.view.mine s.view.seen story b k.2.0, omega arith)
+pub sound_taken : (s : Standing Entry) (tx : Option TxId) (front : ℕ) (history : List Entry) (base : ℕ) → IsKept s tx front → Begins s.view.seen history → IsSound (turned (facts_of s tx) history base None)
+sound_taken s tx front history base k b = let more = begins_long s.view.seen history b in let few = k.2.1 in (stand_longer s.view.mine s.view.seen history b k.2.0, omega arith)
 
 -- and ends
 

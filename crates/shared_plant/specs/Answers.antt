@@ -5,7 +5,7 @@ use Rattle.rt_base.specs.declared.operation.Op.{Op}
 use Rattle.step_journal.specs.declared.entry.Entry.{Entry}
 use Rattle.step_journal.specs.History.{IsLegal}
 use Rattle.txn_set.specs.Set.{Set}
-use Rattle.board.specs.Stories.{noted, step_answer}
+use Rattle.board.specs.Histories.{noted, step_answer}
 use Rattle.board.specs.declared.replies.StepReply.{StepReply}
 use Rattle.board.specs.declared.replies.StepReply.TheVariants.{NoJob, NotYet, Undeclared, TooEarly, Unwritten, Full, Blocked, Done}
 use Rattle.turn_cell.specs.Turn.{Begins}
@@ -27,14 +27,14 @@ missed_once s = record s { missed = s.missed + 1 }
 
 -- a seat's own entries, with the one that it made at the end of a history, or none
 abbrev pub with_own : List (ℕ × Entry) → List Entry → Option Entry → List (ℕ × Entry)
-with_own mine story None = mine
-with_own mine story (Some entry) = mine ++ (length story, entry) ∷ []
+with_own mine history None = mine
+with_own mine history (Some entry) = mine ++ (length history, entry) ∷ []
 
 -- a seat that took the turn once, at this history of which so many entries were drained, and made this entry or none
 abbrev pub turned : SeatFacts → List Entry → ℕ → Option Entry → SeatFacts
-turned s story base own = record s {
-  seen = noted story own;
-  mine = with_own s.mine story own;
+turned s history base own = record s {
+  seen = noted history own;
+  mine = with_own s.mine history own;
   turns = s.turns + 1;
   base = base;
 }
@@ -42,18 +42,18 @@ turned s story base own = record s {
 -- The call took the turn once, at a history that begins with all that the seat had seen and of which the board kept the
 -- part from base on. It was answered there what it says, and made its entry or none.
 pub record Answered (set : Set) (found : List Entry → ℕ → Type 0) (own : List Entry → Option Entry) (old new : SeatFacts) : Type 0 where
-  pub story : List Entry
+  pub history : List Entry
   pub base : ℕ
-  pub begins : Begins old.seen story
+  pub begins : Begins old.seen history
   pub rises : old.base ≤ base
-  pub within : base ≤ length story
-  pub says : found story base
-  pub after : new ≡ turned old story base (own story)
+  pub within : base ≤ length history
+  pub says : found history base
+  pub after : new ≡ turned old history base (own history)
   pub legal : IsLegal set new.seen
 
 -- the call made no entry
 abbrev pub nothing : List Entry → Option Entry
-nothing story = None
+nothing history = None
 
 -- What a seat knows after some tries that were told Busy, or that made no entry.
 pub record Later (old new : SeatFacts) : Type 0 where
@@ -81,8 +81,8 @@ pub record AnsweredLate (set : Set) (waits found : List Entry → ℕ → Type 0
 
 -- a seat that took the turn once, at this history, and drained so many entries of it
 abbrev pub having_drained : SeatFacts → List Entry → ℕ → SeatFacts
-having_drained s story n = record s {
-  seen = story;
+having_drained s history n = record s {
+  seen = history;
   turns = s.turns + 1;
   base = s.drained;
   drained = s.drained + n;
@@ -92,14 +92,14 @@ having_drained s story n = record s {
 -- entries, those from the seat's drained on, to the end of a list: as many as there are, no more than most, and no more
 -- than the list has spare places for. The board kept no more than it has room for.
 pub record Drained (p : PlantFacts) (most spare : ℕ) (was is : List Entry) (n : ℕ) (old new : SeatFacts) : Type 0 where
-  pub story : List Entry
-  pub begins : Begins old.seen story
+  pub history : List Entry
+  pub begins : Begins old.seen history
   pub rises : old.base ≤ old.drained
-  pub moved : is ≡ was ++ take n (drop old.drained story)
-  pub within : old.drained + n ≤ length story
-  pub fits : length story - old.drained ≤ p.room
-  pub count : n ≡ min most (min (length story - old.drained) spare)
-  pub after : new ≡ having_drained old story n
+  pub moved : is ≡ was ++ take n (drop old.drained history)
+  pub within : old.drained + n ≤ length history
+  pub fits : length history - old.drained ≤ p.room
+  pub count : n ≡ min most (min (length history - old.drained) spare)
+  pub after : new ≡ having_drained old history n
   pub legal : IsLegal p.set new.seen
 
 -- a seat that found the turn taken so many times more
@@ -123,4 +123,4 @@ IsNotYet (Done outcome over) = ⊥
 
 -- the board answers a job's request at a history with NotYet
 abbrev pub WaitsAt : Set → ℕ → JobId → Op → List Entry → ℕ → Type 0
-WaitsAt set room job op story base = IsNotYet (step_answer set story (length story - base) room job op)
+WaitsAt set room job op history base = IsNotYet (step_answer set history (length history - base) room job op)

@@ -5,7 +5,7 @@ use lib.ListN.{get_elem?}
 use Rattle.rt_base.specs.declared.ids.TxId.{TxId}
 use Rattle.step_journal.specs.declared.entry.Entry.{Entry}
 use Rattle.txn_set.specs.Set.{Set}
-use Rattle.board.specs.Stories.{IsStory}
+use Rattle.board.specs.Histories.{IsHistory}
 use Rattle.turn_cell.specs.Turn.{Begins, Stand, mark_number, below, times, total}
 pub use Rattle.turn_cell.specs.Seats.{TableId}
 use Rattle.turn_cell.specs.Seats.{Standing}
@@ -122,17 +122,17 @@ operators_in s = mark_number (is_operator s.tx)
 
 -- What the board is when a plant on it is closed, and how all seats lie in its one history.
 pub record Closed {B : Type 0} (stands : B → List Entry → Type 0) (set : B → Set) (room first : B → ℕ) (kept : B → List Entry) (p : PlantFacts) (b : B) (seats : List SeatFacts) : Type 0 where
-  pub story : List Entry
-  pub stood : stands b story
+  pub history : List Entry
+  pub stood : stands b history
   -- the history is legal for the set, and the board keeps it from first on
-  pub legal : IsStory p.set p.room (first b) (kept b) story
+  pub legal : IsHistory p.set p.room (first b) (kept b) history
   pub set_is : set b ≡ p.set
   pub room_is : room b ≡ p.room
-  pub began : p.start ≤ length story
+  pub began : p.start ≤ length history
   -- what each seat has seen begins the history, and each of its own entries stands there at its place
-  pub each : (k : ℕ) (s : SeatFacts) → get_elem? seats k ≡ some s → Begins s.seen story × Stand s.mine story × (s.base ≤ first b)
+  pub each : (k : ℕ) (s : SeatFacts) → get_elem? seats k ≡ some s → Begins s.seen history × Stand s.mine history × (s.base ≤ first b)
   -- each place from the start's length on is that of exactly one entry of one seat, and no other place is
-  pub placed : (place : ℕ) → total (times_of place) seats + below place p.start ≡ below place (length story)
+  pub placed : (place : ℕ) → total (times_of place) seats + below place p.start ≡ below place (length history)
   -- one seat is the operator's, and the board keeps the history from that seat's drained on
   pub operator : total operators_in seats ≡ 1
   pub drained : (k : ℕ) (s : SeatFacts) → get_elem? seats k ≡ some s → s.tx ≡ None → s.drained ≡ first b

@@ -7,10 +7,10 @@ use Rattle.turn_cell.specs.Turn.{noting}
 use Rattle.turn_cell.specs.declared.view.View.{View}
 
 -- The board stood for one history, and stands now for another, which is legal too. What it had drained is of the first.
-pub record IsNext {B : Type 0} (stands : B → List Entry → Type 0) (set : B → Set) (first : B → ℕ) (old new : B) (story next : List Entry) : Type 0 where
+pub record IsNext {B : Type 0} (stands : B → List Entry → Type 0) (set : B → Set) (first : B → ℕ) (old new : B) (history next : List Entry) : Type 0 where
   pub stood : stands new next
   pub legal : IsLegal (set old) next
-  pub within : first old ≤ length story
+  pub within : first old ≤ length history
 
 -- the view of the turn's seat below after it noted this entry, or none
 abbrev pub noting_own : View Entry → Option Entry → View Entry

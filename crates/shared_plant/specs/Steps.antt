@@ -5,7 +5,7 @@ use Rattle.rt_base.specs.declared.operation.Op.{Op}
 use Rattle.step_journal.specs.declared.entry.Entry.{Entry}
 use Rattle.step_journal.specs.History.{IsLegal}
 use Rattle.txn_set.specs.Set.{Set}
-use Rattle.board.specs.Stories.{noted, step_answer, step_entry, now_of, running_of}
+use Rattle.board.specs.Histories.{noted, step_answer, step_entry, now_of, running_of}
 use Rattle.board.specs.declared.replies.StepReply.{StepReply}
 use Rattle.board.specs.declared.replies.StepReply.TheVariants.{NoJob, NotYet, Undeclared, TooEarly, Unwritten, Full, Blocked, Done}
 use Rattle.turn_cell.specs.Turn.{Begins}
@@ -70,12 +70,12 @@ module _ {A : Type 0} (asks : A → Op → Type 0) (hears : A → Op → StepRep
   -- The call took the turn once, at a history that begins with all that the seat had seen and of which the board kept the part
   -- from base on, and made these steps there. This job runs after them.
   pub record Stepped (p : PlantFacts) (job : JobId) (most : ℕ) (running : Option JobId) (a b : A) (old new : SeatFacts) : Type 0 where
-    pub story : List Entry
+    pub history : List Entry
     pub base : ℕ
-    pub begins : Begins old.seen story
+    pub begins : Begins old.seen history
     pub rises : old.base ≤ base
-    pub within : base ≤ length story
-    pub steps : Steps p.set p.room job most a b (turned old story base None) new
+    pub within : base ≤ length history
+    pub steps : Steps p.set p.room job most a b (turned old history base None) new
     pub running_is : running ≡ running_of p.set new.seen
     pub legal : IsLegal p.set new.seen
 

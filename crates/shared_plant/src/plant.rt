@@ -4,7 +4,7 @@ ghost use Rattle.step_journal.specs.declared.entry.Entry.{Entry as Noted};
 ghost use Rattle.step_journal.specs.History.{state_of};
 ghost use Rattle.rt_base.specs.declared.ids.TxId.{TxId as Transaction};
 ghost use Rattle.rt_base.specs.declared.ids.JobId.{JobId as Job};
-ghost use Rattle.board.specs.Stories.{plan_entry, plan_next_entry, step_entry, idle_entry, plan_answer, plan_next_answer, step_answer, idle_answer, now_of};
+ghost use Rattle.board.specs.Histories.{plan_entry, plan_next_entry, step_entry, idle_entry, plan_answer, plan_next_answer, step_answer, idle_answer, now_of};
 ghost use Rattle.turn_cell.specs.Seats.{fresh};
 ghost use Rattle.shared_plant.specs.Seats.{TableId, IsOf, AreOf, Closed, is_operator, newcomer, newcomers};
 ghost use Rattle.shared_plant.specs.Steps.{Stepped};
@@ -122,7 +122,7 @@ impl<B: Board> Plant<B> {
         requires plant { IsOf self.now seat.old }
         requires tx { (tx : Transaction) × (seat.old.tx ≡ Some tx) }
         ensures busy { IsBusy result → seat.new ≡ missed_once seat.old }
-        ensures said { (tx : Transaction) → seat.old.tx ≡ Some tx → IfSaid result (λ r. let job : Job = record { tx = tx; serial = serial } in Answered self.now.set (λ story base. r ≡ step_answer self.now.set story (length story - base) self.now.room job op) (λ story. step_entry (now_of self.now.set story) job op r) seat.old seat.new) }
+        ensures said { (tx : Transaction) → seat.old.tx ≡ Some tx → IfSaid result (λ r. let job : Job = record { tx = tx; serial = serial } in Answered self.now.set (λ history base. r ≡ step_answer self.now.set history (length history - base) self.now.room job op) (λ history. step_entry (now_of self.now.set history) job op r) seat.old seat.new) }
     {
         let Some(tx) = seat.tx else { unreachable!() };
         let Some(mut taken) = self.cell.try_take(&mut seat.seat) else {
@@ -170,7 +170,7 @@ impl<B: Board> Plant<B> {
         requires plant { IsOf self.now seat.old }
         requires tx { tx.0 < length self.now.set.txns }
         ensures busy { IsBusy result → seat.new ≡ missed_once seat.old }
-        ensures said { IfSaid result (λ r. Answered self.now.set (λ story base. r ≡ plan_answer self.now.set story (length story - base) self.now.room tx.0 tick) (λ story. plan_entry tx tick r) seat.old seat.new) }
+        ensures said { IfSaid result (λ r. Answered self.now.set (λ history base. r ≡ plan_answer self.now.set history (length history - base) self.now.room tx.0 tick) (λ history. plan_entry tx tick r) seat.old seat.new) }
     {
         let Some(mut taken) = self.cell.try_take(&mut seat.seat) else {
             return Tried::Busy;
@@ -190,7 +190,7 @@ impl<B: Board> Plant<B> {
         requires plant { IsOf self.now seat.old }
         requires tx { tx.0 < length self.now.set.txns }
         ensures busy { IsBusy result → seat.new ≡ missed_once seat.old }
-        ensures said { IfSaid result (λ r. Answered self.now.set (λ story base. r ≡ plan_next_answer self.now.set story (length story - base) self.now.room tx.0) (λ story. plan_next_entry tx r) seat.old seat.new) }
+        ensures said { IfSaid result (λ r. Answered self.now.set (λ history base. r ≡ plan_next_answer self.now.set history (length history - base) self.now.room tx.0) (λ history. plan_next_entry tx r) seat.old seat.new) }
     {
         let Some(mut taken) = self.cell.try_take(&mut seat.seat) else {
             return Tried::Busy;
@@ -204,7 +204,7 @@ impl<B: Board> Plant<B> {
     pub fn try_idle(&self, seat: &mut Seat<B>) -> Tried<IdleReply>
         requires plant { IsOf self.now seat.old }
         ensures busy { IsBusy result → seat.new ≡ missed_once seat.old }
-        ensures said { IfSaid result (λ r. Answered self.now.set (λ story base. r ≡ idle_answer self.now.set story (length story - base) self.now.room) (λ story. idle_entry (now_of self.now.set story) r) seat.old seat.new) }
+        ensures said { IfSaid result (λ r. Answered self.now.set (λ history base. r ≡ idle_answer self.now.set history (length history - base) self.now.room) (λ history. idle_entry (now_of self.now.set history) r) seat.old seat.new) }
     {
         let Some(mut taken) = self.cell.try_take(&mut seat.seat) else {
             return Tried::Busy;
@@ -219,7 +219,7 @@ impl<B: Board> Plant<B> {
         requires plant { IsOf self.now seat.old }
         requires item { item.0 < length self.now.set.items }
         ensures busy { IsBusy result → seat.new ≡ missed_once seat.old }
-        ensures said { IfSaid result (λ r. Answered self.now.set (λ story base. slice_get (state_of self.now.set story).items item.0 ≡ Some (record { value = r.0; stamp = r.1 })) nothing seat.old seat.new) }
+        ensures said { IfSaid result (λ r. Answered self.now.set (λ history base. slice_get (state_of self.now.set history).items item.0 ≡ Some (record { value = r.0; stamp = r.1 })) nothing seat.old seat.new) }
     {
         let Some(taken) = self.cell.try_take(&mut seat.seat) else {
             return Tried::Busy;
@@ -253,7 +253,7 @@ impl<B: Board> Plant<B> {
     pub fn step<R: Wait>(&self, rt: &R, seat: &mut Seat<B>, serial: u32, op: Op) -> StepReply
         requires plant { IsOf self.now seat.old }
         requires tx { (tx : Transaction) × (seat.old.tx ≡ Some tx) }
-        ensures answer { (tx : Transaction) → seat.old.tx ≡ Some tx → let job : Job = record { tx = tx; serial = serial } in AnsweredLate self.now.set (WaitsAt self.now.set self.now.room job op) (λ story base. result ≡ step_answer self.now.set story (length story - base) self.now.room job op) (λ story. step_entry (now_of self.now.set story) job op result) seat.old seat.new }
+        ensures answer { (tx : Transaction) → seat.old.tx ≡ Some tx → let job : Job = record { tx = tx; serial = serial } in AnsweredLate self.now.set (WaitsAt self.now.set self.now.room job op) (λ history base. result ≡ step_answer self.now.set history (length history - base) self.now.room job op) (λ history. step_entry (now_of self.now.set history) job op result) seat.old seat.new }
         ensures yet { IsNotYet result → ⊥ }
     {
         for _ in rt.forever() {

@@ -1,9 +1,9 @@
-//! A board in a cell: its story is the board's history, its notes are the entries, and its fixed part is the set and the
+//! A board in a cell: its history is the board's history, its notes are the entries, and its fixed part is the set and the
 //! room. It has a place of its own on the heap, so that a turn does not move it. Each call gives the board's answer and the
 //! entry that the board appended, if any.
 ghost use Rattle.std.specs.Prelude.{◌≡◌, IsTrue, None, false, ℕ, ◌+◌, ◌-◌, ◌≤◌, ◌<◌, ◌++◌, List, length, min, take, drop, vec_len, vec_capacity, IfOk, IfErr};
 ghost use Rattle.step_journal.specs.declared.entry.Entry.{Entry as Noted};
-ghost use Rattle.board.specs.Stories.{noted, plan_entry, plan_next_entry, step_entry, idle_entry, plan_answer, plan_next_answer, step_answer, idle_answer, now_of};
+ghost use Rattle.board.specs.Histories.{noted, plan_entry, plan_next_entry, step_entry, idle_entry, plan_answer, plan_next_answer, step_answer, idle_answer, now_of};
 ghost use Rattle.shared_plant.specs.Shared.{IsNext};
 
 use board::{Board, IdleReply, StepReply};
@@ -23,7 +23,7 @@ impl<B: Board> Storied for SharedBoard<B> {
 
     type Fixed = (CompiledSet, usize);
 
-    ghost stands = { λ s story. B.stands s.board.value story };
+    ghost stands = { λ s history. B.stands s.board.value history };
 
     ghost fixed = { λ s. (B.set s.board.value, B.room s.board.value) };
 
@@ -64,9 +64,9 @@ impl<B: Board> SharedBoard<B> {
     ) -> (Result<JobId, PlanRefused>, Option<Entry>)
         requires { tx.0 < length (B.set self.old.board.value).txns }
         ensures fixed { (B.set self.new.board.value ≡ B.set self.old.board.value) × (B.room self.new.board.value ≡ B.room self.old.board.value) × (B.first self.new.board.value ≡ B.first self.old.board.value) }
-        ensures answer { (story : List Noted) → B.stands self.old.board.value story → result.0 ≡ plan_answer (B.set self.old.board.value) story (length story - B.first self.old.board.value) (B.room self.old.board.value) tx.0 tick }
-        ensures entry { (story : List Noted) → B.stands self.old.board.value story → result.1 ≡ plan_entry tx tick result.0 }
-        ensures after { (story : List Noted) → B.stands self.old.board.value story → IsNext B.stands B.set B.first self.old.board.value self.new.board.value story (noted story result.1) }
+        ensures answer { (history : List Noted) → B.stands self.old.board.value history → result.0 ≡ plan_answer (B.set self.old.board.value) history (length history - B.first self.old.board.value) (B.room self.old.board.value) tx.0 tick }
+        ensures entry { (history : List Noted) → B.stands self.old.board.value history → result.1 ≡ plan_entry tx tick result.0 }
+        ensures after { (history : List Noted) → B.stands self.old.board.value history → IsNext B.stands B.set B.first self.old.board.value self.new.board.value history (noted history result.1) }
     {
         let reply = self.board.plan(tx, tick);
         let entry = entry_of_plan(tx, tick, &reply);
@@ -79,9 +79,9 @@ impl<B: Board> SharedBoard<B> {
     ) -> (Result<(JobId, Tick), PlanRefused>, Option<Entry>)
         requires { tx.0 < length (B.set self.old.board.value).txns }
         ensures fixed { (B.set self.new.board.value ≡ B.set self.old.board.value) × (B.room self.new.board.value ≡ B.room self.old.board.value) × (B.first self.new.board.value ≡ B.first self.old.board.value) }
-        ensures answer { (story : List Noted) → B.stands self.old.board.value story → result.0 ≡ plan_next_answer (B.set self.old.board.value) story (length story - B.first self.old.board.value) (B.room self.old.board.value) tx.0 }
-        ensures entry { (story : List Noted) → B.stands self.old.board.value story → result.1 ≡ plan_next_entry tx result.0 }
-        ensures after { (story : List Noted) → B.stands self.old.board.value story → IsNext B.stands B.set B.first self.old.board.value self.new.board.value story (noted story result.1) }
+        ensures answer { (history : List Noted) → B.stands self.old.board.value history → result.0 ≡ plan_next_answer (B.set self.old.board.value) history (length history - B.first self.old.board.value) (B.room self.old.board.value) tx.0 }
+        ensures entry { (history : List Noted) → B.stands self.old.board.value history → result.1 ≡ plan_next_entry tx result.0 }
+        ensures after { (history : List Noted) → B.stands self.old.board.value history → IsNext B.stands B.set B.first self.old.board.value self.new.board.value history (noted history result.1) }
     {
         let reply = self.board.plan_next(tx);
         let entry = entry_of_plan_next(tx, &reply);
@@ -91,9 +91,9 @@ impl<B: Board> SharedBoard<B> {
     pub(crate) fn step(&mut self, job: JobId, op: Op) -> (StepReply, Option<Entry>)
         requires { job.tx.0 < length (B.set self.old.board.value).txns }
         ensures fixed { (B.set self.new.board.value ≡ B.set self.old.board.value) × (B.room self.new.board.value ≡ B.room self.old.board.value) × (B.first self.new.board.value ≡ B.first self.old.board.value) }
-        ensures answer { (story : List Noted) → B.stands self.old.board.value story → result.0 ≡ step_answer (B.set self.old.board.value) story (length story - B.first self.old.board.value) (B.room self.old.board.value) job op }
-        ensures entry { (story : List Noted) → B.stands self.old.board.value story → result.1 ≡ step_entry (now_of (B.set self.old.board.value) story) job op result.0 }
-        ensures after { (story : List Noted) → B.stands self.old.board.value story → IsNext B.stands B.set B.first self.old.board.value self.new.board.value story (noted story result.1) }
+        ensures answer { (history : List Noted) → B.stands self.old.board.value history → result.0 ≡ step_answer (B.set self.old.board.value) history (length history - B.first self.old.board.value) (B.room self.old.board.value) job op }
+        ensures entry { (history : List Noted) → B.stands self.old.board.value history → result.1 ≡ step_entry (now_of (B.set self.old.board.value) history) job op result.0 }
+        ensures after { (history : List Noted) → B.stands self.old.board.value history → IsNext B.stands B.set B.first self.old.board.value self.new.board.value history (noted history result.1) }
     {
         let now = self.board.now();
         let reply = self.board.step(job, op);
@@ -107,8 +107,8 @@ impl<B: Board> SharedBoard<B> {
         requires { job.tx.0 < length (B.set self.old.board.value).txns }
         ensures fixed { (B.set self.new.board.value ≡ B.set self.old.board.value) × (B.room self.new.board.value ≡ B.room self.old.board.value) × (B.first self.new.board.value ≡ B.first self.old.board.value) }
         ensures computed { IsTrue result → op ≡ Op.Compute }
-        ensures answer { IsTrue result → (story : List Noted) → B.stands self.old.board.value story → StepReply.Done Outcome.Computed None ≡ step_answer (B.set self.old.board.value) story (length story - B.first self.old.board.value) (B.room self.old.board.value) job op }
-        ensures after { IsTrue result → (story : List Noted) → B.stands self.old.board.value story → B.stands self.new.board.value (noted story (step_entry (now_of (B.set self.old.board.value) story) job op (StepReply.Done Outcome.Computed None))) }
+        ensures answer { IsTrue result → (history : List Noted) → B.stands self.old.board.value history → StepReply.Done Outcome.Computed None ≡ step_answer (B.set self.old.board.value) history (length history - B.first self.old.board.value) (B.room self.old.board.value) job op }
+        ensures after { IsTrue result → (history : List Noted) → B.stands self.old.board.value history → B.stands self.new.board.value (noted history (step_entry (now_of (B.set self.old.board.value) history) job op (StepReply.Done Outcome.Computed None))) }
         ensures unchanged { result ≡ false → self.new.board.value ≡ self.old.board.value }
     {
         match op {
@@ -122,9 +122,9 @@ impl<B: Board> SharedBoard<B> {
 
     pub(crate) fn idle(&mut self) -> (IdleReply, Option<Entry>)
         ensures fixed { (B.set self.new.board.value ≡ B.set self.old.board.value) × (B.room self.new.board.value ≡ B.room self.old.board.value) × (B.first self.new.board.value ≡ B.first self.old.board.value) }
-        ensures answer { (story : List Noted) → B.stands self.old.board.value story → result.0 ≡ idle_answer (B.set self.old.board.value) story (length story - B.first self.old.board.value) (B.room self.old.board.value) }
-        ensures entry { (story : List Noted) → B.stands self.old.board.value story → result.1 ≡ idle_entry (now_of (B.set self.old.board.value) story) result.0 }
-        ensures after { (story : List Noted) → B.stands self.old.board.value story → IsNext B.stands B.set B.first self.old.board.value self.new.board.value story (noted story result.1) }
+        ensures answer { (history : List Noted) → B.stands self.old.board.value history → result.0 ≡ idle_answer (B.set self.old.board.value) history (length history - B.first self.old.board.value) (B.room self.old.board.value) }
+        ensures entry { (history : List Noted) → B.stands self.old.board.value history → result.1 ≡ idle_entry (now_of (B.set self.old.board.value) history) result.0 }
+        ensures after { (history : List Noted) → B.stands self.old.board.value history → IsNext B.stands B.set B.first self.old.board.value self.new.board.value history (noted history result.1) }
     {
         let now = self.board.now();
         let reply = self.board.idle();
@@ -134,12 +134,12 @@ impl<B: Board> SharedBoard<B> {
 
     pub(crate) fn drain(&mut self, most: usize, into: &mut Vec<Entry>) -> usize
         ensures fixed { (B.set self.new.board.value ≡ B.set self.old.board.value) × (B.room self.new.board.value ≡ B.room self.old.board.value) × (B.first self.new.board.value ≡ B.first self.old.board.value + result) }
-        ensures count { (story : List Noted) → B.stands self.old.board.value story → result ≡ min most (min (length story - B.first self.old.board.value) (vec_capacity into.old - vec_len into.old)) }
-        ensures moved { (story : List Noted) → B.stands self.old.board.value story → into.new.items ≡ into.old.items ++ take result (drop (B.first self.old.board.value) story) }
+        ensures count { (history : List Noted) → B.stands self.old.board.value history → result ≡ min most (min (length history - B.first self.old.board.value) (vec_capacity into.old - vec_len into.old)) }
+        ensures moved { (history : List Noted) → B.stands self.old.board.value history → into.new.items ≡ into.old.items ++ take result (drop (B.first self.old.board.value) history) }
         ensures places { vec_capacity into.new ≡ vec_capacity into.old }
-        ensures within { (story : List Noted) → B.stands self.old.board.value story → B.first self.old.board.value + result ≤ length story }
-        ensures fits { (story : List Noted) → B.stands self.old.board.value story → length story - B.first self.old.board.value ≤ B.room self.old.board.value }
-        ensures after { (story : List Noted) → B.stands self.old.board.value story → IsNext B.stands B.set B.first self.old.board.value self.new.board.value story story }
+        ensures within { (history : List Noted) → B.stands self.old.board.value history → B.first self.old.board.value + result ≤ length history }
+        ensures fits { (history : List Noted) → B.stands self.old.board.value history → length history - B.first self.old.board.value ≤ B.room self.old.board.value }
+        ensures after { (history : List Noted) → B.stands self.old.board.value history → IsNext B.stands B.set B.first self.old.board.value self.new.board.value history history }
     {
         self.board.drain(most, into)
     }

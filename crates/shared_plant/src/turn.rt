@@ -2,7 +2,7 @@
 ghost use Rattle.std.specs.Prelude.{◌≡◌, ◌≢◌, ◌<◌, List, length, Some, None, true, false};
 ghost use Rattle.step_journal.specs.declared.entry.Entry.{Entry as Noted};
 ghost use Rattle.turn_cell.specs.Turn.{counted, released};
-ghost use Rattle.board.specs.Stories.{noted, step_entry, running_of};
+ghost use Rattle.board.specs.Histories.{noted, step_entry, running_of};
 ghost use Rattle.shared_plant.specs.Seats.{SeatFacts};
 ghost use Rattle.shared_plant.specs.Shared.{noting_own};
 ghost use Rattle.shared_plant.specs.Steps.{OneStep, Steps, IsHeld};
@@ -24,7 +24,7 @@ pub(crate) fn settle<B: Board>(
 ) -> u64
     requires cell { seat.old.cell ≡ cell.now.id }
     requires turn { seat.old.view.holds ≡ true }
-    requires story { B.stands taken.value.board.value (noted seat.old.view.seen entry) }
+    requires history { B.stands taken.value.board.value (noted seat.old.view.seen entry) }
     requires fixed { (B.set taken.value.board.value ≡ B.set cell.now.origin.board.value) × (B.room taken.value.board.value ≡ B.room cell.now.origin.board.value) }
     requires first { B.first taken.value.board.value ≡ counted seat.old.view }
     ensures cell { seat.new.cell ≡ seat.old.cell }
@@ -47,7 +47,7 @@ fn note_own<B: Board>(
 )
     requires cell { seat.old.cell ≡ cell.now.id }
     requires turn { seat.old.view.holds ≡ true }
-    requires story { B.stands taken.old.value.board.value (noted seat.old.view.seen entry) }
+    requires history { B.stands taken.old.value.board.value (noted seat.old.view.seen entry) }
     ensures cell { seat.new.cell ≡ seat.old.cell }
     ensures same { taken.new.value ≡ taken.old.value }
     ensures view { seat.new.view ≡ noting_own seat.old.view entry }
@@ -178,8 +178,8 @@ pub(crate) fn step_on<B: Board, C, A: Asker<C>>(
 // Whether the job runs.
 #[inline(always)]
 fn runs<B: Board>(board: &SharedBoard<B>, job: JobId) -> bool
-    ensures yes { (story : List Noted) → B.stands board.now.board.value story → result ≡ true → running_of (B.set board.now.board.value) story ≡ Some job }
-    ensures no { (story : List Noted) → B.stands board.now.board.value story → result ≡ false → running_of (B.set board.now.board.value) story ≢ Some job }
+    ensures yes { (history : List Noted) → B.stands board.now.board.value history → result ≡ true → running_of (B.set board.now.board.value) history ≡ Some job }
+    ensures no { (history : List Noted) → B.stands board.now.board.value history → result ≡ false → running_of (B.set board.now.board.value) history ≢ Some job }
 {
     match board.board.running() {
         Some(running) => running.tx.0 == job.tx.0 && running.serial == job.serial,

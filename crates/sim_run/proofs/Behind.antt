@@ -20,7 +20,7 @@ use Rattle.step_journal.specs.Instant.{with_row, with_end, with_releases, with_c
 use Rattle.step_journal.specs.Step.{Event, plan, ask, idle, given, plans_of, may_plan, next_job, with_plan, may_ask, lock_refusal, row_after, end_by, settled, after_effect, with_step, with_wait, answered, asked, next_tick, idled, step}
 use Rattle.step_journal.specs.History.{event_of, state_given, entry_given, state_after, IsLegalEntry, IsLegal, state_of}
 use Rattle.law_histories.proofs.Lists.{all_from}
-use Rattle.sim_run.specs.Turns.{IsReached}
+use Rattle.sim_run.specs.Calls.{IsReached}
 use Rattle.board.proofs.Bounds.{arrived_plans}
 use Rattle.law_histories.proofs.Members.{In}
 use Rattle.law_histories.proofs.Holding.{append_in}
@@ -194,25 +194,25 @@ stays_given_by s entry None n k h e = absurd cc
 stays_given_by s entry (Some p) n k h e = h
 
 -- a legal entry keeps it
-pub behind_after : (set : Set) (story : List Entry) (e : Entry) (n k : ℕ) → IsCompiled set → IsLegal set story
-    → IsLegalEntry set (state_of set story) e
-    → IsReached (state_of set story) n k → IsReached (state_after set (state_of set story) e) n k
-behind_after set story e n k ok legal is h =
-    let s = state_of set story in
-    let sound = legal_sound set story ok legal in
-    stays_given_by s e (step set s (event_of e)) n k (stays set ok (refused_all (λ _. false) story) s sound n k h (event_of e)) is
+pub behind_after : (set : Set) (history : List Entry) (e : Entry) (n k : ℕ) → IsCompiled set → IsLegal set history
+    → IsLegalEntry set (state_of set history) e
+    → IsReached (state_of set history) n k → IsReached (state_after set (state_of set history) e) n k
+behind_after set history e n k ok legal is h =
+    let s = state_of set history in
+    let sound = legal_sound set history ok legal in
+    stays_given_by s e (step set s (event_of e)) n k (stays set ok (refused_all (λ _. false) history) s sound n k h (event_of e)) is
 
 -- it holds of 0, and of the serial of the running job
 pub behind_zero : (s : State) (n : ℕ) → IsReached s n 0
 behind_zero s n = record { rows = λ y i e. omega arith; planned = all_from (NotBefore n 0) s.planned (λ r i e. omega arith); number = omega arith }
 
-pub behind_running : (set : Set) (story : List Entry) (x : Row) → IsCompiled set → IsLegal set story
-    → running set (state_of set story).rows ≡ Some x
-    → IsReached (state_of set story) x.job.tx.0 x.job.serial
-behind_running set story x ok legal is =
-    let s = state_of set story in
-    let refused : JobId → Bool = refused_all (λ _. false) story in
-    let sound = legal_sound set story ok legal in
+pub behind_running : (set : Set) (history : List Entry) (x : Row) → IsCompiled set → IsLegal set history
+    → running set (state_of set history).rows ≡ Some x
+    → IsReached (state_of set history) x.job.tx.0 x.job.serial
+behind_running set history x ok legal is =
+    let s = state_of set history in
+    let refused : JobId → Bool = refused_all (λ _. false) history in
+    let sound = legal_sound set history ok legal in
     let run = running_is set s.rows refused x (named_from set s.rows ok sound.frame) sound.protocol is in
     record {
       rows = λ y i e. let same : y ≡ x = same_row s.rows y x i run.here e in omega (arith, ap (λ (q : Row). q.job.serial) same);
@@ -221,12 +221,12 @@ behind_running set story x ok legal is =
     }
 
 -- the running job's serial is none that comes before
-pub running_past : (set : Set) (story : List Entry) (x : Row) (k : ℕ) → IsCompiled set → IsLegal set story
-    → running set (state_of set story).rows ≡ Some x
-    → IsReached (state_of set story) x.job.tx.0 k → k ≤ x.job.serial
-running_past set story x k ok legal is h =
-    let s = state_of set story in
-    let refused : JobId → Bool = refused_all (λ _. false) story in
-    let sound = legal_sound set story ok legal in
+pub running_past : (set : Set) (history : List Entry) (x : Row) (k : ℕ) → IsCompiled set → IsLegal set history
+    → running set (state_of set history).rows ≡ Some x
+    → IsReached (state_of set history) x.job.tx.0 k → k ≤ x.job.serial
+running_past set history x k ok legal is h =
+    let s = state_of set history in
+    let refused : JobId → Bool = refused_all (λ _. false) history in
+    let sound = legal_sound set history ok legal in
     let run = running_is set s.rows refused x (named_from set s.rows ok sound.frame) sound.protocol is in
     h.rows x run.here refl

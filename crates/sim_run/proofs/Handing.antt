@@ -5,18 +5,18 @@ use Rattle.std.proofs.Math.Seq.{take-append_seam, drop-append_seam, take-append-
 use Rattle.io_edge.specs.Causes.{Rose}
 use Rattle.txn_set.specs.Set.{Set}
 use Rattle.step_journal.specs.declared.entry.Entry.{Entry}
-use Rattle.board.specs.Stories.{IsStory}
+use Rattle.board.specs.Histories.{IsHistory}
 use Rattle.sim_run.specs.Handed.{CanAppend, CanTake, IsHanded, IsCut}
 
 pub none_handed : (got : List Entry → Type 0) (entries : List Entry) → IsHanded got got entries entries
-none_handed got entries = record { passed = []; parts = refl; grown = λ story h. subst got (sym (append-nil story)) h }
+none_handed got entries = record { passed = []; parts = refl; grown = λ history h. subst got (sym (append-nil history)) h }
 
 pub all_handed : (got got' : List Entry → Type 0) (piece entries : List Entry) → piece ≡ entries
-    → ((story : List Entry) → got story → got' (story ++ piece)) → IsHanded got got' entries []
+    → ((history : List Entry) → got history → got' (history ++ piece)) → IsHanded got got' entries []
 all_handed got got' piece entries is h = record {
   passed = entries;
   parts = sym (append-nil entries);
-  grown = λ story k. subst (λ (l : List Entry). got' (story ++ l)) is (h story k);
+  grown = λ history k. subst (λ (l : List Entry). got' (history ++ l)) is (h history k);
 }
 
 -- some of the kept entries after others
@@ -29,7 +29,7 @@ handed_on got got' got'' entries kept rest kept' h k = record {
       ∙ (ap (λ (l : List Entry). h.passed ++ (l ++ rest)) k.parts
       ∙ (ap (λ (l : List Entry). h.passed ++ l) (append_assoc k.passed kept' rest)
       ∙ sym (append_assoc h.passed k.passed (kept' ++ rest))));
-  grown = λ story g. subst got'' (append_assoc story h.passed k.passed) (k.grown (story ++ h.passed) (h.grown story g));
+  grown = λ history g. subst got'' (append_assoc history h.passed k.passed) (k.grown (history ++ h.passed) (h.grown history g));
 }
 
 -- what is left, in other parts
@@ -55,13 +55,13 @@ handed_then got got' got'' entries kept kept' h k =
     subst (IsHanded got got'' entries) (append-nil kept') (handed_on got got' got'' entries kept [] kept' (subst (IsHanded got got' entries) (sym (append-nil kept)) h) k)
 
 pub piece_cut : (got got' lost' : List Entry → Type 0) (piece entries : List Entry) → piece ≡ entries
-    → ((story : List Entry) → got story → got' story) → lost' piece → IsCut got got' lost' entries
+    → ((history : List Entry) → got history → got' history) → lost' piece → IsCut got got' lost' entries
 piece_cut got got' lost' piece entries is same lost = record {
   passed = [];
   piece = entries;
   left = [];
   parts = sym (append-nil entries);
-  grown = λ story g. subst got' (sym (append-nil story)) (same story g);
+  grown = λ history g. subst got' (sym (append-nil history)) (same history g);
   is_lost = subst lost' is lost;
 }
 
@@ -76,7 +76,7 @@ cut_on got got' got'' lost'' entries kept rest h k = record {
       ∙ (ap (λ (l : List Entry). h.passed ++ l) (append_assoc (k.passed ++ k.piece) k.left rest)
       ∙ (sym (append_assoc h.passed (k.passed ++ k.piece) (k.left ++ rest))
       ∙ ap (λ (l : List Entry). l ++ (k.left ++ rest)) (sym (append_assoc h.passed k.passed k.piece)))));
-  grown = λ story g. subst got'' (append_assoc story h.passed k.passed) (k.grown (story ++ h.passed) (h.grown story g));
+  grown = λ history g. subst got'' (append_assoc history h.passed k.passed) (k.grown (history ++ h.passed) (h.grown history g));
   is_lost = k.is_lost;
 }
 
@@ -100,7 +100,7 @@ cut_more got got' lost' entries rest whole is k = record {
 pub record CutAt (got got' lost' : List Entry → Type 0) (history : List Entry) : Type 0 where
   pub passed : ℕ
   pub missed : ℕ
-  pub grown : (story : List Entry) → got story → got' (story ++ take passed history)
+  pub grown : (had : List Entry) → got had → got' (had ++ take passed history)
   pub is_lost : lost' (take missed (drop passed history))
 
 pub cut_at : {got got' lost' : List Entry → Type 0} (history : List Entry) → IsCut got got' lost' history → CutAt got got' lost' history
@@ -111,7 +111,7 @@ cut_at {got' = got'} {lost' = lost'} history k =
     record {
       passed = length k.passed;
       missed = length k.piece;
-      grown = λ story g. subst (λ (l : List Entry). got' (story ++ l)) (sym first) (k.grown story g);
+      grown = λ had g. subst (λ (l : List Entry). got' (had ++ l)) (sym first) (k.grown had g);
       is_lost = subst lost' (sym (ap (take (length k.piece)) next ∙ take-append_seam k.piece k.left)) k.is_lost;
     }
 
@@ -137,7 +137,7 @@ take_less got good front rest whole is h = λ n.
     subst (CanAppend got good) (ap (take k.0) is ∙ k.1) (h k.0)
 
 pub take_rest : (got good got' good' : List Entry → Type 0) (entries left : List Entry)
-    → ((story : List Entry) → good story → good' story) → IsHanded got got' entries left
+    → ((history : List Entry) → good history → good' history) → IsHanded got got' entries left
     → CanTake got good entries → CanTake got' good' left
 take_rest got good got' good' entries left same k h = λ n.
     let a = h (length k.passed + n) in
@@ -149,21 +149,21 @@ take_rest got good got' good' entries left same k h = λ n.
 
 -- what the board keeps after one more entry
 
-pub kept_after : (set set' : Set) (room room' first first' : ℕ) (kept kept' story story' : List Entry) (e : Entry)
-    → IsStory set room first kept story → IsStory set' room' first' kept' story' → first' ≡ first
-    → story' ≡ story ++ e ∷ []
+pub kept_after : (set set' : Set) (room room' first first' : ℕ) (kept kept' history history' : List Entry) (e : Entry)
+    → IsHistory set room first kept history → IsHistory set' room' first' kept' history' → first' ≡ first
+    → history' ≡ history ++ e ∷ []
     → kept' ≡ kept ++ e ∷ []
-kept_after set set' room room' first first' kept kept' story story' e is is' same more =
+kept_after set set' room room' first first' kept kept' history history' e is is' same more =
     is'.rest
-    ∙ (ap (λ (n : ℕ). drop n story') same
+    ∙ (ap (λ (n : ℕ). drop n history') same
     ∙ (ap (drop first) more
-    ∙ (drop-append-le first story (e ∷ []) (omega (arith, is.counted))
+    ∙ (drop-append-le first history (e ∷ []) (omega (arith, is.counted))
     ∙ ap (λ (l : List Entry). l ++ e ∷ []) (sym is.rest))))
 
-pub kept_same : (set set' : Set) (room room' first first' : ℕ) (kept kept' story : List Entry)
-    → IsStory set room first kept story → IsStory set' room' first' kept' story → first' ≡ first → kept' ≡ kept
-kept_same set set' room room' first first' kept kept' story is is' same =
-    is'.rest ∙ (ap (λ (n : ℕ). drop n story) same ∙ sym is.rest)
+pub kept_same : (set set' : Set) (room room' first first' : ℕ) (kept kept' history : List Entry)
+    → IsHistory set room first kept history → IsHistory set' room' first' kept' history → first' ≡ first → kept' ≡ kept
+kept_same set set' room room' first first' kept kept' history is is' same =
+    is'.rest ∙ (ap (λ (n : ℕ). drop n history) same ∙ sym is.rest)
 
 -- causes
 
@@ -172,16 +172,16 @@ rose_later before mid now le rose = omega (arith, le, rose)
 
 -- what is known where an out refused a piece
 pub refused : {T E : Type 0} (r : Result T E) (got got' lost' : List Entry → Type 0) (piece entries : List Entry)
-    → piece ≡ entries → OnErr r ((story : List Entry) → got story → got' story) → OnErr r (lost' piece)
+    → piece ≡ entries → OnErr r ((history : List Entry) → got history → got' history) → OnErr r (lost' piece)
     → OnErr r (IsCut got got' lost' entries)
 refused (Ok u) got got' lost' piece entries is same lost = tt
 refused (Err e) got got' lost' piece entries is same lost = piece_cut got got' lost' piece entries is same lost
 
 -- A board that stands for a history, after which these entries come and make this whole.
 pub record Goes (stands : List Entry → Type 0) (rest whole : List Entry) : Type 0 where
-  pub story : List Entry
-  pub stood : stands story
-  pub parts : story ++ rest ≡ whole
+  pub history : List Entry
+  pub stood : stands history
+  pub parts : history ++ rest ≡ whole
 
 pub on_err : {T E : Type 0} (r : Result T E) (P : Type 0) → P → OnErr r P
 on_err (Ok u) P h = tt

@@ -1,7 +1,7 @@
 pub mod Behind
 pub mod Histories
 pub mod Asks
-pub mod Turns
+pub mod Calls
 pub mod Planning
 pub mod Runs
 pub mod Handing

@@ -15,7 +15,7 @@ use Rattle.step_journal.specs.declared.entry.Entry.TheVariants.{Planned}
 use Rattle.step_journal.specs.State.{State, opening}
 use Rattle.step_journal.specs.Step.{plan, given, plans_of, earliest, may_plan, next_job, with_plan, step}
 use Rattle.step_journal.specs.History.{state_given, entry_given, state_after, states_after, IsLegalFrom, IsLegal, state_of}
-use Rattle.board.specs.Stories.{IsStory, noted, plan_entry, plan_answer}
+use Rattle.board.specs.Histories.{IsHistory, noted, plan_entry, plan_answer}
 use Rattle.board.proofs.Plans.{plans_are_steps}
 use Rattle.law_histories.specs.Sim.{plans_from}
 use Rattle.law_histories.proofs.Histories.{plan_now as after_now}
@@ -31,18 +31,18 @@ entry_ok : (tx : TxId) (tick : ℕ) (r : Result JobId PlanRefused) (entry : Entr
 entry_ok tx tick (Ok job) entry h none = none job refl
 entry_ok tx tick (Err e) entry h none = cc
 
-pub plan_ok : (set : Set) (kept room : ℕ) (story : List Entry) (tx : TxId) (tick : ℕ) (rest : List Entry)
-    (r : Result JobId PlanRefused) → tx.0 < length set.txns → IsLegal set (story ++ Planned tx tick ∷ rest)
+pub plan_ok : (set : Set) (kept room : ℕ) (history : List Entry) (tx : TxId) (tick : ℕ) (rest : List Entry)
+    (r : Result JobId PlanRefused) → tx.0 < length set.txns → IsLegal set (history ++ Planned tx tick ∷ rest)
     → kept < room
-    → r ≡ plan_answer set story kept room tx.0 tick → plan_entry tx tick r ≡ Some (Planned tx tick)
-plan_ok set kept room story tx tick rest r in_set legal lt e =
-    ap (plan_entry tx tick) e ∙ (plans_are_steps set (state_of set story) kept room tx tick lt in_set ∙ (legal_parts set story (Planned tx tick) rest legal).1)
+    → r ≡ plan_answer set history kept room tx.0 tick → plan_entry tx tick r ≡ Some (Planned tx tick)
+plan_ok set kept room history tx tick rest r in_set legal lt e =
+    ap (plan_entry tx tick) e ∙ (plans_are_steps set (state_of set history) kept room tx tick lt in_set ∙ (legal_parts set history (Planned tx tick) rest legal).1)
 
-pub plan_stands : (set : Set) (kept room : ℕ) (story : List Entry) (tx : TxId) (tick : ℕ) (rest : List Entry)
-    (r : Result JobId PlanRefused) → tx.0 < length set.txns → IsLegal set (story ++ Planned tx tick ∷ rest)
+pub plan_stands : (set : Set) (kept room : ℕ) (history : List Entry) (tx : TxId) (tick : ℕ) (rest : List Entry)
+    (r : Result JobId PlanRefused) → tx.0 < length set.txns → IsLegal set (history ++ Planned tx tick ∷ rest)
     → kept < room
-    → r ≡ plan_answer set story kept room tx.0 tick → ((job : JobId) → r ≡ Ok job → ⊥) → ⊥
-plan_stands set kept room story tx tick rest r in_set legal lt e none = entry_ok tx tick r (Planned tx tick) (plan_ok set kept room story tx tick rest r in_set legal lt e) none
+    → r ≡ plan_answer set history kept room tx.0 tick → ((job : JobId) → r ≡ Ok job → ⊥) → ⊥
+plan_stands set kept room history tx tick rest r in_set legal lt e none = entry_ok tx tick r (Planned tx tick) (plan_ok set kept room history tx tick rest r in_set legal lt e) none
 
 -- the ticks from a place on
 
@@ -58,17 +58,17 @@ drop_none (x ∷ xs) zero le = absurd (omega arith)
 drop_none (x ∷ xs) (suc n) le = drop_none xs n (omega arith)
 
 -- the rest of the plans of one transaction
-pub ticks_rest : (tx : TxId) (ticks : List ℕ) (n d : ℕ) (story whole : List Entry) → n < length ticks
-    → story ++ map (Planned tx) (drop n ticks) ≡ whole
-    → story ++ Planned tx (get_or ticks n d) ∷ map (Planned tx) (drop (suc n) ticks) ≡ whole
-ticks_rest tx ticks n d story whole lt e = ap (λ (ts : List ℕ). story ++ map (Planned tx) ts) (sym (drop_here ticks n d lt)) ∙ e
+pub ticks_rest : (tx : TxId) (ticks : List ℕ) (n d : ℕ) (history whole : List Entry) → n < length ticks
+    → history ++ map (Planned tx) (drop n ticks) ≡ whole
+    → history ++ Planned tx (get_or ticks n d) ∷ map (Planned tx) (drop (suc n) ticks) ≡ whole
+ticks_rest tx ticks n d history whole lt e = ap (λ (ts : List ℕ). history ++ map (Planned tx) ts) (sym (drop_here ticks n d lt)) ∙ e
 
-pub ticks_next : (tx : TxId) (ticks : List ℕ) (n d : ℕ) (story : List Entry) → n < length ticks
-    → story ++ map (Planned tx) (drop n ticks) ≡ (story ++ Planned tx (get_or ticks n d) ∷ []) ++ map (Planned tx)
+pub ticks_next : (tx : TxId) (ticks : List ℕ) (n d : ℕ) (history : List Entry) → n < length ticks
+    → history ++ map (Planned tx) (drop n ticks) ≡ (history ++ Planned tx (get_or ticks n d) ∷ []) ++ map (Planned tx)
     (drop (suc n) ticks)
-ticks_next tx ticks n d story lt =
-    ap (λ (ts : List ℕ). story ++ map (Planned tx) ts) (drop_here ticks n d lt)
-    ∙ sym (append_assoc story (Planned tx (get_or ticks n d) ∷ []) (map (Planned tx) (drop (suc n) ticks)))
+ticks_next tx ticks n d history lt =
+    ap (λ (ts : List ℕ). history ++ map (Planned tx) ts) (drop_here ticks n d lt)
+    ∙ sym (append_assoc history (Planned tx (get_or ticks n d) ∷ []) (map (Planned tx) (drop (suc n) ticks)))
 
 -- the entries of a list and the plans that are left, after one more plan
 pub each_left : (tx : TxId) (ticks : List ℕ) (n d next : ℕ) (kept kept' : List Entry) → n < length ticks → next ≡ suc n
@@ -79,52 +79,52 @@ each_left tx ticks n d next kept kept' lt one e =
     ∙ (ap (λ (l : List Entry). l ++ map (Planned tx) (drop (suc n) ticks)) (sym e)
     ∙ ap (λ (m : ℕ). kept' ++ map (Planned tx) (drop m ticks)) (sym one))
 
-pub plan_noted : (story : List Entry) (tx : TxId) (tick : ℕ) (r : Result JobId PlanRefused) (job : JobId) → r ≡ Ok job
-    → noted story (plan_entry tx tick r) ≡ story ++ Planned tx tick ∷ []
-plan_noted story tx tick r job e = ap (λ (q : Result JobId PlanRefused). noted story (plan_entry tx tick q)) e
+pub plan_noted : (history : List Entry) (tx : TxId) (tick : ℕ) (r : Result JobId PlanRefused) (job : JobId) → r ≡ Ok job
+    → noted history (plan_entry tx tick r) ≡ history ++ Planned tx tick ∷ []
+plan_noted history tx tick r job e = ap (λ (q : Result JobId PlanRefused). noted history (plan_entry tx tick q)) e
 
 -- what the out got of them, after one more plan
-pub each_handed : {got got' : List Entry → Type 0} {entries : List Entry} {set set' : Set} {room room' first first' : ℕ} {kept kept' story story' : List Entry} {r : Result JobId PlanRefused} {job : JobId}
-    (tx : TxId) (ticks : List ℕ) (n : ℕ) → n < length ticks → IsStory set room first kept story → IsStory set' room' first' kept' story' → first' ≡ first
-    → r ≡ Ok job → story' ≡ noted story (plan_entry tx (get_or ticks n 0) r)
+pub each_handed : {got got' : List Entry → Type 0} {entries : List Entry} {set set' : Set} {room room' first first' : ℕ} {kept kept' history history' : List Entry} {r : Result JobId PlanRefused} {job : JobId}
+    (tx : TxId) (ticks : List ℕ) (n : ℕ) → n < length ticks → IsHistory set room first kept history → IsHistory set' room' first' kept' history' → first' ≡ first
+    → r ≡ Ok job → history' ≡ noted history (plan_entry tx (get_or ticks n 0) r)
     → IsHanded got got' entries (kept ++ map (Planned tx) (drop n ticks)) → IsHanded got got' entries (kept' ++ map (Planned tx) (drop (n + 1) ticks))
-each_handed {got} {got'} {entries} {kept = kept} {kept' = kept'} {story = story} {r = r} tx ticks n lt is is' same granted more h =
+each_handed {got} {got'} {entries} {kept = kept} {kept' = kept'} {history = history} {r = r} tx ticks n lt is is' same granted more h =
     left_as got got' entries _ _ (each_left tx ticks n 0 (n + 1) kept kept' lt (omega arith)
-    (kept_after _ _ _ _ _ _ _ _ story _ (Planned tx (get_or ticks n 0)) is is' same (more ∙ plan_noted story tx (get_or ticks n 0) r _ granted))) h
+    (kept_after _ _ _ _ _ _ _ _ history _ (Planned tx (get_or ticks n 0)) is is' same (more ∙ plan_noted history tx (get_or ticks n 0) r _ granted))) h
 
 -- the rest of all plans
-pub plans_rest : (releases : List (List ℕ)) (n : ℕ) (d : List ℕ) (story whole : List Entry) → n < length releases
-    → story ++ plans_from n (drop n releases) ≡ whole
-    → (story ++ map (Planned (record { 0 = n })) (get_or releases n d)) ++ plans_from (n + 1)
+pub plans_rest : (releases : List (List ℕ)) (n : ℕ) (d : List ℕ) (history whole : List Entry) → n < length releases
+    → history ++ plans_from n (drop n releases) ≡ whole
+    → (history ++ map (Planned (record { 0 = n })) (get_or releases n d)) ++ plans_from (n + 1)
     (drop (suc n) releases) ≡ whole
-plans_rest releases n d story whole lt e =
-    append_assoc story (map (Planned (record { 0 = n })) (get_or releases n d)) (plans_from (n + 1) (drop (suc n) releases))
-    ∙ (ap (λ (rs : List (List ℕ)). story ++ plans_from n rs) (sym (drop_here releases n d lt)) ∙ e)
+plans_rest releases n d history whole lt e =
+    append_assoc history (map (Planned (record { 0 = n })) (get_or releases n d)) (plans_from (n + 1) (drop (suc n) releases))
+    ∙ (ap (λ (rs : List (List ℕ)). history ++ plans_from n rs) (sym (drop_here releases n d lt)) ∙ e)
 
-pub plans_legal : (set : Set) (releases : List (List ℕ)) (n : ℕ) (d : List ℕ) (story whole : List Entry)
-    → n < length releases → story ++ plans_from n (drop n releases) ≡ whole → IsLegal set whole
-    → IsLegal set (story ++ map (Planned (record { 0 = n })) (get_or releases n d))
-plans_legal set releases n d story whole lt e legal =
-    (legal_split set (opening set) (story ++ map (Planned (record { 0 = n })) (get_or releases n d)) (plans_from (n + 1) (drop (suc n) releases)) (subst (IsLegal set) (sym (plans_rest releases n d story whole lt e)) legal)).0
+pub plans_legal : (set : Set) (releases : List (List ℕ)) (n : ℕ) (d : List ℕ) (history whole : List Entry)
+    → n < length releases → history ++ plans_from n (drop n releases) ≡ whole → IsLegal set whole
+    → IsLegal set (history ++ map (Planned (record { 0 = n })) (get_or releases n d))
+plans_legal set releases n d history whole lt e legal =
+    (legal_split set (opening set) (history ++ map (Planned (record { 0 = n })) (get_or releases n d)) (plans_from (n + 1) (drop (suc n) releases)) (subst (IsLegal set) (sym (plans_rest releases n d history whole lt e)) legal)).0
 
 -- amid the plans of one transaction the answer is Ok
-pub each_answers : (set set' : Set) (kept room : ℕ) (story whole : List Entry) (tx : TxId) (ticks : List ℕ) (n : ℕ)
-    (r : Result JobId PlanRefused) → n < length ticks → story ++ map (Planned tx) (drop n ticks) ≡ whole → set ≡ set'
+pub each_answers : (set set' : Set) (kept room : ℕ) (history whole : List Entry) (tx : TxId) (ticks : List ℕ) (n : ℕ)
+    (r : Result JobId PlanRefused) → n < length ticks → history ++ map (Planned tx) (drop n ticks) ≡ whole → set ≡ set'
     → tx.0 < length set'.txns → IsLegal set' whole → kept < room
-    → r ≡ plan_answer set story kept room tx.0 (get_or ticks n 0)
+    → r ≡ plan_answer set history kept room tx.0 (get_or ticks n 0)
     → ((job : JobId) → r ≡ Ok job → ⊥) → ⊥
-each_answers set set' kept room story whole tx ticks n r lt planned es in_set legal fits answer none =
-    let l : IsLegal set (story ++ Planned tx (get_or ticks n 0) ∷ map (Planned tx) (drop (suc n) ticks)) = subst (IsLegal set) (sym (ticks_rest tx ticks n 0 story whole lt planned)) (subst (λ (q : Set). IsLegal q whole) (sym es) legal) in
-    plan_stands set kept room story tx (get_or ticks n 0) (map (Planned tx) (drop (suc n) ticks)) r (subst (λ (q : Set). tx.0 < length q.txns) (sym es) in_set) l fits answer none
+each_answers set set' kept room history whole tx ticks n r lt planned es in_set legal fits answer none =
+    let l : IsLegal set (history ++ Planned tx (get_or ticks n 0) ∷ map (Planned tx) (drop (suc n) ticks)) = subst (IsLegal set) (sym (ticks_rest tx ticks n 0 history whole lt planned)) (subst (λ (q : Set). IsLegal q whole) (sym es) legal) in
+    plan_stands set kept room history tx (get_or ticks n 0) (map (Planned tx) (drop (suc n) ticks)) r (subst (λ (q : Set). tx.0 < length q.txns) (sym es) in_set) l fits answer none
 
 -- amid all plans those of the next transaction are legal
-pub all_go_on : (set set' : Set) (releases : List (List ℕ)) (n : ℕ) (d ticks : List ℕ) (story whole : List Entry)
-    → n < length releases → story ++ plans_from n (drop n releases) ≡ whole → set ≡ set' → IsLegal set' whole
+pub all_go_on : (set set' : Set) (releases : List (List ℕ)) (n : ℕ) (d ticks : List ℕ) (history whole : List Entry)
+    → n < length releases → history ++ plans_from n (drop n releases) ≡ whole → set ≡ set' → IsLegal set' whole
     → ticks ≡ get_or releases n d
-    → IsLegal set (story ++ map (Planned (record { 0 = n })) ticks)
-all_go_on set set' releases n d ticks story whole lt planned es legal is =
-    subst (λ (ts : List ℕ). IsLegal set (story ++ map (Planned (record { 0 = n })) ts)) (sym is)
-    (plans_legal set releases n d story whole lt planned (subst (λ (q : Set). IsLegal q whole) (sym es) legal))
+    → IsLegal set (history ++ map (Planned (record { 0 = n })) ticks)
+all_go_on set set' releases n d ticks history whole lt planned es legal is =
+    subst (λ (ts : List ℕ). IsLegal set (history ++ map (Planned (record { 0 = n })) ts)) (sym is)
+    (plans_legal set releases n d history whole lt planned (subst (λ (q : Set). IsLegal q whole) (sym es) legal))
 
 -- the entries of a list and the plans that are left, after those of one more transaction
 pub all_left : (releases : List (List ℕ)) (n next : ℕ) (d ticks : List ℕ) (kept : List Entry) → n < length releases

@@ -1,4 +1,4 @@
--- A run under way: how it begins, goes on by a turn, fits into the room, and ends.
+-- A run under way: how it begins, goes on by a call, fits into the room, and ends.
 use Rattle.std.proofs.Common.{◌≡◌, ◌≢◌, ◌⊎◌, ℕ, zero, suc, ◌+◌, ◌<◌, ◌≤◌, Bool, true, false, cond, List, [], ◌∷◌, ◌++◌, length, map, Option, None, Some, get_or, refl, ap, sym, ◌∙◌, subst, inl, inr, arith, append_assoc}
 use Rattle.std.proofs.lemmas.List.{append-nil}
 use Rattle.std.proofs.lemmas.Bool.{eq-eqb, ne_eqb}
@@ -17,13 +17,13 @@ use Rattle.step_journal.specs.Instant.{arrived}
 use Rattle.step_journal.specs.Step.{Event, plan, ask, idle, may_ask, next_tick, idled, step}
 use Rattle.step_journal.specs.History.{event_of, entry_given, IsLegalEntry, IsLegal, state_of}
 use Rattle.step_journal.specs.Serial.{outcomes_of}
-use Rattle.board.specs.Stories.{IsStory}
+use Rattle.board.specs.Histories.{IsHistory}
 use Rattle.law_histories.specs.Counting.{plans_in, plan_count, room_of_jobs}
 use Rattle.law_histories.proofs.CountingAll.{entries_few}
 use Rattle.law_histories.proofs.Never.{never_stuck}
 use Rattle.law_histories.specs.Sim.{Body, Workload, IsAsked, IsScriptRun, IsFixed, IsSim, plans, plans_from, next_event, event_for, event_in, op_asked}
 use Rattle.sim_run.specs.Workloads.{ticks_of, workload, ObeysAt}
-use Rattle.sim_run.specs.Turns.{IsFollowing, IsUnderWay, IsTurned, job_of}
+use Rattle.sim_run.specs.Calls.{IsFollowing, IsUnderWay, IsCalled, job_of}
 use Rattle.sim_run.proofs.Asks.{job_of_same, asked_entry, asked_legal}
 use Rattle.sim_run.proofs.Behind.{behind_zero}
 
@@ -68,7 +68,7 @@ no_outcomes (other ∷ es) job h = absurd h.0
 
 -- how a run begins
 
-pub nothing_kept : (set : Set) (room first : ℕ) (kept : List Entry) → IsStory set room first kept [] → kept ≡ []
+pub nothing_kept : (set : Set) (room first : ℕ) (kept : List Entry) → IsHistory set room first kept [] → kept ≡ []
 nothing_kept set room first [] is = refl
 nothing_kept set room first (e ∷ es) is = absurd (let c : first + length (e ∷ es) ≡ 0 = is.counted in omega arith)
 
@@ -88,9 +88,9 @@ follows_first stands set releases tx serial first begun =
 
 -- how a run goes on
 
-split_last : (story : List Entry) (e : Entry) (before : List Entry) (x : Entry) (after : List Entry)
-    → story ++ e ∷ [] ≡ before ++ x ∷ after
-    → ((story ≡ before) × (e ≡ x)) ⊎ ((rest : List Entry) × (story ≡ before ++ x ∷ rest))
+split_last : (history : List Entry) (e : Entry) (before : List Entry) (x : Entry) (after : List Entry)
+    → history ++ e ∷ [] ≡ before ++ x ∷ after
+    → ((history ≡ before) × (e ≡ x)) ⊎ ((rest : List Entry) × (history ≡ before ++ x ∷ rest))
 split_last [] e [] x after h = inl (refl, cc)
 split_last [] e (b ∷ []) x after h = absurd cc
 split_last [] e (b ∷ c ∷ bs) x after h = absurd cc
@@ -103,9 +103,9 @@ split_last (s ∷ ss) e (b ∷ bs) x after h =
       | inr more ↦ inr (more.0, ap (λ (y : Entry). y ∷ ss) head ∙ ap (λ (l : List Entry). b ∷ l) more.1)
     ]
 
-script_more : (w : Workload) (story : List Entry) (e : Entry) → IsScriptRun w story → IsAsked w story e
-    → IsScriptRun w (story ++ e ∷ [])
-script_more w story e run asked = λ before after x h. elim (split_last story e before x after h) [
+script_more : (w : Workload) (history : List Entry) (e : Entry) → IsScriptRun w history → IsAsked w history e
+    → IsScriptRun w (history ++ e ∷ [])
+script_more w history e run asked = λ before after x h. elim (split_last history e before x after h) [
   | inl last ↦ subst (IsAsked w before) last.1 (subst (λ (l : List Entry). IsAsked w l e) last.0 asked)
   | inr more ↦ run before more.0 x more.1
 ]
@@ -115,39 +115,39 @@ fixed_more : (w : Workload) (before rest : List Entry) (e : Entry) → IsFixed w
 fixed_more w before [] e h next = (ap (next_event w) (sym (append-nil before)) ∙ next, tt)
 fixed_more w before (x ∷ rest) e h next = (h.0, fixed_more w (before ++ x ∷ []) rest e h.1 (ap (next_event w) (append_assoc before (x ∷ []) rest) ∙ next))
 
-asked_at : (w : Workload) (story : List Entry) (s : State) (o : Option Row) (job : JobId) (op : Op)
-    → event_for w story s o ≡ Some (ask job op) → op ≡ op_asked w story job
-asked_at w story s (Some row) job op h = let same : row.job ≡ job = cc in let is : op_asked w story row.job ≡ op = cc in sym is ∙ ap (op_asked w story) same
-asked_at w story s None job op h = none_asked s.planned h where
-  none_asked : (planned : List Release) → event_in planned ≡ Some (ask job op) → op ≡ op_asked w story job
+asked_at : (w : Workload) (history : List Entry) (s : State) (o : Option Row) (job : JobId) (op : Op)
+    → event_for w history s o ≡ Some (ask job op) → op ≡ op_asked w history job
+asked_at w history s (Some row) job op h = let same : row.job ≡ job = cc in let is : op_asked w history row.job ≡ op = cc in sym is ∙ ap (op_asked w history) same
+asked_at w history s None job op h = none_asked s.planned h where
+  none_asked : (planned : List Release) → event_in planned ≡ Some (ask job op) → op ≡ op_asked w history job
   none_asked [] h = absurd cc
   none_asked (r ∷ rs) h = absurd cc
 
-entry_asked : (w : Workload) (story : List Entry) (e : Entry) → next_event w story ≡ Some (event_of e)
-    → IsAsked w story e
-entry_asked w story (Step job op outcome over tick) h = asked_at w story (state_of w.set story) (running w.set (state_of w.set story).rows) job op h
-entry_asked w story (Blocked job op by ceiling tick) h = asked_at w story (state_of w.set story) (running w.set (state_of w.set story).rows) job op h
-entry_asked w story other h = tt
+entry_asked : (w : Workload) (history : List Entry) (e : Entry) → next_event w history ≡ Some (event_of e)
+    → IsAsked w history e
+entry_asked w history (Step job op outcome over tick) h = asked_at w history (state_of w.set history) (running w.set (state_of w.set history).rows) job op h
+entry_asked w history (Blocked job op by ceiling tick) h = asked_at w history (state_of w.set history) (running w.set (state_of w.set history).rows) job op h
+entry_asked w history other h = tt
 
-pub goes_on : (w : Workload) (story after : List Entry) (e : Entry) → IsUnderWay w story
-    → next_event w story ≡ Some (event_of e) → after ≡ story ++ e ∷ [] → IsUnderWay w after
-goes_on w story after e u next is = record {
-  script_run = subst (IsScriptRun w) (sym is) (script_more w story e u.script_run (entry_asked w story e next));
+pub goes_on : (w : Workload) (history after : List Entry) (e : Entry) → IsUnderWay w history
+    → next_event w history ≡ Some (event_of e) → after ≡ history ++ e ∷ [] → IsUnderWay w after
+goes_on w history after e u next is = record {
+  script_run = subst (IsScriptRun w) (sym is) (script_more w history e u.script_run (entry_asked w history e next));
   rest = u.rest ++ e ∷ [];
   begins = is ∙ (ap (λ (l : List Entry). l ++ e ∷ []) u.begins ∙ append_assoc (plans w) u.rest (e ∷ []));
   fixed = fixed_more w (plans w) u.rest e u.fixed (ap (next_event w) (sym u.begins) ∙ next);
 }
 
--- a turn of a workload with other releases is one of this
+-- a call of a workload with other releases is one of this
 pub goes_by : (w : Workload) (set : Set) (bodies bodies' : List Body) (releases : List (List ℕ))
-    (story after : List Entry) (result : Bool) → w ≡ workload set bodies releases → bodies' ≡ bodies → result ≡ true
-    → (set' : Set) → set' ≡ set → IsTurned (workload set' bodies' []) story result after → IsUnderWay w story
+    (history after : List Entry) (result : Bool) → w ≡ workload set bodies releases → bodies' ≡ bodies → result ≡ true
+    → (set' : Set) → set' ≡ set → IsCalled (workload set' bodies' []) history result after → IsUnderWay w history
     → IsUnderWay w after
-goes_by w set bodies bodies' releases story after result is same went set' sets turned u =
-    let t : IsTurned (workload set bodies []) story true after = subst (λ (b : Bool). IsTurned (workload set bodies []) story b after) went
-    (subst (λ (l : List Body). IsTurned (workload set l []) story result after) same (subst (λ (q : Set). IsTurned (workload q bodies' []) story result after) sets turned)) in
-    let next : next_event (workload set bodies releases) story ≡ Some (event_of t.2.0) = t.1 ∙ ap Some (sym t.2.1) in
-    goes_on w story after t.2.0 u (ap (λ (v : Workload). next_event v story) is ∙ next) t.2.2
+goes_by w set bodies bodies' releases history after result is same went set' sets called u =
+    let t : IsCalled (workload set bodies []) history true after = subst (λ (b : Bool). IsCalled (workload set bodies []) history b after) went
+    (subst (λ (l : List Body). IsCalled (workload set l []) history result after) same (subst (λ (q : Set). IsCalled (workload q bodies' []) history result after) sets called)) in
+    let next : next_event (workload set bodies releases) history ≡ Some (event_of t.2.0) = t.1 ∙ ap Some (sym t.2.1) in
+    goes_on w history after t.2.0 u (ap (λ (v : Workload). next_event v history) is ∙ next) t.2.2
 
 -- the room
 
@@ -182,84 +182,84 @@ pub count_plans : (w : Workload) (n : ℕ) → plan_count (plans w) n ≡ length
 count_plans w n = count_from 0 n n w.releases (omega arith)
 
 -- an entry of a fixed event is no plan
-no_plan_at : (w : Workload) (story : List Entry) (s : State) (o : Option Row) (tx tick : ℕ)
-    → event_for w story s o ≡ Some (plan tx tick) → ⊥
-no_plan_at w story s (Some row) tx tick h = cc
-no_plan_at w story s None tx tick h = none_planned s.planned h where
+no_plan_at : (w : Workload) (history : List Entry) (s : State) (o : Option Row) (tx tick : ℕ)
+    → event_for w history s o ≡ Some (plan tx tick) → ⊥
+no_plan_at w history s (Some row) tx tick h = cc
+no_plan_at w history s None tx tick h = none_planned s.planned h where
   none_planned : (planned : List Release) → event_in planned ≡ Some (plan tx tick) → ⊥
   none_planned [] h = cc
   none_planned (r ∷ rs) h = cc
 
-no_plan : (w : Workload) (story : List Entry) (e : Entry) (n : ℕ) → next_event w story ≡ Some (event_of e)
+no_plan : (w : Workload) (history : List Entry) (e : Entry) (n : ℕ) → next_event w history ≡ Some (event_of e)
     → plans_in n e ≡ 0
-no_plan w story (Planned tx tick) n h = absurd (no_plan_at w story (state_of w.set story) (running w.set (state_of w.set story).rows) tx.0 tick h)
-no_plan w story other n h = refl
+no_plan w history (Planned tx tick) n h = absurd (no_plan_at w history (state_of w.set history) (running w.set (state_of w.set history).rows) tx.0 tick h)
+no_plan w history other n h = refl
 
 pub count_fixed : (w : Workload) (before rest : List Entry) (n : ℕ) → IsFixed w before rest → plan_count rest n ≡ 0
 count_fixed w before [] n h = refl
 count_fixed w before (e ∷ rest) n h = omega (arith, no_plan w before e n h.0, count_fixed w (before ++ e ∷ []) rest n h.1)
 
-way_count : (w : Workload) (story : List Entry) (n : ℕ) → IsUnderWay w story
-    → plan_count story n ≡ length (ticks_of w.releases n)
-way_count w story n u =
+way_count : (w : Workload) (history : List Entry) (n : ℕ) → IsUnderWay w history
+    → plan_count history n ≡ length (ticks_of w.releases n)
+way_count w history n u =
     ap (λ (l : List Entry). plan_count l n) u.begins
     ∙ omega (arith, count_append (plans w) u.rest n, count_fixed w (plans w) u.rest n u.fixed, count_plans w n)
 
-pub way_fits : (w : Workload) (story : List Entry) → IsCompiled w.set → IsLegal w.set story → IsUnderWay w story
-    → length story ≤ room_of_jobs w.set.txns (λ n. length (ticks_of w.releases n))
-way_fits w story ok legal u = (entries_few w.set story ok legal).jobs (λ n. length (ticks_of w.releases n)) (λ n lt. omega (arith, way_count w story n u))
+pub way_fits : (w : Workload) (history : List Entry) → IsCompiled w.set → IsLegal w.set history → IsUnderWay w history
+    → length history ≤ room_of_jobs w.set.txns (λ n. length (ticks_of w.releases n))
+way_fits w history ok legal u = (entries_few w.set history ok legal).jobs (λ n. length (ticks_of w.releases n)) (λ n lt. omega (arith, way_count w history n u))
 
 -- the event that the state fixes has an entry
 
-pub record HasEntry (set : Set) (story : List Entry) (event : Event) : Type 0 where
+pub record HasEntry (set : Set) (history : List Entry) (event : Event) : Type 0 where
   pub entry : Entry
   pub is : event_of entry ≡ event
-  pub legal : IsLegalEntry set (state_of set story) entry
+  pub legal : IsLegalEntry set (state_of set history) entry
 
-idle_some : (set : Set) (story : List Entry) (planned : List Release) (o : Option ℕ)
-    → pending (state_of set story).rows ≡ [] → (state_of set story).planned ≡ planned → next_tick planned ≡ o → o ≢ None
-    → HasEntry set story idle
+idle_some : (set : Set) (history : List Entry) (planned : List Release) (o : Option ℕ)
+    → pending (state_of set history).rows ≡ [] → (state_of set history).planned ≡ planned → next_tick planned ≡ o → o ≢ None
+    → HasEntry set history idle
 unfolding step
-idle_some set story planned None none is e ne = absurd (ne refl)
-idle_some set story planned (Some t) none is e ne = record {
-  entry = Idle (state_of set story).now t;
+idle_some set history planned None none is e ne = absurd (ne refl)
+idle_some set history planned (Some t) none is e ne = record {
+  entry = Idle (state_of set history).now t;
   is = refl;
-  legal = ap (λ (rows : List Row). entry_given (idled set (state_of set story) rows)) none
-      ∙ ap (λ (o : Option ℕ). entry_given (option_map (λ u. (Idle (state_of set story).now u, arrived set u (state_of set story))) o)) (ap next_tick is ∙ e);
+  legal = ap (λ (rows : List Row). entry_given (idled set (state_of set history) rows)) none
+      ∙ ap (λ (o : Option ℕ). entry_given (option_map (λ u. (Idle (state_of set history).now u, arrived set u (state_of set history))) o)) (ap next_tick is ∙ e);
 }
 
 some_event : (a b : Event) → Some a ≡ Some b → a ≡ b
 some_event a b e = cc
 
-idle_entry_for : (set : Set) (story : List Entry) (planned : List Release) (event : Event)
-    → pending (state_of set story).rows ≡ [] → (state_of set story).planned ≡ planned → event_in planned ≡ Some event
-    → HasEntry set story event
-idle_entry_for set story [] event none is h = absurd cc
-idle_entry_for set story (r ∷ rs) event none is h = subst (HasEntry set story) (some_event idle event h) (idle_some set story (r ∷ rs) (next_tick (r ∷ rs)) none is refl (λ e. cc))
+idle_entry_for : (set : Set) (history : List Entry) (planned : List Release) (event : Event)
+    → pending (state_of set history).rows ≡ [] → (state_of set history).planned ≡ planned → event_in planned ≡ Some event
+    → HasEntry set history event
+idle_entry_for set history [] event none is h = absurd cc
+idle_entry_for set history (r ∷ rs) event none is h = subst (HasEntry set history) (some_event idle event h) (idle_some set history (r ∷ rs) (next_tick (r ∷ rs)) none is refl (λ e. cc))
 
-pub entry_for : (w : Workload) (story : List Entry) (o : Option Row) (event : Event) → IsCompiled w.set
-    → IsLegal w.set story → ObeysAt w story → running w.set (state_of w.set story).rows ≡ o
-    → event_for w story (state_of w.set story) o ≡ Some event → HasEntry w.set story event
-entry_for w story (Some row) event ok legal obeys runs h =
-    let op : Op = op_asked w story row.job in
-    let a = asked_entry w.set story row.job op (ap (option_map (λ (r : Row). r.job)) runs) (λ x is.
-    ap (λ (j : JobId). may_ask w.set x (op_asked w story j)) (job_of_same row x (sym runs ∙ is)) ∙ obeys x is) in
-    subst (HasEntry w.set story) (some_event (ask row.job op) event h) (record { entry = a.entry; is = a.event; legal = asked_legal w.set (state_of w.set story) row.job op a })
-entry_for w story None event ok legal obeys runs h = idle_entry_for w.set story (state_of w.set story).planned event ((never_stuck w.set story ok legal).runs runs) refl h
+pub entry_for : (w : Workload) (history : List Entry) (o : Option Row) (event : Event) → IsCompiled w.set
+    → IsLegal w.set history → ObeysAt w history → running w.set (state_of w.set history).rows ≡ o
+    → event_for w history (state_of w.set history) o ≡ Some event → HasEntry w.set history event
+entry_for w history (Some row) event ok legal obeys runs h =
+    let op : Op = op_asked w history row.job in
+    let a = asked_entry w.set history row.job op (ap (option_map (λ (r : Row). r.job)) runs) (λ x is.
+    ap (λ (j : JobId). may_ask w.set x (op_asked w history j)) (job_of_same row x (sym runs ∙ is)) ∙ obeys x is) in
+    subst (HasEntry w.set history) (some_event (ask row.job op) event h) (record { entry = a.entry; is = a.event; legal = asked_legal w.set (state_of w.set history) row.job op a })
+entry_for w history None event ok legal obeys runs h = idle_entry_for w.set history (state_of w.set history).planned event ((never_stuck w.set history ok legal).runs runs) refl h
 
 -- how a run ends
-pub ended : (set set' : Set) (bodies bodies' : List Body) (releases : List (List ℕ)) (story after : List Entry)
-    (result : Bool) → set' ≡ set → result ≡ false → IsLegal set' story
-    → IsTurned (workload set' bodies' []) story result after → IsUnderWay (workload set bodies releases) story
+pub ended : (set set' : Set) (bodies bodies' : List Body) (releases : List (List ℕ)) (history after : List Entry)
+    (result : Bool) → set' ≡ set → result ≡ false → IsLegal set' history
+    → IsCalled (workload set' bodies' []) history result after → IsUnderWay (workload set bodies releases) history
     → IsSim (workload set bodies releases) after
-ended set set' bodies bodies' releases story after result es over legal turned u =
-    let t : IsTurned (workload set' bodies' []) story false after = subst (λ (b : Bool). IsTurned (workload set' bodies' []) story b after) over turned in
+ended set set' bodies bodies' releases history after result es over legal called u =
+    let t : IsCalled (workload set' bodies' []) history false after = subst (λ (b : Bool). IsCalled (workload set' bodies' []) history b after) over called in
     subst (IsSim (workload set bodies releases)) (sym t.0) (record {
-      legal = subst (λ (q : Set). IsLegal q story) es legal;
+      legal = subst (λ (q : Set). IsLegal q history) es legal;
       script_run = u.script_run;
       rest = u.rest;
       begins = u.begins;
       fixed = u.fixed;
-      none_pending = subst (λ (q : Set). pending (state_of q story).rows ≡ []) es t.1;
-      none_planned = subst (λ (q : Set). (state_of q story).planned ≡ []) es t.2;
+      none_pending = subst (λ (q : Set). pending (state_of q history).rows ≡ []) es t.1;
+      none_planned = subst (λ (q : Set). (state_of q history).planned ≡ []) es t.2;
     })

@@ -9,10 +9,10 @@ took (Err e) h cause = absurd (omega (arith, cause.failed))
 
 -- two pieces have a place where the room is at least their length
 pub second_fits : {A E : Type 0} (r : Result A E) (kept kept' first second : List Entry) (room room' : ℕ)
-    → IfOk r (λ _. (story : List Entry) → kept ≡ story → kept' ≡ story ++ first) → HasCause 0 0 r
-    → ((story : List Entry) → length story ≤ room → length story ≤ room')
+    → IfOk r (λ _. (history : List Entry) → kept ≡ history → kept' ≡ history ++ first) → HasCause 0 0 r
+    → ((history : List Entry) → length history ≤ room → length history ≤ room')
     → kept ≡ [] → length first + length second ≤ room
-    → (story : List Entry) × (kept' ≡ story) × (length (story ++ second) ≤ room')
+    → (history : List Entry) × (kept' ≡ history) × (length (history ++ second) ≤ room')
 second_fits r kept kept' first second room room' taken cause same none fits =
     let is : kept' ≡ first = took r taken cause [] none in
     (kept', refl, same (kept' ++ second) (omega (arith, length-append kept' second, ap (λ (l : List Entry). length l) is, fits)))

@@ -16,7 +16,7 @@ CanTake got good entries = (n : ℕ) → CanAppend got good (take n entries)
 pub record IsHanded (got got' : List Entry → Type 0) (entries left : List Entry) : Type 0 where
   pub passed : List Entry
   pub parts : entries ≡ passed ++ left
-  pub grown : (story : List Entry) → got story → got' (story ++ passed)
+  pub grown : (history : List Entry) → got history → got' (history ++ passed)
 
 -- of these entries the out got the first ones, and lost the piece that came next
 pub record IsCut (got got' lost' : List Entry → Type 0) (entries : List Entry) : Type 0 where
@@ -24,7 +24,7 @@ pub record IsCut (got got' lost' : List Entry → Type 0) (entries : List Entry)
   pub piece : List Entry
   pub left : List Entry
   pub parts : entries ≡ passed ++ piece ++ left
-  pub grown : (story : List Entry) → got story → got' (story ++ passed)
+  pub grown : (history : List Entry) → got history → got' (history ++ passed)
   pub is_lost : lost' piece
 
 -- between two entries: the board keeps less than a piece of 1,024, and has room for one more

@@ -1,5 +1,5 @@
 pub mod Workloads
-pub mod Turns
+pub mod Calls
 pub mod Handed
 pub mod Runs
 pub mod Steady

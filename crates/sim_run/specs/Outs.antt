@@ -5,7 +5,7 @@ use Rattle.step_journal.specs.declared.entry.Entry.{Entry}
 
 -- what it could take it can still take
 abbrev pub StaysGood : {O : Type 0} → (good : O → List Entry → Type 0) → O → O → Type 0
-StaysGood good o q = (story : List Entry) → good o story → good q story
+StaysGood good o q = (history : List Entry) → good o history → good q history
 
 -- where the call did what it is for, the out lost none
 abbrev pub LosesNone : {O T E : Type 0} → (lost : O → List Entry → Type 0) → O → Result T E → Type 0

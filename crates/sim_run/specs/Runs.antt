@@ -5,14 +5,14 @@ use Rattle.step_journal.specs.declared.entry.Entry.{Entry}
 use Rattle.step_journal.specs.History.{IsLegal}
 use Rattle.law_histories.specs.Sim.{Workload, IsSim}
 use Rattle.sim_run.specs.Workloads.{AreAccepted, IsObedient}
-use Rattle.sim_run.specs.Turns.{IsUnderWay}
+use Rattle.sim_run.specs.Calls.{IsUnderWay}
 
 -- a run of the workload, for which the board stands, and which the out got whole
 pub record IsWhole (w : Workload) (stands got got' : List Entry → Type 0) : Type 0 where
   pub history : List Entry
   pub sim : IsSim w history
   pub stood : stands history
-  pub grown : (story : List Entry) → got story → got' (story ++ history)
+  pub grown : (had : List Entry) → got had → got' (had ++ history)
 
 -- a run of the workload, of which the out got the first entries, so many, and lost the next ones, so many
 pub record IsStopped (w : Workload) (got got' lost' : List Entry → Type 0) : Type 0 where
@@ -20,15 +20,15 @@ pub record IsStopped (w : Workload) (got got' lost' : List Entry → Type 0) : T
   pub sim : IsSim w history
   pub passed : ℕ
   pub missed : ℕ
-  pub grown : (story : List Entry) → got story → got' (story ++ take passed history)
+  pub grown : (had : List Entry) → got had → got' (had ++ take passed history)
   pub is_lost : lost' (take missed (drop passed history))
 
 -- a run of the workload that begins with these entries
-pub record HasRun (w : Workload) (story : List Entry) : Type 0 where
+pub record HasRun (w : Workload) (front : List Entry) : Type 0 where
   pub history : List Entry
   pub sim : IsSim w history
   pub rest : List Entry
-  pub begins : history ≡ story ++ rest
+  pub begins : history ≡ front ++ rest
 
 -- each workload that is accepted and obedient has a run
 abbrev pub RunsExist : Type 0
@@ -36,8 +36,8 @@ RunsExist =
     (w : Workload) → IsCompiled w.set → AreAccepted w.set w.releases → IsObedient w
     → (history : List Entry) × IsSim w history
 
--- each legal story that is under way is the beginning of a run
-abbrev pub StoriesGoOn : Type 0
-StoriesGoOn =
-    (w : Workload) (story : List Entry) → IsCompiled w.set → IsObedient w → IsLegal w.set story → IsUnderWay w story
-    → HasRun w story
+-- each legal history that is under way is the beginning of a run
+abbrev pub HistoriesGoOn : Type 0
+HistoriesGoOn =
+    (w : Workload) (history : List Entry) → IsCompiled w.set → IsObedient w → IsLegal w.set history → IsUnderWay w history
+    → HasRun w history

@@ -47,11 +47,11 @@ impl KeptEntries {
 impl EntryOut for KeptEntries {
     ghost use Rattle.std.specs.Prelude.{◌≡◌, ◌≤◌, [], length};
 
-    ghost got = { λ out story. out.kept ≡ story };
+    ghost got = { λ out history. out.kept ≡ history };
 
-    ghost lost = { λ out story. story ≡ [] };
+    ghost lost = { λ out history. history ≡ [] };
 
-    ghost good = { λ out story. length story ≤ out.room };
+    ghost good = { λ out history. length history ≤ out.room };
 
     ghost stops = { λ out. 0 };
 

@@ -10,15 +10,15 @@ ghost use Rattle.step_journal.specs.declared.entry.Entry.TheVariants.{Planned, S
 ghost use Rattle.step_journal.specs.Step.{ask as asking};
 ghost use Rattle.step_journal.specs.History.{IsLegal, state_of};
 ghost use Rattle.board.specs.Answers.{IsAsking};
-ghost use Rattle.board.specs.Stories.{now_of};
+ghost use Rattle.board.specs.Histories.{now_of};
 ghost use Rattle.step_journal.specs.Serial.{outcomes_of};
 ghost use Rattle.law_histories.specs.Sim.{IsSim, plans_from};
 ghost use Rattle.sim_run.specs.Workloads.{workload, AreAccepted, IsObedient};
-ghost use Rattle.sim_run.specs.Turns.{CanAsk, HasAsked, CanTurn, HasTurned};
+ghost use Rattle.sim_run.specs.Calls.{CanAsk, HasAsked, CanCall, HasCalled};
 ghost use Rattle.sim_run.specs.Outs.{StaysGood, LosesNone};
 ghost use Rattle.sim_run.specs.Boards.{IsFixed};
 ghost use Rattle.sim_run.specs.Handed.{CanAppend, CanTake, IsHanded, IsCut, IsReady};
-ghost use Rattle.sim_run.specs.Runs.{IsWhole, IsStopped, RunsExist, StoriesGoOn};
+ghost use Rattle.sim_run.specs.Runs.{IsWhole, IsStopped, RunsExist, HistoriesGoOn};
 
 mod fault;
 mod kept;
@@ -37,10 +37,10 @@ pub use workers::Workers;
 pub const PIECE: usize = 1024;
 
 /// The laws that a workload has a run: each that is accepted and obedient, of a compiled set, has one, and each legal
-/// story that is under way is the beginning of one.
+/// history that is under way is the beginning of one.
 pub fn runs_exist()
     ensures runs { RunsExist }
-    ensures goes_on { StoriesGoOn }
+    ensures goes_on { HistoriesGoOn }
 {}
 
 /// Hands on all entries that the board keeps, as one piece, from where they stand; the board lets go of them. Err comes only
@@ -54,7 +54,7 @@ pub fn hand_on<B: Board, O: EntryOut>(board: &mut B, out: &mut O) -> Result<(), 
     ensures cause { HasCause (O.stops out.old) (O.stops out.new) result }
     ensures good { StaysGood O.good out.old out.new }
     ensures left { B.kept board.new ≡ [] }
-    ensures stands { (story : Many Noted) → B.stands board.old story → B.stands board.new story }
+    ensures stands { (history : Many Noted) → B.stands board.old history → B.stands board.new history }
     ensures fixed { IsFixed B.set B.room board.old board.new }
 {
     let handed = out.put(board.entries());
@@ -72,7 +72,7 @@ fn hand_piece<B: Board, O: EntryOut>(board: &mut B, out: &mut O) -> Result<(), S
     ensures cause { HasCause (O.stops out.old) (O.stops out.new) result }
     ensures good { StaysGood O.good out.old out.new }
     ensures few { length (B.kept board.new) < 1024 }
-    ensures stands { (story : Many Noted) → B.stands board.old story → B.stands board.new story }
+    ensures stands { (history : Many Noted) → B.stands board.old history → B.stands board.new history }
     ensures fixed { IsFixed B.set B.room board.old board.new }
 {
     if board.entries().len() < PIECE {
@@ -98,8 +98,8 @@ fn begin_new<Y: Body>(body: &mut Y, serial: &mut u32, next: u32)
 #[inline(always)]
 fn computes<B: Board>(board: &mut B, job: JobId, op: Op) -> bool
     requires { job.tx.0 < length (B.set board.old).txns }
-    ensures done { IsTrue result → (op ≡ Op.Compute) × ((story : Many Noted) → B.stands board.old story →
-        B.stands board.new (story ++ Step job Op.Compute Outcome.Computed None (now_of (B.set board.old) story) ∷ [])) }
+    ensures done { IsTrue result → (op ≡ Op.Compute) × ((history : Many Noted) → B.stands board.old history →
+        B.stands board.new (history ++ Step job Op.Compute Outcome.Computed None (now_of (B.set board.old) history) ∷ [])) }
     ensures unchanged { result ≡ false → board.new ≡ board.old }
     ensures fixed { (B.set board.new ≡ B.set board.old) × (B.room board.new ≡ B.room board.old) ×
         (B.first board.new ≡ B.first board.old) }
@@ -116,13 +116,13 @@ fn computes<B: Board>(board: &mut B, job: JobId, op: Op) -> bool
 // Lets the running job ask for its body's operation, and tells the body the outcome.
 #[inline(always)]
 fn ask<B: Board, Y: Body>(board: &mut B, body: &mut Y, serial: &mut u32, job: JobId)
-    requires ready { (story : Many Noted) ×
-        CanAsk (B.stands board.old) (Y.stands body.old) (Y.gives body.old) (B.set board.old) job serial.old story }
+    requires ready { (history : Many Noted) ×
+        CanAsk (B.stands board.old) (Y.stands body.old) (Y.gives body.old) (B.set board.old) job serial.old history }
     requires room { length (B.kept board.old) < B.room board.old }
-    ensures asked { (story : Many Noted) →
-        CanAsk (B.stands board.old) (Y.stands body.old) (Y.gives body.old) (B.set board.old) job serial.old story →
-        let op = Y.gives body.old job.serial (outcomes_of story job) in
-        HasAsked (B.stands board.new) (Y.stands body.new) (B.set board.old) (asking job op) job.tx.0 serial.new story }
+    ensures asked { (history : Many Noted) →
+        CanAsk (B.stands board.old) (Y.stands body.old) (Y.gives body.old) (B.set board.old) job serial.old history →
+        let op = Y.gives body.old job.serial (outcomes_of history job) in
+        HasAsked (B.stands board.new) (Y.stands body.new) (B.set board.old) (asking job op) job.tx.0 serial.new history }
     ensures fixed { (B.set board.new ≡ B.set board.old) × (B.room board.new ≡ B.room board.old) ×
         (B.first board.new ≡ B.first board.old) }
     ensures same { Y.gives body.new ≡ Y.gives body.old }
@@ -142,15 +142,15 @@ fn ask<B: Board, Y: Body>(board: &mut B, body: &mut Y, serial: &mut u32, job: Jo
 // The event that the state fixes: the step of the running job, or idling. False where nothing is pending and nothing
 // planned.
 #[inline(always)]
-fn turn<B: Board, Y: Body>(board: &mut B, bodies: &mut [Y], serials: &mut [u32]) -> bool
+fn next_call<B: Board, Y: Body>(board: &mut B, bodies: &mut [Y], serials: &mut [u32]) -> bool
     requires ready { let w = workload (B.set board.old) (map Y.gives bodies.old) [] in
-        (story : Many Noted) × CanTurn (B.stands board.old) Y.stands w bodies.old serials.old story }
+        (history : Many Noted) × CanCall (B.stands board.old) Y.stands w bodies.old serials.old history }
     requires each { (length bodies.old ≡ length (B.set board.old).txns) ×
         (length serials.old ≡ length (B.set board.old).txns) }
     requires room { length (B.kept board.old) < B.room board.old }
-    ensures turned { let w = workload (B.set board.old) (map Y.gives bodies.old) [] in
-        (story : Many Noted) → CanTurn (B.stands board.old) Y.stands w bodies.old serials.old story →
-        HasTurned (B.stands board.new) Y.stands w bodies.new serials.new story result }
+    ensures called { let w = workload (B.set board.old) (map Y.gives bodies.old) [] in
+        (history : Many Noted) → CanCall (B.stands board.old) Y.stands w bodies.old serials.old history →
+        HasCalled (B.stands board.new) Y.stands w bodies.new serials.new history result }
     ensures fixed { (B.set board.new ≡ B.set board.old) × (B.room board.new ≡ B.room board.old) ×
         (B.first board.new ≡ B.first board.old) }
     ensures same { map Y.gives bodies.new ≡ map Y.gives bodies.old }
@@ -176,8 +176,8 @@ fn plan_each<B: Board, O: EntryOut>(
     ticks: &[Tick],
     out: &mut O,
 ) -> Result<(), Stopped>
-    requires legal { (story : Many Noted) × B.stands board.old story ×
-        IsLegal (B.set board.old) (story ++ map (Planned tx) ticks.now) }
+    requires legal { (history : Many Noted) × B.stands board.old history ×
+        IsLegal (B.set board.old) (history ++ map (Planned tx) ticks.now) }
     requires in_set { tx.0 < length (B.set board.old).txns }
     requires ready { IsReady (length (B.kept board.old)) (B.room board.old) }
     requires nothing_lost { O.lost out.old [] }
@@ -185,8 +185,8 @@ fn plan_each<B: Board, O: EntryOut>(
     ensures passed { IfOk result (λ _. IsHanded (O.got out.old) (O.got out.new) (B.kept board.old ++ map (Planned tx) ticks.now) (B.kept board.new)) }
     ensures none_lost { LosesNone O.lost out.new result }
     ensures few { IfOk result (λ _. length (B.kept board.new) < 1024) }
-    ensures stands { IfOk result (λ _. (story : Many Noted) → B.stands board.old story →
-        B.stands board.new (story ++ map (Planned tx) ticks.now)) }
+    ensures stands { IfOk result (λ _. (history : Many Noted) → B.stands board.old history →
+        B.stands board.new (history ++ map (Planned tx) ticks.now)) }
     ensures stopped { OnErr result (IsCut (O.got out.old) (O.got out.new) (O.lost out.new) (B.kept board.old ++ map (Planned tx) ticks.now)) }
     ensures cause { HasCause (O.stops out.old) (O.stops out.new) result }
     ensures good { StaysGood O.good out.old out.new }
@@ -210,8 +210,8 @@ pub fn plan_all<B: Board, O: EntryOut>(
     releases: &[List<Tick>],
     out: &mut O,
 ) -> Result<(), Stopped>
-    requires legal { (story : Many Noted) × B.stands board.old story ×
-        IsLegal (B.set board.old) (story ++ plans_from 0 releases.now) }
+    requires legal { (history : Many Noted) × B.stands board.old history ×
+        IsLegal (B.set board.old) (history ++ plans_from 0 releases.now) }
     requires each { length releases.now ≡ length (B.set board.old).txns }
     requires ready { IsReady (length (B.kept board.old)) (B.room board.old) }
     requires nothing_lost { O.lost out.old [] }
@@ -219,8 +219,8 @@ pub fn plan_all<B: Board, O: EntryOut>(
     ensures passed { IfOk result (λ _. IsHanded (O.got out.old) (O.got out.new) (B.kept board.old ++ plans_from 0 releases.now) (B.kept board.new)) }
     ensures none_lost { LosesNone O.lost out.new result }
     ensures few { IfOk result (λ _. length (B.kept board.new) < 1024) }
-    ensures stands { IfOk result (λ _. (story : Many Noted) → B.stands board.old story →
-        B.stands board.new (story ++ plans_from 0 releases.now)) }
+    ensures stands { IfOk result (λ _. (history : Many Noted) → B.stands board.old history →
+        B.stands board.new (history ++ plans_from 0 releases.now)) }
     ensures stopped { OnErr result (IsCut (O.got out.old) (O.got out.new) (O.lost out.new) (B.kept board.old ++ plans_from 0 releases.now)) }
     ensures cause { HasCause (O.stops out.old) (O.stops out.new) result }
     ensures good { StaysGood O.good out.old out.new }
@@ -284,7 +284,7 @@ pub fn run<B: Board, Y: Body, O: EntryOut>(
 {
     plan_all(board, releases, out)?;
     begin_all(bodies, serials);
-    while turn(board, bodies, serials) {
+    while next_call(board, bodies, serials) {
         hand_piece(board, out)?;
     }
     hand_on(board, out)

@@ -26,12 +26,12 @@ pub trait EntryOut {
     /// what it got is as before. It takes no memory.
     fn put(&mut self, entries: &[Entry]) -> Result<(), Stopped>
         requires nothing_lost { lost self.old [] }
-        requires fine { (story : Many Noted) × got self.old story × good self.old (story ++ entries.now) }
-        ensures taken { IfOk result (λ _. (story : Many Noted) → got self.old story → got self.new (story ++ entries.now)) }
+        requires fine { (history : Many Noted) × got self.old history × good self.old (history ++ entries.now) }
+        ensures taken { IfOk result (λ _. (history : Many Noted) → got self.old history → got self.new (history ++ entries.now)) }
         ensures none_lost { IfOk result (λ _. lost self.new []) }
-        ensures kept { OnErr result ((story : Many Noted) → got self.old story → got self.new story) }
+        ensures kept { OnErr result ((history : Many Noted) → got self.old history → got self.new history) }
         ensures lost { OnErr result (lost self.new entries.now) }
         ensures cause { HasCause (stops self.old) (stops self.new) result }
-        ensures same { (story : Many Noted) → good self.old story → good self.new story }
-        ensures no_more { (story : Many Noted) → good self.new story → good self.old story };
+        ensures same { (history : Many Noted) → good self.old history → good self.new history }
+        ensures no_more { (history : Many Noted) → good self.new history → good self.old history };
 }

@@ -12,7 +12,7 @@ use Rattle.table_tests.proofs.TrioCompiled.{trio_compiled}
 -- the opening state is that after no entry
 
 trio_opens : IsLegalState trio (opening trio)
-trio_opens = record { story = []; compiled = trio_compiled; legal = tt; is = refl }
+trio_opens = record { history = []; compiled = trio_compiled; legal = tt; is = refl }
 
 opens_by : (set : Set) → set ≡ trio → IsLegalState set (opening set)
 opens_by set e = subst (λ (s : Set). IsLegalState s (opening s)) (sym e) trio_opens

@@ -329,7 +329,7 @@ fn groups(alloc: Global) -> Result<Vec<TogetherDecl>, OutOfMemory> {
     Ok(groups)
 }
 
-// The same of new items and of relative sets.
+// The first call over new items and two relative sets on which the two differ.
 fn unlike_over_items(alloc: Global, work: &mut Work) -> Result<Option<u32>, OutOfMemory>
     requires reads { work.old.may_read ≡ TEMP ∷ FLOW ∷ MEAN ∷ [] }
     requires writes { work.old.may_write ≡ MEAN ∷ VALVE ∷ [] }

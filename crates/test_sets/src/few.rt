@@ -25,11 +25,11 @@ impl FewEntries {
 }
 
 impl EntryOut for FewEntries {
-    ghost got = { λ out story. Unit {0} };
+    ghost got = { λ out history. Unit {0} };
 
-    ghost lost = { λ out story. Unit {0} };
+    ghost lost = { λ out history. Unit {0} };
 
-    ghost good = { λ out story. Unit {0} };
+    ghost good = { λ out history. Unit {0} };
 
     ghost stops = { λ out. out.stops };
 

@@ -37,7 +37,7 @@ pub fn plain_txn(
     }
 }
 
-/// The same, first released at this tick.
+/// The transaction, first released at this tick.
 pub fn from_tick(txn: TxnDecl, tick: Tick) -> TxnDecl
     ensures { result ≡ released_from tick txn }
 {

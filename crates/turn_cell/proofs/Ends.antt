@@ -23,13 +23,13 @@ module _ {N : Type 0} where
     number = omega arith;
     marks = omega arith;
     single = single;
-    lies = λ story a h s. at story a s;
+    lies = λ history a h s. at history a s;
     based = based;
   }
     where
-      at : (story : List N) → Begins v.seen story → Stand v.mine story → (k : ℕ) (u : View N) → get_elem? (v ∷ []) k ≡ some u → Begins u.seen story × Stand u.mine story
-      at story a s zero u e = subst (λ (x : View N). Begins x.seen story × Stand x.mine story) (some-injective _ _ e) (a, s)
-      at story a s (suc k) u e = absurd (some-ne-none u (sym e))
+      at : (history : List N) → Begins v.seen history → Stand v.mine history → (k : ℕ) (u : View N) → get_elem? (v ∷ []) k ≡ some u → Begins u.seen history × Stand u.mine history
+      at history a s zero u e = subst (λ (x : View N). Begins x.seen history × Stand x.mine history) (some-injective _ _ e) (a, s)
+      at history a s (suc k) u e = absurd (some-ne-none u (sym e))
 
       single : (k : ℕ) (u : View N) → get_elem? (v ∷ []) k ≡ some u → MarkIsOne u
       single zero u e = subst MarkIsOne (some-injective _ _ e) mark
@@ -53,9 +53,9 @@ module _ {N : Type 0} where
     based = based;
   }
     where
-      lies : (story : List N) → Begins (joined v w).seen story → Heard (joined v w).heard story → Stand (v.mine ++ w.mine) story → (k : ℕ) (u : View N) → get_elem? (w ∷ views) k ≡ some u → Begins u.seen story × Stand u.mine story
-      lies story a h s zero u e = subst (λ (x : View N). Begins x.seen story × Stand x.mine story) (some-injective _ _ e) (h 1 w.seen refl, stand_right v.mine w.mine story s)
-      lies story a h s (suc k) u e = g.lies story (h 0 v.seen refl) (λ i l e'. h (suc (suc i)) l (at_longer2 v.heard w.heard i l e')) (stand_left v.mine w.mine story s) k u e
+      lies : (history : List N) → Begins (joined v w).seen history → Heard (joined v w).heard history → Stand (v.mine ++ w.mine) history → (k : ℕ) (u : View N) → get_elem? (w ∷ views) k ≡ some u → Begins u.seen history × Stand u.mine history
+      lies history a h s zero u e = subst (λ (x : View N). Begins x.seen history × Stand x.mine history) (some-injective _ _ e) (h 1 w.seen refl, stand_right v.mine w.mine history s)
+      lies history a h s (suc k) u e = g.lies history (h 0 v.seen refl) (λ i l e'. h (suc (suc i)) l (at_longer2 v.heard w.heard i l e')) (stand_left v.mine w.mine history s) k u e
 
       single : (k : ℕ) (u : View N) → get_elem? (w ∷ views) k ≡ some u → MarkIsOne u
       single zero u e = subst MarkIsOne (some-injective _ _ e) mark
@@ -93,7 +93,7 @@ module _ {T N F : Type 0} (stands : T → List N → Type 0) (fixed : T → F) (
   pub ends : (id : ℕ) (v : V) (words : List ℕ) (xs : List (Option T)) (views : List V) → Final (Seen (Holds stands fixed first origin start seats) id v) words xs → Gathered views v → seats ≤ length views
       → (x : T) × (get_elem? xs 0 ≡ some (Some x)) × Whole stands fixed first origin start x views
   ends id v words xs views final g enough =
-      let s = final.0 in let at = final.1.1 in let b = born_of stands fixed first origin start seats s final.1.0 id v at g.begun in let k = b.6 in let f = k.each id v at in let story = b.3 in
+      let s = final.0 in let at = final.1.1 in let b = born_of stands fixed first origin start seats s final.1.0 id v at g.begun in let k = b.6 in let f = k.each id v at in let history = b.3 in
       let weighs = k.weighs in let heavy = g.weighs in
       let light : (j : ℕ) (u : V) → j ≢ id → get_elem? s.views j ≡ some u → u.weight ≡ 0 = λ j u ne e. let t = terms_le weight s.views id j v u ne at e in omega arith in
       let free : b.0 ≡ 0 = dite (ℕ_discrete b.0 0) (λ e. e) (λ taken. let h = k.held taken in dite (ℕ_discrete k.holder id)
@@ -108,11 +108,11 @@ module _ {T N F : Type 0} (stands : T → List N → Type 0) (fixed : T → F) (
         x.0,
         final.4 0 (Some x.0) (ap (λ l. get_elem? l 0) b.5 ∙ ap some x.1),
         record {
-          story = story;
+          history = history;
           stood = x.2;
           same = x.3;
           began = k.began;
-          each = λ i u e. let l = g.lies story f.sees f.told (stand_longer v.mine v.seen story f.sees f.stand) i u e in let c = g.based i u e in (l.0, l.1, omega arith);
+          each = λ i u e. let l = g.lies history f.sees f.told (stand_longer v.mine v.seen history f.sees f.stand) i u e in let c = g.based i u e in (l.0, l.1, omega arith);
           placed = λ place. let p = k.placed place in let o = total-only (times_in place) s.views id v at (λ j u ne e. ap (times place) ((k.each j u e).spent_is (light j u ne e)).0) in let c = g.counts place in omega arith;
           marked = one_mark;
           drained = λ i u e m. let d = marked_number views g.single one_mark i u e m in omega arith;

@@ -53,12 +53,12 @@ module _ {T N F : Type 0} (stands : T → List N → Type 0) (fixed : T → F) (
       no zero e = off begun (sym (ap (λ (u : V). u.begun) (some-injective _ _ e)))
       no (suc j) e = some-ne-none v (sym e)
 
-  missed : (turn drained : ℕ) (home : Home) (views : List V) (story : List N) (id : ℕ) (v : V) → get_elem? views id ≡ some v → K turn drained home views story → K turn drained home (set views id (missing v)) story
-  missed turn drained home views story id v at k = let f = k.each id v at in let w = missing v in record {
+  missed : (turn drained : ℕ) (home : Home) (views : List V) (history : List N) (id : ℕ) (v : V) → get_elem? views id ≡ some v → K turn drained home views history → K turn drained home (set views id (missing v)) history
+  missed turn drained home views history id v at k = let f = k.each id v at in let w = missing v in record {
     holder = k.holder;
     marker = k.marker;
     began = k.began;
-    each = each_set (Fits story turn k.holder drained k.marker) views id w
+    each = each_set (Fits history turn k.holder drained k.marker) views id w
         (record { begun = f.begun; sees = f.sees; told = f.told; stand = f.stand; holds = f.holds; spent_is = f.spent_is; marked = f.marked; plain = f.plain; once = f.once; based = f.based })
         (λ j u _. k.each j u);
     free = k.free;
@@ -76,14 +76,14 @@ module _ {T N F : Type 0} (stands : T → List N → Type 0) (fixed : T → F) (
       go true p q = p refl
       go false p q = q refl
 
-  took : (drained now : ℕ) (home : Home) (views : List V) (story : List N) (id : ℕ) (v : V) → get_elem? views id ≡ some v → v.weight ≢ 0 → now ≡ drained → K 0 drained home views story
-      → K 1 drained none (set views id (taking v story now)) story
-  took drained now home views story id v at some_weight is k = let f = k.each id v at in let w = taking v story now in record {
+  took : (drained now : ℕ) (home : Home) (views : List V) (history : List N) (id : ℕ) (v : V) → get_elem? views id ≡ some v → v.weight ≢ 0 → now ≡ drained → K 0 drained home views history
+      → K 1 drained none (set views id (taking v history now)) history
+  took drained now home views history id v at some_weight is k = let f = k.each id v at in let w = taking v history now in record {
     holder = id;
     marker = k.marker;
     began = k.began;
-    each = each_set (Fits story 1 id drained k.marker) views id w
-        (record { begun = f.begun; sees = whole story; told = f.told; stand = stand_longer v.mine v.seen story f.sees f.stand; holds = λ _. (refl, (λ e. absurd (omega arith)), refl, counted_is w drained drained (λ m. (f.marked m).1) (λ _. is)); spent_is = λ z. absurd (some_weight z); marked = f.marked; plain = f.plain; once = f.once; based = omega arith })
+    each = each_set (Fits history 1 id drained k.marker) views id w
+        (record { begun = f.begun; sees = whole history; told = f.told; stand = stand_longer v.mine v.seen history f.sees f.stand; holds = λ _. (refl, (λ e. absurd (omega arith)), refl, counted_is w drained drained (λ m. (f.marked m).1) (λ _. is)); spent_is = λ z. absurd (some_weight z); marked = f.marked; plain = f.plain; once = f.once; based = omega arith })
         (λ j u _ e. let g = k.each j u e in record { begun = g.begun; sees = g.sees; told = g.told; stand = g.stand; holds = λ h. absurd ((g.holds h).1 refl); spent_is = g.spent_is; marked = g.marked; plain = g.plain; once = g.once; based = g.based });
     free = λ e. absurd (omega arith);
     held = λ _. (w, set_there views id v w at, refl);
@@ -111,10 +111,10 @@ module _ {T N F : Type 0} (stands : T → List N → Type 0) (fixed : T → F) (
         ((λ e. absurd (ne e)), (λ _. (refl, refl))),
       ))
 
-  noted : (turn drained : ℕ) (home : Home) (views : List V) (story : List N) (id : ℕ) (v : V) (note : N) → get_elem? views id ≡ some v → v.holds ≡ true → K turn drained home views story
-      → K turn drained home (set views id (noting v note)) (story ++ note ∷ [])
-  noted turn drained home views story id v note at holds k = let f = k.each id v at in let w = noting v note in let mine = f.holds holds in let more = story ++ note ∷ [] in
-      let long : length more ≡ length story + 1 = omega (arith, length-append story (note ∷ [])) in let began = k.began in record {
+  noted : (turn drained : ℕ) (home : Home) (views : List V) (history : List N) (id : ℕ) (v : V) (note : N) → get_elem? views id ≡ some v → v.holds ≡ true → K turn drained home views history
+      → K turn drained home (set views id (noting v note)) (history ++ note ∷ [])
+  noted turn drained home views history id v note at holds k = let f = k.each id v at in let w = noting v note in let mine = f.holds holds in let more = history ++ note ∷ [] in
+      let long : length more ≡ length history + 1 = omega (arith, length-append history (note ∷ [])) in let began = k.began in record {
         holder = k.holder;
         marker = k.marker;
         began = omega arith;
@@ -122,7 +122,7 @@ module _ {T N F : Type 0} (stands : T → List N → Type 0) (fixed : T → F) (
             (record {
               begun = f.begun;
               sees = subst (λ l. Begins (v.seen ++ note ∷ []) (l ++ note ∷ [])) mine.2 (whole (v.seen ++ note ∷ []));
-              told = λ i l e. longer l story note (f.told i l e);
+              told = λ i l e. longer l history note (f.told i l e);
               stand = stand_note v.mine v.seen note f.stand;
               holds = λ h. (mine.0, mine.1, ap (λ l. l ++ note ∷ []) mine.2, mine.3);
               spent_is = λ z. absurd (off holds (f.spent_is z).1);
@@ -131,14 +131,14 @@ module _ {T N F : Type 0} (stands : T → List N → Type 0) (fixed : T → F) (
               once = f.once;
               based = f.based;
             })
-            (λ j u ne e. let g = k.each j u e in record { begun = g.begun; sees = longer u.seen story note g.sees; told = λ i l e'. longer l story note (g.told i l e'); stand = g.stand; holds = λ h. absurd (ne ((g.holds h).0 ∙ sym mine.0)); spent_is = g.spent_is; marked = g.marked; plain = g.plain; once = g.once; based = g.based });
+            (λ j u ne e. let g = k.each j u e in record { begun = g.begun; sees = longer u.seen history note g.sees; told = λ i l e'. longer l history note (g.told i l e'); stand = g.stand; holds = λ h. absurd (ne ((g.holds h).0 ∙ sym mine.0)); spent_is = g.spent_is; marked = g.marked; plain = g.plain; once = g.once; based = g.based });
         free = λ e. absurd (mine.1 e);
         held = λ n. has_set (λ u. u.holds ≡ true) views k.holder id v w at (λ h. h) (k.held n);
         mark = has_set (λ u. u.marked ≡ true) views k.marker id v w at (λ h. h) k.mark;
         weighs = sum_same weight views id v w at refl ∙ k.weighs;
-        placed = λ place. let t = total-set (times_in place) views id v w at in let a = times-append place v.mine ((length v.seen, note) ∷ []) in let p = k.placed place in let b = below_next place (length story) in
-            let same : length v.seen ≡ length story = ap length mine.2 in
-            let here : below place (length more) ≡ below place (length story) + (if nat_eq place (length v.seen) then 1 else 0) = ap (below place) long ∙ (b ∙ ap (λ (n : ℕ). below place (length story) + (if nat_eq place n then 1 else 0)) (sym same)) in
+        placed = λ place. let t = total-set (times_in place) views id v w at in let a = times-append place v.mine ((length v.seen, note) ∷ []) in let p = k.placed place in let b = below_next place (length history) in
+            let same : length v.seen ≡ length history = ap length mine.2 in
+            let here : below place (length more) ≡ below place (length history) + (if nat_eq place (length v.seen) then 1 else 0) = ap (below place) long ∙ (b ∙ ap (λ (n : ℕ). below place (length history) + (if nat_eq place n then 1 else 0)) (sym same)) in
             omega arith;
       }
 
@@ -155,14 +155,14 @@ module _ {T N F : Type 0} (stands : T → List N → Type 0) (fixed : T → F) (
         (λ other told_is. (ap (λ o. noting m.0 (out note o)) (sym is ∙ told_is), refl)),
       )
 
-  drew : (turn drained count : ℕ) (home : Home) (views : List V) (story : List N) (id : ℕ) (v : V) → get_elem? views id ≡ some v → v.holds ≡ true → v.marked ≡ true → K turn drained home views story
-      → K turn (drained + count) home (set views id (draining v count)) story
-  drew turn drained count home views story id v at holds marked k = let f = k.each id v at in let w = draining v count in let mine = f.holds holds in let has = f.marked marked in let now : v.drained + count ≡ drained + count = ap (λ (n : ℕ). n + count) has.1 in
+  drew : (turn drained count : ℕ) (home : Home) (views : List V) (history : List N) (id : ℕ) (v : V) → get_elem? views id ≡ some v → v.holds ≡ true → v.marked ≡ true → K turn drained home views history
+      → K turn (drained + count) home (set views id (draining v count)) history
+  drew turn drained count home views history id v at holds marked k = let f = k.each id v at in let w = draining v count in let mine = f.holds holds in let has = f.marked marked in let now : v.drained + count ≡ drained + count = ap (λ (n : ℕ). n + count) has.1 in
       record {
         holder = k.holder;
         marker = k.marker;
         began = k.began;
-        each = each_set (Fits story turn k.holder (drained + count) k.marker) views id w
+        each = each_set (Fits history turn k.holder (drained + count) k.marker) views id w
             (record { begun = f.begun; sees = f.sees; told = f.told; stand = f.stand; holds = λ _. (mine.0, mine.1, mine.2, counted_is w drained (drained + count) (λ _. now) (λ p. absurd (off marked p))); spent_is = f.spent_is; marked = λ _. (has.0, now); plain = λ p. absurd (off marked p); once = f.once; based = let l = f.based in omega arith })
             (λ j u ne e. let g = k.each j u e in record { begun = g.begun; sees = g.sees; told = g.told; stand = g.stand; holds = λ h. absurd (ne ((g.holds h).0 ∙ sym mine.0)); spent_is = g.spent_is; marked = λ h. absurd (ne ((g.marked h).0 ∙ sym has.0)); plain = g.plain; once = g.once; based = let l = g.based in omega arith });
         free = λ e. absurd (mine.1 e);
@@ -185,13 +185,13 @@ module _ {T N F : Type 0} (stands : T → List N → Type 0) (fixed : T → F) (
         (refl, refl),
       )
 
-  gave : (turn drained : ℕ) (home : Home) (views : List V) (story : List N) (id : ℕ) (v : V) (x : T) → get_elem? views id ≡ some v → v.holds ≡ true → stands x v.seen → fixed x ≡ fixed origin → first x ≡ counted v → K turn drained home views story
-      → K 0 drained (some (Some x)) (set views id (released v)) story
-  gave turn drained home views story id v x at holds fits same whole_first k = let f = k.each id v at in let w = released v in let mine = f.holds holds in record {
+  gave : (turn drained : ℕ) (home : Home) (views : List V) (history : List N) (id : ℕ) (v : V) (x : T) → get_elem? views id ≡ some v → v.holds ≡ true → stands x v.seen → fixed x ≡ fixed origin → first x ≡ counted v → K turn drained home views history
+      → K 0 drained (some (Some x)) (set views id (released v)) history
+  gave turn drained home views history id v x at holds fits same whole_first k = let f = k.each id v at in let w = released v in let mine = f.holds holds in record {
     holder = k.holder;
     marker = k.marker;
     began = k.began;
-    each = each_set (Fits story 0 k.holder drained k.marker) views id w
+    each = each_set (Fits history 0 k.holder drained k.marker) views id w
         (record { begun = f.begun; sees = f.sees; told = f.told; stand = f.stand; holds = λ h. absurd (off h refl); spent_is = λ z. ((f.spent_is z).0, refl, (f.spent_is z).2); marked = f.marked; plain = f.plain; once = f.once; based = f.based })
         (λ j u ne e. let g = k.each j u e in record { begun = g.begun; sees = g.sees; told = g.told; stand = g.stand; holds = λ h. absurd (ne ((g.holds h).0 ∙ sym mine.0)); spent_is = g.spent_is; marked = g.marked; plain = g.plain; once = g.once; based = g.based });
     free = λ _. (x, refl, subst (stands x) mine.2 fits, same, whole_first ∙ mine.3);
@@ -262,7 +262,7 @@ module _ {T N F : Type 0} (stands : T → List N → Type 0) (fixed : T → F) (
       only (suc j) u w v e = absurd (some-ne-none v (sym e))
 
   pub splits : (id : ℕ) (v : V) → v.begun ≡ true → 2 ≤ v.weight → Splits Rule id v (keeping v) (sibling v)
-  splits id v begun heavy s r at = let b = born_of s r id v at begun in let k = b.6 in let f = k.each id v at in let w = keeping v in let x = sibling v in let views = s.views in let story = b.3 in
+  splits id v begun heavy s r at = let b = born_of s r id v at begun in let k = b.6 in let f = k.each id v at in let w = keeping v in let x = sibling v in let views = s.views in let history = b.3 in
       inr (
         b.0,
         b.1,
@@ -275,10 +275,10 @@ module _ {T N F : Type 0} (stands : T → List N → Type 0) (fixed : T → F) (
           marker = k.marker;
           began = k.began;
           each = λ j u e. ⊎_elim
-              (each_set (Fits story b.0 k.holder b.1 k.marker) views id w
+              (each_set (Fits history b.0 k.holder b.1 k.marker) views id w
               (record { begun = f.begun; sees = f.sees; told = f.told; stand = f.stand; holds = f.holds; spent_is = λ z. absurd (omega arith); marked = f.marked; plain = f.plain; once = f.once; based = f.based })
               (λ i y _. k.each i y) j u)
-              (λ (is : x ≡ u). subst (Fits story b.0 k.holder b.1 k.marker j) is
+              (λ (is : x ≡ u). subst (Fits history b.0 k.holder b.1 k.marker j) is
               (record { begun = refl; sees = f.sees; told = λ i l e'. absurd (some-ne-none l (sym e')); stand = λ i p e'. absurd (some-ne-none p (sym e')); holds = λ h. absurd (off h refl); spent_is = λ z. absurd (omega arith); marked = λ h. absurd (off h refl); plain = λ _. refl; once = refl; based = f.based }))
               (at_snoc (set views id w) x u j e);
           free = k.free;
@@ -335,19 +335,19 @@ module _ {T N F : Type 0} (stands : T → List N → Type 0) (fixed : T → F) (
       go false wb true vd = let p = v_has ∙ ap mark_number vd in let q = w_has ∙ ap mark_number wb in omega arith
       go false wb false vd = let p = v_has ∙ ap mark_number vd in let q = w_has ∙ ap mark_number wb in omega arith
 
-  heard_both : (v w : V) (story : List N) → Begins v.seen story → Begins w.seen story → Heard v.heard story → Heard w.heard story → Heard (v.seen ∷ w.seen ∷ (v.heard ++ w.heard)) story
-  heard_both v w story a b p q zero l e = subst (λ s. Begins s story) (some-injective _ _ e) a
-  heard_both v w story a b p q (suc zero) l e = subst (λ s. Begins s story) (some-injective _ _ e) b
-  heard_both v w story a b p q (suc (suc k)) l e = ⊎_elim (λ left. p k l left) (λ t. q t.0 l t.1) (at_append v.heard w.heard k l e)
+  heard_both : (v w : V) (history : List N) → Begins v.seen history → Begins w.seen history → Heard v.heard history → Heard w.heard history → Heard (v.seen ∷ w.seen ∷ (v.heard ++ w.heard)) history
+  heard_both v w history a b p q zero l e = subst (λ s. Begins s history) (some-injective _ _ e) a
+  heard_both v w history a b p q (suc zero) l e = subst (λ s. Begins s history) (some-injective _ _ e) b
+  heard_both v w history a b p q (suc (suc k)) l e = ⊎_elim (λ left. p k l left) (λ t. q t.0 l t.1) (at_append v.heard w.heard k l e)
 
   pub joins : (id : ℕ) (v : V) (other : ℕ) (w : V) → v.begun ≡ true → v.holds ≡ false → w.holds ≡ false → v.weight ≢ 0 → Joins Rule id v other w (joined v w) spent
-  joins id v other w begun v_idle w_idle heavy s r at apart after = let b = born_of s r id v at begun in let k = b.6 in let story = b.3 in let views = s.views in let x = joined v w in
+  joins id v other w begun v_idle w_idle heavy s r at apart after = let b = born_of s r id v at begun in let k = b.6 in let history = b.3 in let views = s.views in let x = joined v w in
       let there : get_elem? views other ≡ some w = sym (set_else views id other x apart) ∙ after in
       let f = k.each id v at in let g = k.each other w there in
       let m = marks views k.marker id other v w x apart at there refl k.mark (λ h. (g.marked h).0) (λ h. (f.marked h).0) in
       let not_both : v.marked ≡ true → w.marked ≡ true → ⊥ = λ p q. apart ((g.marked q).0 ∙ sym (f.marked p).0) in
       let n = joins_number v w b.1 (λ h. (f.marked h).1) (λ h. (g.marked h).1) f.plain g.plain not_both in
-      let l = longer_is v.seen w.seen story f.sees g.sees in
+      let l = longer_is v.seen w.seen history f.sees g.sees in
       let vb = f.based in let wb = g.based in
       inr (
         b.0,
@@ -360,10 +360,10 @@ module _ {T N F : Type 0} (stands : T → List N → Type 0) (fixed : T → F) (
           holder = k.holder;
           marker = m.0;
           began = k.began;
-          each = each_set (Fits story b.0 k.holder b.1 m.0) (set views id x) other spent
-              (record { begun = refl; sees = (story, refl); told = λ i y e. absurd (some-ne-none y (sym e)); stand = λ i p e. absurd (some-ne-none p (sym e)); holds = λ h. absurd (off h refl); spent_is = λ _. (refl, refl, refl); marked = λ h. absurd (off h refl); plain = λ _. refl; once = refl; based = omega arith })
-              (λ j u not_other e. each_set (λ i y. i ≢ other → Fits story b.0 k.holder b.1 m.0 i y) views id x
-              (λ _. record { begun = refl; sees = l.0; told = heard_both v w story f.sees g.sees f.told g.told; stand = stand_both v.mine w.mine x.seen (stand_longer v.mine v.seen x.seen l.1 f.stand) (stand_longer w.mine w.seen x.seen l.2 g.stand); holds = λ h. absurd (off h refl); spent_is = λ z. absurd (heavy (omega arith)); marked = λ h. (m.2 h, n.0 h); plain = n.1; once = joins_once v w f.once g.once not_both; based = omega arith })
+          each = each_set (Fits history b.0 k.holder b.1 m.0) (set views id x) other spent
+              (record { begun = refl; sees = (history, refl); told = λ i y e. absurd (some-ne-none y (sym e)); stand = λ i p e. absurd (some-ne-none p (sym e)); holds = λ h. absurd (off h refl); spent_is = λ _. (refl, refl, refl); marked = λ h. absurd (off h refl); plain = λ _. refl; once = refl; based = omega arith })
+              (λ j u not_other e. each_set (λ i y. i ≢ other → Fits history b.0 k.holder b.1 m.0 i y) views id x
+              (λ _. record { begun = refl; sees = l.0; told = heard_both v w history f.sees g.sees f.told g.told; stand = stand_both v.mine w.mine x.seen (stand_longer v.mine v.seen x.seen l.1 f.stand) (stand_longer w.mine w.seen x.seen l.2 g.stand); holds = λ h. absurd (off h refl); spent_is = λ z. absurd (heavy (omega arith)); marked = λ h. (m.2 h, n.0 h); plain = n.1; once = joins_once v w f.once g.once not_both; based = omega arith })
               (λ i y not_id e' apart'. let q = k.each i y e' in record { begun = q.begun; sees = q.sees; told = q.told; stand = q.stand; holds = q.holds; spent_is = q.spent_is; marked = λ h. (m.3 i not_id apart' (q.marked h).0, (q.marked h).1); plain = q.plain; once = q.once; based = q.based })
               j u e not_other);
           free = k.free;

@@ -38,14 +38,14 @@ module _ {N : Type 0} where
 
 -- What a value stands for when its cell is closed, and how the views of all seats lie in it.
 pub record Whole {T N F : Type 0} (stands : T → List N → Type 0) (fixed : T → F) (first : T → ℕ) (origin : T) (start : ℕ) (x : T) (views : List (View N)) : Type 0 where
-  pub story : List N
-  pub stood : stands x story
+  pub history : List N
+  pub stood : stands x history
   pub same : fixed x ≡ fixed origin
-  pub began : start ≤ length story
-  -- what each seat had seen begins the story, and each of its notes stands there at its place
-  pub each : (k : ℕ) (v : View N) → get_elem? views k ≡ some v → Begins v.seen story × Stand v.mine story × (v.base ≤ first x)
+  pub began : start ≤ length history
+  -- what each seat had seen begins the history, and each of its notes stands there at its place
+  pub each : (k : ℕ) (v : View N) → get_elem? views k ≡ some v → Begins v.seen history × Stand v.mine history × (v.base ≤ first x)
   -- each place from the start on is that of exactly one note of one seat, and no other place is
-  pub placed : (place : ℕ) → total (times_in place) views + below place start ≡ below place (length story)
+  pub placed : (place : ℕ) → total (times_in place) views + below place start ≡ below place (length history)
   -- one seat carries the mark, and its number is the number of notes that the value no longer keeps
   pub marked : total marks_in views ≡ 1
   pub drained : (k : ℕ) (v : View N) → get_elem? views k ≡ some v → v.marked ≡ true → v.drained ≡ first x
@@ -60,8 +60,8 @@ pub record Gathered {N : Type 0} (views : List (View N)) (v : View N) : Type 0 w
   pub number : v.drained ≡ total drained_in views
   pub marks : v.marks ≡ total marks_in views
   pub single : (k : ℕ) (u : View N) → get_elem? views k ≡ some u → MarkIsOne u
-  pub lies : (story : List N) → Begins v.seen story → Heard v.heard story → Stand v.mine story
-      → (k : ℕ) (u : View N) → get_elem? views k ≡ some u → Begins u.seen story × Stand u.mine story
+  pub lies : (history : List N) → Begins v.seen history → Heard v.heard history → Stand v.mine history
+      → (k : ℕ) (u : View N) → get_elem? views k ≡ some u → Begins u.seen history × Stand u.mine history
   pub based : (k : ℕ) (u : View N) → get_elem? views k ≡ some u → u.base ≤ v.base
 
 -- A seat, as contracts see it: the cell that it is of, and what it knows.

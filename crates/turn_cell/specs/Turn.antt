@@ -9,15 +9,15 @@ use Rattle.turn_cell.specs.declared.view.View.{View}
 
 -- the list begins with this one
 abbrev pub Begins : {N : Type 0} → List N → List N → Type 0
-Begins {N} seen story = (rest : List N) × (story ≡ seen ++ rest)
+Begins {N} seen history = (rest : List N) × (history ≡ seen ++ rest)
 
 -- each pair stands in the list at its place
 abbrev pub Stand : {N : Type 0} → List (ℕ × N) → List N → Type 0
-Stand {N} mine story = (k : ℕ) (p : ℕ × N) → get_elem? mine k ≡ some p → get_elem? story p.0 ≡ some p.1
+Stand {N} mine history = (k : ℕ) (p : ℕ × N) → get_elem? mine k ≡ some p → get_elem? history p.0 ≡ some p.1
 
 -- the list begins with each of these
 abbrev pub Heard : {N : Type 0} → List (List N) → List N → Type 0
-Heard {N} heard story = (k : ℕ) (seen : List N) → get_elem? heard k ≡ some seen → Begins seen story
+Heard {N} heard history = (k : ℕ) (seen : List N) → get_elem? heard k ≡ some seen → Begins seen history
 
 -- 1 where the place is below n, and else 0
 abbrev pub below : ℕ → ℕ → ℕ
@@ -52,7 +52,7 @@ module _ {N : Type 0} where
   abbrev pub counted : View N → ℕ
   counted v = if v.marked then v.drained else v.base
 
-  -- the view of the first seat, before the story is chosen
+  -- the view of the first seat, before the history is chosen
   abbrev pub unborn : ℕ → ℕ → View N
   unborn first seats = record { begun = false; holds = false; seen = []; heard = []; mine = []; turns = 0; missed = 0; weight = seats; marked = true; marks = 1; drained = first; base = first }
 
@@ -63,7 +63,7 @@ module _ {N : Type 0} where
   missing v = record v { missed = v.missed + 1 }
 
   abbrev pub taking : View N → List N → ℕ → View N
-  taking v story first = record v { holds = true; seen = story; turns = v.turns + 1; base = first }
+  taking v history first = record v { holds = true; seen = history; turns = v.turns + 1; base = first }
 
   abbrev pub noting : View N → N → View N
   noting v note = record v { seen = v.seen ++ note ∷ []; mine = v.mine ++ (length v.seen, note) ∷ [] }
@@ -102,12 +102,12 @@ module _ {N : Type 0} where
   spent = record { begun = true; holds = false; seen = []; heard = []; mine = []; turns = 0; missed = 0; weight = 0; marked = false; marks = 0; drained = 0; base = 0 }
 
   -- what the rule says of one view
-  pub record Fits (story : List N) (turn holder drained marker seat : ℕ) (v : View N) : Type 0 where
+  pub record Fits (history : List N) (turn holder drained marker seat : ℕ) (v : View N) : Type 0 where
     pub begun : v.begun ≡ true
-    pub sees : Begins v.seen story
-    pub told : Heard v.heard story
+    pub sees : Begins v.seen history
+    pub told : Heard v.heard history
     pub stand : Stand v.mine v.seen
-    pub holds : v.holds ≡ true → (seat ≡ holder) × (turn ≢ 0) × (v.seen ≡ story) × (counted v ≡ drained)
+    pub holds : v.holds ≡ true → (seat ≡ holder) × (turn ≢ 0) × (v.seen ≡ history) × (counted v ≡ drained)
     pub spent_is : v.weight ≡ 0 → (v.mine ≡ []) × (v.holds ≡ false) × (v.marked ≡ false)
     pub marked : v.marked ≡ true → (seat ≡ marker) × (v.drained ≡ drained)
     pub plain : v.marked ≡ false → v.drained ≡ 0
@@ -123,21 +123,21 @@ module _ {N : Type 0} where
   IsMarked views marker = (v : View N) × (get_elem? views marker ≡ some v) × (v.marked ≡ true)
 
 module _ {T N F : Type 0} (stands : T → List N → Type 0) (fixed : T → F) (first : T → ℕ) (origin : T) (start seats : ℕ) where
-  -- where the turn is free, the value is at home, and stands for the story
+  -- where the turn is free, the value is at home, and stands for the history
   abbrev pub AtHome : List N → ℕ → maybe.Option (Option T) → ℕ → Type 0
-  AtHome story turn home drained = turn ≡ 0 → (x : T) × (home ≡ some (Some x)) × stands x story × (fixed x ≡ fixed origin) × (first x ≡ drained)
+  AtHome history turn home drained = turn ≡ 0 → (x : T) × (home ≡ some (Some x)) × stands x history × (fixed x ≡ fixed origin) × (first x ≡ drained)
 
-  pub record Kept (turn drained : ℕ) (home : maybe.Option (Option T)) (views : List (View N)) (story : List N) : Type 0 where
+  pub record Kept (turn drained : ℕ) (home : maybe.Option (Option T)) (views : List (View N)) (history : List N) : Type 0 where
     pub holder : ℕ
     pub marker : ℕ
-    pub began : start ≤ length story
-    pub each : (seat : ℕ) (v : View N) → get_elem? views seat ≡ some v → Fits story turn holder drained marker seat v
-    pub free : AtHome story turn home drained
+    pub began : start ≤ length history
+    pub each : (seat : ℕ) (v : View N) → get_elem? views seat ≡ some v → Fits history turn holder drained marker seat v
+    pub free : AtHome history turn home drained
     pub held : IsHeld views turn holder
     pub mark : IsMarked views marker
     pub weighs : total weight views ≡ seats
     -- each place from the start on stands once among the notes of all seats, and no other
-    pub placed : (place : ℕ) → total (times_in place) views + below place start ≡ below place (length story)
+    pub placed : (place : ℕ) → total (times_in place) views + below place start ≡ below place (length history)
 
   abbrev Table : Type 0
   Table = State (Option T) (View N)
@@ -146,7 +146,7 @@ module _ {T N F : Type 0} (stands : T → List N → Type 0) (fixed : T → F) (
   Unborn s = (s.words ≡ 0 ∷ start ∷ first origin ∷ []) × (s.homes ≡ some (Some origin) ∷ []) × (s.views ≡ unborn (first origin) seats ∷ [])
 
   abbrev pub Born : Table → Type 0
-  Born s = (turn : ℕ) × (drained : ℕ) × (home : maybe.Option (Option T)) × (story : List N) × (s.words ≡ turn ∷ length story ∷ drained ∷ []) × (s.homes ≡ home ∷ []) × Kept turn drained home s.views story
+  Born s = (turn : ℕ) × (drained : ℕ) × (home : maybe.Option (Option T)) × (history : List N) × (s.words ≡ turn ∷ length history ∷ drained ∷ []) × (s.homes ≡ home ∷ []) × Kept turn drained home s.views history
 
   abbrev pub Holds : Table → Type 0
   Holds s = Unborn s ⊎ Born s
@@ -174,10 +174,10 @@ module _ {T N : Type 0} where
   Looks st m r m' = (m'.0 ≡ m.0) × (m'.1 ≡ m.1) × (length m.0.seen ≤ r)
 
 module _ {T N F : Type 0} (stands : T → List N → Type 0) (fixed : T → F) (first : T → ℕ) where
-  -- found 0: the value, whose story begins with what was seen
+  -- found 0: the value, whose history begins with what was seen
   abbrev pub Tries : Option T → At T → Sat T N → ℕ → Sat T N → Type 0
   Tries told st m r m' =
-      (r ≡ 0 → (x : T) × (story : List N) × (m'.1 ≡ (0, Some x) ∷ m.1) × (m'.0 ≡ taking m.0 story (first x)) × (counted m'.0 ≡ first x) × (m.0.base ≤ first x) × Begins m.0.seen story × stands x story × ((origin : T) → told ≡ Some origin → fixed x ≡ fixed origin))
+      (r ≡ 0 → (x : T) × (history : List N) × (m'.1 ≡ (0, Some x) ∷ m.1) × (m'.0 ≡ taking m.0 history (first x)) × (counted m'.0 ≡ first x) × (m.0.base ≤ first x) × Begins m.0.seen history × stands x history × ((origin : T) → told ≡ Some origin → fixed x ≡ fixed origin))
       × (r ≢ 0 → (m'.0 ≡ missing m.0) × (m'.1 ≡ m.1))
 
 -- Seats, as the clauses of the cell name them.

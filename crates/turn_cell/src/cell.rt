@@ -86,7 +86,7 @@ pub struct Taken<T> {
 impl<T: Storied> TurnCell<T> {
     /// Tries once for the turn, by one compare-exchange, and does not wait. None comes exactly where that exchange found
     /// the turn taken: the seat has then missed one more turn, and learns nothing else. Some hands out the value: the seat
-    /// has taken one more turn, has now seen the whole story, which begins with all that it had seen before, and knows how
+    /// has taken one more turn, has now seen the whole history, which begins with all that it had seen before, and knows how
     /// many notes the value no longer keeps, which are no fewer than when it last knew. The fixed part is that of the
     /// value that the cell was made with. It takes no memory.
     pub fn try_take(&self, seat: &mut TurnSeat<T>) -> Option<Taken<T>>
@@ -94,7 +94,7 @@ impl<T: Storied> TurnCell<T> {
         requires idle { seat.old.view.holds ≡ false }
         ensures cell { seat.new.cell ≡ seat.old.cell }
         ensures some { IfSome result (λ t. (seat.new.view ≡ taking seat.old.view seat.new.view.seen (T.first t.value)) × (counted seat.new.view ≡ T.first t.value)) }
-        ensures story { IfSome result (λ t. Begins seat.old.view.seen seat.new.view.seen × T.stands t.value seat.new.view.seen × (T.fixed t.value ≡ T.fixed self.now.origin)) }
+        ensures history { IfSome result (λ t. Begins seat.old.view.seen seat.new.view.seen × T.stands t.value seat.new.view.seen × (T.fixed t.value ≡ T.fixed self.now.origin)) }
         ensures base { IfSome result (λ t. seat.old.view.base ≤ T.first t.value) }
         ensures none { IfNone result (seat.new.view ≡ missing seat.old.view) }
     {
@@ -102,13 +102,13 @@ impl<T: Storied> TurnCell<T> {
         Some(Taken { value })
     }
 
-    /// Puts the value back, by an exchange of the slot and a swap of the turn word. Its whole story has to be counted, its
+    /// Puts the value back, by an exchange of the slot and a swap of the turn word. Its whole history has to be counted, its
     /// fixed part has to be that of the value that the cell was made with, and what it no longer keeps has to be counted.
     /// The seat holds the turn no more, and learns nothing. It takes no memory.
     pub fn give(&self, seat: &mut TurnSeat<T>, held: Taken<T>)
         requires cell { seat.old.cell ≡ self.now.id }
         requires turn { seat.old.view.holds ≡ true }
-        requires story { T.stands held.value seat.old.view.seen }
+        requires history { T.stands held.value seat.old.view.seen }
         requires fixed { T.fixed held.value ≡ T.fixed self.now.origin }
         requires first { T.first held.value ≡ counted seat.old.view }
         ensures cell { seat.new.cell ≡ seat.old.cell }
@@ -118,13 +118,13 @@ impl<T: Storied> TurnCell<T> {
         put_back(&self.table.shared, &mut seat.seat, value);
     }
 
-    /// Counts one note, with which the value's story has just become longer. It is then the last that the seat has seen,
-    /// and one of the seat's own, at its place in the story: that place is no other note's, of no other seat. It takes no
+    /// Counts one note, with which the value's history has just become longer. It is then the last that the seat has seen,
+    /// and one of the seat's own, at its place in the history: that place is no other note's, of no other seat. It takes no
     /// memory.
     pub fn note(&self, seat: &mut TurnSeat<T>, held: &mut Taken<T>, note: T::Note)
         requires cell { seat.old.cell ≡ self.now.id }
         requires turn { seat.old.view.holds ≡ true }
-        requires story { T.stands held.old.value (seat.old.view.seen ++ note ∷ []) }
+        requires history { T.stands held.old.value (seat.old.view.seen ++ note ∷ []) }
         requires room { length seat.old.view.seen + 1 < 2 ^ 64 }
         ensures cell { seat.new.cell ≡ seat.old.cell }
         ensures same { held.new.value ≡ held.old.value }
@@ -159,7 +159,7 @@ impl<T: Storied> TurnCell<T> {
         count(&self.table.shared, &mut seat.seat)
     }
 
-    /// A cell with this value and so many seats, each of which has seen the story that `P` names and has made no call. The
+    /// A cell with this value and so many seats, each of which has seen the history that `P` names and has made no call. The
     /// last carries the mark, with the number of notes that the value no longer keeps. After want of memory the value is
     /// handed back.
     pub fn new<P: Past<T::Note>>(
@@ -197,7 +197,7 @@ impl<T: Storied> TurnCell<T> {
     }
 
     /// Takes all seats back, and then the value. Refused exactly where fewer seats were handed in than the cell has; then
-    /// all is handed back. The value stands for one story, with which what each seat has seen begins; each note that was
+    /// all is handed back. The value stands for one history, with which what each seat has seen begins; each note that was
     /// counted is one seat's, once, and stands at its place there; and the marked seat's number is the number of notes
     /// that the value no longer keeps. It takes no memory.
     pub fn close<S: HasSeat<T>>(self, seats: Vec<S>) -> Result<T, (TurnCell<T>, Vec<S>)>
@@ -228,7 +228,7 @@ impl<T: Storied> TurnSeat<T> {
     }
 }
 
-// Chooses the story, and makes the seats.
+// Chooses the history, and makes the seats.
 fn deal<T: Storied, P: Past<T::Note>>(
     table: &TurnTable<T>,
     mut seat: TableSeat<T>,

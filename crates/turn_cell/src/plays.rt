@@ -18,7 +18,7 @@ impl<T: Storied> TableRule<Option<T>, View<T::Note>, Origin<T>> for TurnRule<T> 
     ghost first = { λ key. unborn (T.first key.value.value) key.seats };
 }
 
-/// The load of the turn word by the first seat, before the cell is shared: it chooses the story.
+/// The load of the turn word by the first seat, before the cell is shared: it chooses the history.
 pub struct Start<P> {
     of: PhantomData<P>,
 }

@@ -30,7 +30,7 @@ fn attempt<T: Storied, J: Told<T>>(table: &TurnTable<T>, seat: &mut TableSeat<T>
     requires told { J.told ≡ Some table.now.key.value.value }
     ensures cell { IsSame seat.old seat.new }
     ensures some { IfSome result (λ x. Holding seat.new × (seat.new.me.0 ≡ taking seat.old.me.0 seat.new.me.0.seen (T.first x)) × (counted seat.new.me.0 ≡ T.first x)) }
-    ensures story { IfSome result (λ x. Begins seat.old.me.0.seen seat.new.me.0.seen × T.stands x seat.new.me.0.seen × (T.fixed x ≡ T.fixed table.now.key.value.value)) }
+    ensures history { IfSome result (λ x. Begins seat.old.me.0.seen seat.new.me.0.seen × T.stands x seat.new.me.0.seen × (T.fixed x ≡ T.fixed table.now.key.value.value)) }
     ensures base { IfSome result (λ x. seat.old.me.0.base ≤ T.first x) }
     ensures none { IfNone result (Idle seat.new × (seat.new.me.0 ≡ missing seat.old.me.0)) }
 {
@@ -47,7 +47,7 @@ pub(crate) fn take<T: Storied>(table: &TurnTable<T>, seat: &mut TableSeat<T>) ->
     requires idle { Idle seat.old }
     ensures cell { IsSame seat.old seat.new }
     ensures some { IfSome result (λ x. Holding seat.new × (seat.new.me.0 ≡ taking seat.old.me.0 seat.new.me.0.seen (T.first x)) × (counted seat.new.me.0 ≡ T.first x)) }
-    ensures story { IfSome result (λ x. Begins seat.old.me.0.seen seat.new.me.0.seen × T.stands x seat.new.me.0.seen × (T.fixed x ≡ T.fixed table.now.key.value.value)) }
+    ensures history { IfSome result (λ x. Begins seat.old.me.0.seen seat.new.me.0.seen × T.stands x seat.new.me.0.seen × (T.fixed x ≡ T.fixed table.now.key.value.value)) }
     ensures base { IfSome result (λ x. seat.old.me.0.base ≤ T.first x) }
     ensures none { IfNone result (Idle seat.new × (seat.new.me.0 ≡ missing seat.old.me.0)) }
 {
@@ -57,7 +57,7 @@ pub(crate) fn take<T: Storied>(table: &TurnTable<T>, seat: &mut TableSeat<T>) ->
 pub(crate) fn put_back<T: Storied>(table: &TurnTable<T>, seat: &mut TableSeat<T>, value: T)
     requires cell { IsOf table.now.table_id seat.old }
     requires turn { Holding seat.old }
-    requires story { T.stands value seat.old.me.0.seen }
+    requires history { T.stands value seat.old.me.0.seen }
     requires fixed { T.fixed value ≡ T.fixed table.now.key.value.value }
     requires first { T.first value ≡ counted seat.old.me.0 }
     ensures cell { IsSame seat.old seat.new }

@@ -3,7 +3,7 @@ ghost use Rattle.std.specs.Prelude.{◌≡◌, ℕ, List, [], length, Option, No
 
 use std::marker::Brand;
 
-/// A value that stands for a list of notes, its story, and that has a fixed part. It need not keep the whole story: its
+/// A value that stands for a list of notes, its history, and that has a fixed part. It need not keep the whole history: its
 /// oldest notes may be gone, and then it may stand for several lists.
 pub trait Storied {
     type Note: Copy;
@@ -17,19 +17,19 @@ pub trait Storied {
     // What stays the same while the value is shared.
     ghost fixed: { Self → Self.Fixed };
 
-    // How many notes of its story, the oldest, the value no longer keeps.
+    // How many notes of its history, the oldest, the value no longer keeps.
     ghost first: { Self → ℕ };
 
     /// How many notes the value stands for, those that it no longer keeps too.
     fn count(&self) -> u64
-        ensures { (story : List Self.Note) → stands self.now story → length story ≡ result };
+        ensures { (history : List Self.Note) → stands self.now history → length history ≡ result };
 
-    /// How many notes of its story the value no longer keeps.
+    /// How many notes of its history the value no longer keeps.
     fn first(&self) -> u64
         ensures { result ≡ first self.now };
 }
 
-/// A list that belongs to a type. A caller names by it the one story that is meant, where a value stands for several.
+/// A list that belongs to a type. A caller names by it the one history that is meant, where a value stands for several.
 pub trait Past<N> {
     ghost past: { List N };
 }

@@ -2,17 +2,17 @@
 use std::collections::LinkedList;
 use std::snapshot::Snapshot;
 
-/// What a seat knows of the one story, and of its own calls.
+/// What a seat knows of the one history, and of its own calls.
 pub struct View<N> {
-    /// False in the first view alone, until the story is chosen.
+    /// False in the first view alone, until the history is chosen.
     pub begun: bool,
     /// The seat holds the turn.
     pub holds: bool,
-    /// The notes that the seat has seen: the story begins with them.
+    /// The notes that the seat has seen: the history begins with them.
     pub seen: LinkedList<N>,
     /// What the views that were joined into this one had seen.
     pub heard: LinkedList<LinkedList<N>>,
-    /// The notes of this seat, each with its place in the story.
+    /// The notes of this seat, each with its place in the history.
     pub mine: LinkedList<(u64, N)>,
     /// How many tries of this seat found the turn free.
     pub turns: u64,

@@ -52,7 +52,7 @@ impl CompiledSet {
         }
     }
 
-    /// A set of the same declarations. It takes memory for each of them.
+    /// A copy of the set. It takes memory for each declaration.
     pub fn copy(&self, alloc: Global) -> Result<CompiledSet, OutOfMemory>
         ensures { IfOk result (λ s. s ≡ self.now) }
     {
@@ -142,7 +142,7 @@ impl CompiledSet {
         false
     }
 
-    // The same of the absolute ceiling.
+    // Whether the absolute ceiling of one of these items is at least this priority.
     fn any_absolute_ceiling(&self, items: &[ItemId], prio: Prio) -> bool
         requires { All (λ i. i.0 < length self.now.items) items.now }
         ensures { result ≡ list_any (λ i. nat_le prio (absolute_ceiling_of self.now i.0)) items.now }

@@ -23,7 +23,7 @@ use Rattle.step_journal.specs.History.{event_of, state_given, state_after, state
 use Rattle.board.specs.declared.replies.StepReply.{StepReply}
 use Rattle.board.specs.declared.replies.StepReply.TheVariants as reply
 use Rattle.board.specs.Answers.{ended_number, early_or, unwritten, unwritten_or, checked, lock_reply, asked_reply, running_reply, step_reply, at_tick, last_end}
-use Rattle.board.specs.Stories.{ended_of}
+use Rattle.board.specs.Histories.{ended_of}
 use Rattle.board.proofs.Overs.{arrived_ended}
 use Rattle.turn_cell.specs.Turn.{Begins}
 use Rattle.sim_run.proofs.Histories.{states_append}

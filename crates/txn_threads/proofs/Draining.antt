@@ -20,7 +20,7 @@ drained_part p most spare n was is s t d none =
     let x = d.drained in
     let number = ap (λ (u : SeatFacts). u.drained) x.after in let seen = ap (λ (u : SeatFacts). u.seen) x.after in
     let count : n ≡ t.drained - s.drained = omega (arith, number) in
-    x.moved ∙ (ap (λ l. l ++ take n (drop s.drained x.story)) none ∙ (λ i. take (count i) (drop s.drained (sym seen i))))
+    x.moved ∙ (ap (λ l. l ++ take n (drop s.drained x.history)) none ∙ (λ i. take (count i) (drop s.drained (sym seen i))))
 
 pub drained_seen : (p : PlantFacts) (most spare n : ℕ) (was is : List Entry) (s t : SeatFacts) → DrainedLate p most spare was is n s t → Begins s.seen t.seen
 drained_seen p most spare n was is s t d = let x = d.drained in subst (Begins s.seen) (sym (ap (λ (u : SeatFacts). u.seen) x.after)) x.begins
@@ -151,7 +151,7 @@ drained_on h k = let same = h.spare.1 in let a = h.stops_more in let b = k.stops
   all = λ places. k.all (omega (arith, places, same));
   spare = (k.spare.0, k.spare.1 ∙ same);
   stops_more = omega (arith, a, b);
-  stays_good = λ story fine. k.stays_good story (h.stays_good story fine);
+  stays_good = λ history fine. k.stays_good history (h.stays_good history fine);
 }
 
 pub rose_later : (a b c : ℕ) → a ≤ b → Rose b c → Rose a c

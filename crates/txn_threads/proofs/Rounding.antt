@@ -12,7 +12,7 @@ use Rattle.rt_base.specs.declared.operation.Outcome.{Outcome}
 use Rattle.step_journal.specs.declared.entry.Entry.{Entry}
 use Rattle.board.specs.declared.replies.StepReply.{StepReply}
 use Rattle.board.specs.declared.replies.StepReply.TheVariants as reply
-use Rattle.board.specs.Stories.{noted, step_entry, step_answer, now_of, ended_of}
+use Rattle.board.specs.Histories.{noted, step_entry, step_answer, now_of, ended_of}
 use Rattle.turn_cell.specs.Turn.{Begins}
 use Rattle.turn_cell.proofs.Lists.{whole, longer, chained}
 use Rattle.shared_plant.specs.Seats.{PlantFacts, SeatFacts, IsOf}
@@ -59,21 +59,21 @@ at_place P xs i x all less is = subst P (sym is) (all i x less)
 -- one seat, after a try
 
 abbrev pub own_pairs : List Entry → Option Entry → List (ℕ × Entry)
-own_pairs story None = []
-own_pairs story (Some e) = (length story, e) ∷ []
+own_pairs history None = []
+own_pairs history (Some e) = (length history, e) ∷ []
 
-pub own_is : (mine : List (ℕ × Entry)) (story : List Entry) (own : Option Entry) → with_own mine story own ≡ mine ++ own_pairs story own
-own_is mine story None = sym (append-nil mine)
-own_is mine story (Some e) = refl
+pub own_is : (mine : List (ℕ × Entry)) (history : List Entry) (own : Option Entry) → with_own mine history own ≡ mine ++ own_pairs history own
+own_is mine history None = sym (append-nil mine)
+own_is mine history (Some e) = refl
 
-pub noted_begins : (seen story : List Entry) (own : Option Entry) → Begins seen story → Begins seen (noted story own)
-noted_begins seen story None b = b
-noted_begins seen story (Some e) b = longer seen story e b
+pub noted_begins : (seen history : List Entry) (own : Option Entry) → Begins seen history → Begins seen (noted history own)
+noted_begins seen history None b = b
+noted_begins seen history (Some e) b = longer seen history e b
 
 -- the place of one entry
-own_rises : (seen story : List Entry) (own : Option Entry) → Begins seen story → AreRising (length seen) (length (noted story own)) (own_pairs story own)
-own_rises seen story None b = omega (arith, ap (λ (l : List Entry). length l) b.1, length-append seen b.0)
-own_rises seen story (Some e) b = (omega (arith, ap (λ (l : List Entry). length l) b.1, length-append seen b.0), omega (arith, length-append story (e ∷ [])))
+own_rises : (seen history : List Entry) (own : Option Entry) → Begins seen history → AreRising (length seen) (length (noted history own)) (own_pairs history own)
+own_rises seen history None b = omega (arith, ap (λ (l : List Entry). length l) b.1, length-append seen b.0)
+own_rises seen history (Some e) b = (omega (arith, ap (λ (l : List Entry). length l) b.1, length-append seen b.0), omega (arith, length-append history (e ∷ [])))
 
 pub of_same : (p : PlantFacts) (s t : SeatFacts) → t.plant ≡ s.plant → t.tx ≡ s.tx → IsOf p s → IsOf p t
 of_same p s t plant tx of = (plant ∙ of.0, λ x e. of.1 x (sym tx ∙ e))
@@ -119,27 +119,27 @@ module _ {B Y : Type 0} (gives : Y → ℕ → List Outcome → Op) (stands : Y 
   }
 
   -- a member whose seat has seen this history, and made an entry there or none
-  pub ran_by : (p : PlantFacts) (m n : Member B Y) (story : List Entry) (own : Option Entry)
-      → Sits gives stands p m → n.seat.plant ≡ m.seat.plant → n.seat.tx ≡ m.seat.tx → n.seat.seen ≡ noted story own → n.seat.mine ≡ with_own m.seat.mine story own → Begins m.seat.seen story
+  pub ran_by : (p : PlantFacts) (m n : Member B Y) (history : List Entry) (own : Option Entry)
+      → Sits gives stands p m → n.seat.plant ≡ m.seat.plant → n.seat.tx ≡ m.seat.tx → n.seat.seen ≡ noted history own → n.seat.mine ≡ with_own m.seat.mine history own → Begins m.seat.seen history
       → n.jobs ≡ m.jobs → n.eager ≡ m.eager → gives n.task.body ≡ gives m.task.body
-      → ((tx : TxId) → m.seat.tx ≡ Some tx → AreAsked (gives m.task.body) tx m.seat.mine (own_pairs story own))
-      → ((tx : TxId) → m.seat.tx ≡ Some tx → ArePlanned p.set (noted story own) tx m.eager m.jobs m.planned (own_pairs story own))
-      → n.planned ≡ m.planned + plans_in (own_pairs story own)
-      → ((tx : TxId) → m.seat.tx ≡ Some tx → Tied gives stands tx (with_own m.seat.mine story own) n.task)
-      → ((tx : TxId) → m.seat.tx ≡ Some tx → n.ended ≤ ended_of p.set (noted story own) tx.0)
+      → ((tx : TxId) → m.seat.tx ≡ Some tx → AreAsked (gives m.task.body) tx m.seat.mine (own_pairs history own))
+      → ((tx : TxId) → m.seat.tx ≡ Some tx → ArePlanned p.set (noted history own) tx m.eager m.jobs m.planned (own_pairs history own))
+      → n.planned ≡ m.planned + plans_in (own_pairs history own)
+      → ((tx : TxId) → m.seat.tx ≡ Some tx → Tied gives stands tx (with_own m.seat.mine history own) n.task)
+      → ((tx : TxId) → m.seat.tx ≡ Some tx → n.ended ≤ ended_of p.set (noted history own) tx.0)
       → Ran gives stands p m n
-  ran_by p m n story own sits plant tx_is seen mine begins jobs eager same asked plans planned tied knows = record {
+  ran_by p m n history own sits plant tx_is seen mine begins jobs eager same asked plans planned tied knows = record {
     plant = plant;
     tx = tx_is;
     jobs = jobs;
     eager = eager;
     gives_is = same;
-    seen = subst (Begins m.seat.seen) (sym seen) (noted_begins m.seat.seen story own begins);
-    added = own_pairs story own;
-    mine = mine ∙ own_is m.seat.mine story own;
-    rising = subst (λ (l : List Entry). AreRising (length m.seat.seen) (length l) (own_pairs story own)) (sym seen) (own_rises m.seat.seen story own begins);
+    seen = subst (Begins m.seat.seen) (sym seen) (noted_begins m.seat.seen history own begins);
+    added = own_pairs history own;
+    mine = mine ∙ own_is m.seat.mine history own;
+    rising = subst (λ (l : List Entry). AreRising (length m.seat.seen) (length l) (own_pairs history own)) (sym seen) (own_rises m.seat.seen history own begins);
     asked = asked;
-    plans = λ tx is. subst (λ (l : List Entry). ArePlanned p.set l tx m.eager m.jobs m.planned (own_pairs story own)) (sym seen) (plans tx is);
+    plans = λ tx is. subst (λ (l : List Entry). ArePlanned p.set l tx m.eager m.jobs m.planned (own_pairs history own)) (sym seen) (plans tx is);
     planned = planned;
     sits = record {
       of = of_same p m.seat n.seat plant tx_is sits.of;
@@ -150,17 +150,17 @@ module _ {B Y : Type 0} (gives : Y → ℕ → List Outcome → Op) (stands : Y 
   }
 
   -- a try that was answered at this history, with an entry of its own or none
-  pub ran_one : (p : PlantFacts) (m n : Member B Y) (story : List Entry) (base : ℕ) (own : Option Entry)
-      → Sits gives stands p m → n.seat ≡ turned m.seat story base own → Begins m.seat.seen story
+  pub ran_one : (p : PlantFacts) (m n : Member B Y) (history : List Entry) (base : ℕ) (own : Option Entry)
+      → Sits gives stands p m → n.seat ≡ turned m.seat history base own → Begins m.seat.seen history
       → n.jobs ≡ m.jobs → n.eager ≡ m.eager → gives n.task.body ≡ gives m.task.body
-      → ((tx : TxId) → m.seat.tx ≡ Some tx → AreAsked (gives m.task.body) tx m.seat.mine (own_pairs story own))
-      → ((tx : TxId) → m.seat.tx ≡ Some tx → ArePlanned p.set (noted story own) tx m.eager m.jobs m.planned (own_pairs story own))
-      → n.planned ≡ m.planned + plans_in (own_pairs story own)
-      → ((tx : TxId) → m.seat.tx ≡ Some tx → Tied gives stands tx (with_own m.seat.mine story own) n.task)
-      → ((tx : TxId) → m.seat.tx ≡ Some tx → n.ended ≤ ended_of p.set (noted story own) tx.0)
+      → ((tx : TxId) → m.seat.tx ≡ Some tx → AreAsked (gives m.task.body) tx m.seat.mine (own_pairs history own))
+      → ((tx : TxId) → m.seat.tx ≡ Some tx → ArePlanned p.set (noted history own) tx m.eager m.jobs m.planned (own_pairs history own))
+      → n.planned ≡ m.planned + plans_in (own_pairs history own)
+      → ((tx : TxId) → m.seat.tx ≡ Some tx → Tied gives stands tx (with_own m.seat.mine history own) n.task)
+      → ((tx : TxId) → m.seat.tx ≡ Some tx → n.ended ≤ ended_of p.set (noted history own) tx.0)
       → Ran gives stands p m n
-  ran_one p m n story base own sits after =
-      ran_by p m n story own sits (ap (λ (s : SeatFacts). s.plant) after) (ap (λ (s : SeatFacts). s.tx) after) (ap (λ (s : SeatFacts). s.seen) after) (ap (λ (s : SeatFacts). s.mine) after)
+  ran_one p m n history base own sits after =
+      ran_by p m n history own sits (ap (λ (s : SeatFacts). s.plant) after) (ap (λ (s : SeatFacts). s.tx) after) (ap (λ (s : SeatFacts). s.seen) after) (ap (λ (s : SeatFacts). s.mine) after)
 
   -- a try that found the turn taken
   pub ran_busy : (p : PlantFacts) (m n : Member B Y) → Sits gives stands p m → n.seat ≡ missed_once m.seat
@@ -172,10 +172,10 @@ module _ {B Y : Type 0} (gives : Y → ℕ → List Outcome → Op) (stands : Y 
       (λ tx e. tt) (λ tx e. tt) (omega (arith, planned)) tied (λ tx e. subst (λ (k : ℕ). k ≤ ended_of p.set m.seat.seen tx.0) (sym ended) (sits.knows tx e))
 
   -- what was known to have ended before a try
-  pub knew : (p : PlantFacts) (m : Member B Y) (tx : TxId) (story : List Entry) (own : Option Entry) → Sits gives stands p m → m.seat.tx ≡ Some tx → Begins m.seat.seen story → m.ended ≤ ended_of p.set (noted story own) tx.0
-  knew p m tx story own s is b =
+  pub knew : (p : PlantFacts) (m : Member B Y) (tx : TxId) (history : List Entry) (own : Option Entry) → Sits gives stands p m → m.seat.tx ≡ Some tx → Begins m.seat.seen history → m.ended ≤ ended_of p.set (noted history own) tx.0
+  knew p m tx history own s is b =
       let low : m.ended ≤ ended_of p.set m.seat.seen tx.0 = s.knows tx is in
-      let up : ended_of p.set m.seat.seen tx.0 ≤ ended_of p.set (noted story own) tx.0 = ended_grow p.set m.seat.seen (noted story own) tx.0 (noted_begins m.seat.seen story own b) in
+      let up : ended_of p.set m.seat.seen tx.0 ≤ ended_of p.set (noted history own) tx.0 = ended_grow p.set m.seat.seen (noted history own) tx.0 (noted_begins m.seat.seen history own b) in
       omega (arith, low, up)
 
 module _ {B Y : Type 0} (gives : Y → ℕ → List Outcome → Op) (stands : Y → ℕ → List Outcome → Type 0) where
@@ -199,11 +199,11 @@ refusal_none other now job op h = refl
 module _ {B Y : Type 0} (gives : Y → ℕ → List Outcome → Op) where
   -- the refusal of a step is the board's answer at all that the seat has then seen
   pub refused_at : (p : PlantFacts) (old : SeatFacts) (n : Member B Y) (tx : TxId) (serial : ℕ) (op : Op) (r : StepReply)
-      → Answered p.set (λ story base. r ≡ step_answer p.set story (length story - base) p.room (job_of tx serial) op) (λ story. step_entry (now_of p.set story) (job_of tx serial) op r) old n.seat
+      → Answered p.set (λ history base. r ≡ step_answer p.set history (length history - base) p.room (job_of tx serial) op) (λ history. step_entry (now_of p.set history) (job_of tx serial) op r) old n.seat
       → old.tx ≡ Some tx → IsRefusal r → op ≡ gives n.task.body serial (own_outcomes old.mine (job_of tx serial)) → IsRefused gives p n (job_of tx serial) r
   refused_at p old n tx serial op r a is h own =
-      let after : n.seat ≡ turned old a.story a.base None = a.after ∙ ap (turned old a.story a.base) (refusal_none r (now_of p.set a.story) (job_of tx serial) op h) in
-      let seen : a.story ≡ n.seat.seen = sym (ap (λ (s : SeatFacts). s.seen) after) in
+      let after : n.seat ≡ turned old a.history a.base None = a.after ∙ ap (turned old a.history a.base) (refusal_none r (now_of p.set a.history) (job_of tx serial) op h) in
+      let seen : a.history ≡ n.seat.seen = sym (ap (λ (s : SeatFacts). s.seen) after) in
       let base : a.base ≡ n.seat.base = sym (ap (λ (s : SeatFacts). s.base) after) in
       let mine : old.mine ≡ n.seat.mine = sym (ap (λ (s : SeatFacts). s.mine) after) in
       let op_is : op ≡ gives n.task.body serial (own_outcomes n.seat.mine (job_of tx serial)) = own ∙ ap (λ l. gives n.task.body serial (own_outcomes l (job_of tx serial))) mine in record {

@@ -15,7 +15,7 @@ use Rattle.law_histories.proofs.Alone.{outcomes_more_in}
 use Rattle.board.specs.declared.replies.StepReply.{StepReply}
 use Rattle.board.specs.declared.replies.StepReply.TheVariants.{NoJob, NotYet, Undeclared, TooEarly, Unwritten, Full, Done}
 use Rattle.board.specs.declared.replies.StepReply.TheVariants as reply
-use Rattle.board.specs.Stories.{step_entry}
+use Rattle.board.specs.Histories.{step_entry}
 use Rattle.shared_plant.specs.Answers.{with_own}
 use Rattle.txn_threads.specs.declared.task.Task.{Task}
 use Rattle.txn_threads.specs.Scripts.{job_of, own_outcomes, NoSteps, AreAsked}
@@ -84,7 +84,7 @@ module _ {Y : Type 0} (gives : Y → ℕ → List Outcome → Op) (stands : Y �
       }
 
   -- an answer of which the body is not told
-  pub tied_default : (tx : TxId) (mine : List (ℕ × Entry)) (t : Task Y) (op : Op) (now : ℕ) (story : List Entry) (r : StepReply) → ((o : Outcome) (v : Option End) → r ≡ Done o v → ⊥) → Tied gives stands tx mine t → Tied gives stands tx (with_own mine story (step_entry now (job_of tx t.serial) op r)) t
-  tied_default tx mine t op now story (reply.Blocked by ceiling) not_done k = tied_other tx mine t _ k (λ s. refl)
-  tied_default tx mine t op now story (Done o v) not_done k = absurd (not_done o v refl)
-  tied_default tx mine t op now story other not_done k = k
+  pub tied_default : (tx : TxId) (mine : List (ℕ × Entry)) (t : Task Y) (op : Op) (now : ℕ) (history : List Entry) (r : StepReply) → ((o : Outcome) (v : Option End) → r ≡ Done o v → ⊥) → Tied gives stands tx mine t → Tied gives stands tx (with_own mine history (step_entry now (job_of tx t.serial) op r)) t
+  tied_default tx mine t op now history (reply.Blocked by ceiling) not_done k = tied_other tx mine t _ k (λ s. refl)
+  tied_default tx mine t op now history (Done o v) not_done k = absurd (not_done o v refl)
+  tied_default tx mine t op now history other not_done k = k

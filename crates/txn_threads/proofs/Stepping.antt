@@ -9,7 +9,7 @@ use Rattle.step_journal.specs.declared.entry.Entry.{Entry}
 use Rattle.step_journal.specs.History.{state_of}
 use Rattle.board.specs.declared.replies.StepReply.{StepReply}
 use Rattle.board.specs.declared.replies.StepReply.TheVariants as reply
-use Rattle.board.specs.Stories.{noted, step_entry, step_answer, now_of, ended_of}
+use Rattle.board.specs.Histories.{noted, step_entry, step_answer, now_of, ended_of}
 use Rattle.turn_cell.proofs.Lists.{whole}
 use Rattle.shared_plant.specs.Seats.{PlantFacts, SeatFacts}
 use Rattle.shared_plant.specs.Answers.{with_own, turned}
@@ -102,16 +102,16 @@ module _ {B Y : Type 0} (gives : Y → ℕ → List Outcome → Op) (stands : Y 
   -- one step
   step_ran : (p : PlantFacts) (m : Member B Y) (tx : TxId) (r : StepReply) (b : Task Y) (t : SeatFacts) → Sits gives stands p m → m.seat.tx ≡ Some tx → Step gives stands p (job_of tx m.task.serial) r m.task b m.seat t → Ran gives stands p m (at m t b)
   step_ran p m tx r b t sits is k =
-      let story = m.seat.seen in let job : JobId = job_of tx m.task.serial in let op = k.at.op in
-      let own : Option Entry = step_entry (now_of p.set story) job op r in
+      let history = m.seat.seen in let job : JobId = job_of tx m.task.serial in let op = k.at.op in
+      let own : Option Entry = step_entry (now_of p.set history) job op r in
       let after : t ≡ stepped m.seat own = k.after ∙ ap (stepped m.seat) k.at.own_is in
       let own_op : op ≡ gives m.task.body m.task.serial (own_outcomes m.seat.mine job) = k.at.asked tx m.seat.mine (sits.tied tx is) in
-      ran_by gives stands p m (at m t b) story own sits (ap (λ (s : SeatFacts). s.plant) after) (ap (λ (s : SeatFacts). s.tx) after) (ap (λ (s : SeatFacts). s.seen) after) (ap (λ (s : SeatFacts). s.mine) after) (whole story) refl refl k.at.heard.same
-      (λ x e. subst (λ (y : TxId). AreAsked (gives m.task.body) y m.seat.mine (own_pairs story own)) (same_tx m.seat.tx tx x is e) (step_asked (gives m.task.body) tx m.seat.mine story (now_of p.set story) m.task.serial op r own_op))
-      (λ x e. (step_plans p.set (noted story own) x m.eager m.jobs m.planned story (now_of p.set story) job op r).0)
-      (let none = (step_plans p.set (noted story own) tx m.eager m.jobs m.planned story (now_of p.set story) job op r).1 in omega (arith, none))
-      (λ x e. subst (λ (y : TxId). Tied gives stands y (with_own m.seat.mine story own) b) (same_tx m.seat.tx tx x is e) (k.at.heard.tied tx m.seat.mine story (now_of p.set story) (sits.tied tx is)))
-      (λ x e. knew gives stands p m x story own sits e (whole story))
+      ran_by gives stands p m (at m t b) history own sits (ap (λ (s : SeatFacts). s.plant) after) (ap (λ (s : SeatFacts). s.tx) after) (ap (λ (s : SeatFacts). s.seen) after) (ap (λ (s : SeatFacts). s.mine) after) (whole history) refl refl k.at.heard.same
+      (λ x e. subst (λ (y : TxId). AreAsked (gives m.task.body) y m.seat.mine (own_pairs history own)) (same_tx m.seat.tx tx x is e) (step_asked (gives m.task.body) tx m.seat.mine history (now_of p.set history) m.task.serial op r own_op))
+      (λ x e. (step_plans p.set (noted history own) x m.eager m.jobs m.planned history (now_of p.set history) job op r).0)
+      (let none = (step_plans p.set (noted history own) tx m.eager m.jobs m.planned history (now_of p.set history) job op r).1 in omega (arith, none))
+      (λ x e. subst (λ (y : TxId). Tied gives stands y (with_own m.seat.mine history own) b) (same_tx m.seat.tx tx x is e) (k.at.heard.tied tx m.seat.mine history (now_of p.set history) (sits.tied tx is)))
+      (λ x e. knew gives stands p m x history own sits e (whole history))
 
   pub record SoFar (p : PlantFacts) (m : Member B Y) (b : Task Y) (t : SeatFacts) : Type 0 where
     pub ran : Ran gives stands p m (at m t b)
@@ -185,9 +185,9 @@ module _ {B Y : Type 0} (gives : Y → ℕ → List Outcome → Op) (stands : Y 
       → HasTried gives stands p m o (record m { seat = new; task = b; ended = e })
   steps_one p m tx running b new e o sits is k known stop =
       let q = quiet m in let sitting = sits_quiet p m sits in
-      let s = turned m.seat k.story k.base None in
+      let s = turned m.seat k.history k.base None in
       let M = at q s q.task in
-      let first : Ran gives stands p q M = ran_one gives stands p q M k.story k.base None sitting refl k.begins refl refl refl (λ x e. tt) (λ x e. tt) (omega arith) (λ x e. sitting.tied x e) (λ x e. knew gives stands p q x k.story None sitting e k.begins) in
+      let first : Ran gives stands p q M = ran_one gives stands p q M k.history k.base None sitting refl k.begins refl refl refl (λ x e. tt) (λ x e. tt) (omega arith) (λ x e. sitting.tied x e) (λ x e. knew gives stands p q x k.history None sitting e k.begins) in
       let all = steps_ran p M tx b new first.sits is refl k.steps in
       let ran = ran_trans gives stands p q M (at M new b) first all.ran in
       record {

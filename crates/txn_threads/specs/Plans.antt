@@ -6,7 +6,7 @@ use Rattle.step_journal.specs.declared.entry.Entry.{Entry}
 use Rattle.step_journal.specs.declared.entry.Entry.TheVariants.{Planned}
 use Rattle.step_journal.specs.History.{state_of}
 use Rattle.board.specs.Answers.{next_tick_for}
-use Rattle.board.specs.Stories.{ended_of}
+use Rattle.board.specs.Histories.{ended_of}
 use Rattle.turn_cell.specs.Turn.{Begins}
 
 -- how many of the entries are plans
@@ -25,11 +25,11 @@ pub record IsNextPlan (set : Set) (seen : List Entry) (tx : TxId) (eager : Bool)
   pub is_eager : eager ≡ true
   pub own : by ≡ tx
   pub left : planned < jobs
-  pub story : List Entry
-  pub begins : Begins story seen
-  pub place_is : length story ≡ place
-  pub tick_is : tick ≡ next_tick_for set (state_of set story) tx.0
-  pub ended : planned ≤ ended_of set story tx.0
+  pub history : List Entry
+  pub begins : Begins history seen
+  pub place_is : length history ≡ place
+  pub tick_is : tick ≡ next_tick_for set (state_of set history) tx.0
+  pub ended : planned ≤ ended_of set history tx.0
 
 abbrev pub IsPlanned : Set → List Entry → TxId → Bool → ℕ → ℕ → ℕ → Entry → Type 0
 IsPlanned set seen tx eager jobs planned place (Planned by tick) = IsNextPlan set seen tx eager jobs planned place by tick

@@ -8,7 +8,7 @@ use Rattle.rt_base.specs.declared.release.PlanRefused.{PlanRefused}
 use Rattle.rt_base.specs.declared.release.PlanRefused.TheVariants as cause
 use Rattle.board.specs.declared.replies.StepReply.{StepReply}
 use Rattle.board.specs.declared.replies.StepReply.TheVariants as reply
-use Rattle.board.specs.Stories.{step_answer, plan_next_answer, ended_of}
+use Rattle.board.specs.Histories.{step_answer, plan_next_answer, ended_of}
 use Rattle.step_journal.specs.declared.entry.Entry.{Entry}
 use Rattle.turn_cell.specs.Turn.{Begins}
 use Rattle.shared_plant.specs.Seats.{PlantFacts, IsOf}

@@ -3,7 +3,7 @@ use Rattle.std.specs.Prelude.{◌≡◌, ℕ, ◌-◌, ◌<◌, ◌≤◌, ◌++
 use Rattle.rt_base.specs.declared.ids.TxId.{TxId}
 use Rattle.rt_base.specs.declared.operation.Op.{Op}
 use Rattle.rt_base.specs.declared.operation.Outcome.{Outcome}
-use Rattle.board.specs.Stories.{ended_of}
+use Rattle.board.specs.Histories.{ended_of}
 use Rattle.step_journal.specs.declared.entry.Entry.{Entry}
 use Rattle.turn_cell.specs.Turn.{Begins}
 use Rattle.shared_plant.specs.Seats.{PlantFacts, SeatFacts, IsOf}

@@ -6,7 +6,7 @@ use Rattle.rt_base.specs.declared.operation.Outcome.{Outcome}
 use Rattle.step_journal.specs.declared.entry.Entry.{Entry}
 use Rattle.board.specs.declared.replies.StepReply.{StepReply}
 use Rattle.board.specs.declared.replies.StepReply.TheVariants as reply
-use Rattle.board.specs.Stories.{step_entry}
+use Rattle.board.specs.Histories.{step_entry}
 use Rattle.shared_plant.specs.Answers.{with_own}
 use Rattle.shared_plant.specs.Steps.{IsOn}
 use Rattle.txn_threads.specs.declared.task.Heard.{Heard}
@@ -44,4 +44,4 @@ module _ {Y : Type 0} (gives : Y → ℕ → List Outcome → Op) (stands : Y �
     pub same : gives u.body ≡ gives t.body
     pub serial : IsOn r → u.serial ≡ t.serial
     pub heard : t.heard ≡ Nothing → u.heard ≡ heard_of r
-    pub tied : (tx : TxId) (mine : List (ℕ × Entry)) (story : List Entry) (now : ℕ) → Tied tx mine t → Tied tx (with_own mine story (step_entry now (job_of tx t.serial) op r)) u
+    pub tied : (tx : TxId) (mine : List (ℕ × Entry)) (history : List Entry) (now : ℕ) → Tied tx mine t → Tied tx (with_own mine history (step_entry now (job_of tx t.serial) op r)) u

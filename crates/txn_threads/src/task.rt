@@ -3,7 +3,7 @@ ghost use Rattle.std.specs.Prelude.{◌≡◌, ℕ, List, Some, None};
 ghost use Rattle.step_journal.specs.declared.entry.Entry.{Entry as Noted};
 ghost use Rattle.rt_base.specs.declared.operation.Op.{Op as Asked};
 ghost use Rattle.rt_base.specs.declared.ids.TxId.{TxId as Transaction};
-ghost use Rattle.board.specs.Stories.{step_entry};
+ghost use Rattle.board.specs.Histories.{step_entry};
 ghost use Rattle.shared_plant.specs.Answers.{with_own};
 ghost use Rattle.shared_plant.specs.Steps.{IsOn};
 ghost use Rattle.txn_threads.specs.Scripts.{job_of, NoSteps};
@@ -71,7 +71,7 @@ impl<Y: Body> Task<Y> {
         ensures same { Y.gives self.new.body ≡ Y.gives self.old.body }
         ensures heard { self.new.heard ≡ self.old.heard }
         ensures serial { IsOn reply.now → self.new.serial ≡ self.old.serial }
-        ensures tied { (tx : Transaction) (mine : List (ℕ × Noted)) (op : Asked) (now : ℕ) (story : List Noted) → Tied Y.gives Y.stands tx mine self.old → Tied Y.gives Y.stands tx (with_own mine story (step_entry now (job_of tx self.old.serial) op reply.now)) self.new }
+        ensures tied { (tx : Transaction) (mine : List (ℕ × Noted)) (op : Asked) (now : ℕ) (history : List Noted) → Tied Y.gives Y.stands tx mine self.old → Tied Y.gives Y.stands tx (with_own mine history (step_entry now (job_of tx self.old.serial) op reply.now)) self.new }
     {
         match reply {
             StepReply::Done { outcome, over } => {

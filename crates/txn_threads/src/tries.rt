@@ -189,7 +189,7 @@ fn ended_after(ended: u32, reply: &StepReply) -> u32
     }
 }
 
-// The same, by what a task heard.
+// How many jobs of the transaction are known to have ended, by what its task heard.
 fn ended_by(ended: u32, heard: Heard) -> u32
     ensures { result ≡ ended_by ended heard }
 {

@@ -8,10 +8,10 @@ use Rattle.std.proofs.lemmas.List.{get_or_default}
 use Rattle.std.proofs.lemmas.List.Sums.{sum_by-cons}
 use Rattle.response_test.proofs.Quotients.{div_ceil-some}
 use Rattle.update_rates.specs.declared.updaters.Updater.{Updater}
-use Rattle.update_rates.specs.declared.order.Turn.{Turn}
+use Rattle.update_rates.specs.declared.order.Ranked.{Ranked}
 use Rattle.update_rates.specs.Updaters.{updater_at}
 use Rattle.update_rates.specs.Rates.{is_earlier, load, deadline, period}
-use Rattle.update_rates.specs.Turns.{AreTurns, IsTooShort}
+use Rattle.update_rates.specs.Ranking.{AreRanked, IsTooShort}
 use Rattle.update_rates.proofs.Places.{not-earlier, earlier-follows, less-place, place-alone}
 use Rattle.update_rates.proofs.Greatest.{deadline-is, period-is}
 
@@ -67,25 +67,25 @@ load-grows us h tx w inside before some one =
     omega (arith, sum, job)
 
 -- a window that is too short for an updater is too short for the next
-abbrev pub IsShortAt : List Updater → List Turn → ℕ → ℕ → Type 0
-IsShortAt us turns k from = (d : Turn) → k < length turns → IsTooShort us (get_or turns k d).tx from
+abbrev pub IsShortAt : List Updater → List Ranked → ℕ → ℕ → Type 0
+IsShortAt us ranking k from = (d : Ranked) → k < length ranking → IsTooShort us (get_or ranking k d).tx from
 
-pub short-next : (us : List Updater) (turns : List Turn) (k found : ℕ) (d : Turn) → AreTurns us turns → k < length turns → deadline us (get_or turns k d).tx ≡ Some found → IsShortAt us turns (k + 1) found
-short-next us turns k found d t here is = λ d2 next.
+pub short-next : (us : List Updater) (ranking : List Ranked) (k found : ℕ) (d : Ranked) → AreRanked us ranking → k < length ranking → deadline us (get_or ranking k d).tx ≡ Some found → IsShortAt us ranking (k + 1) found
+short-next us ranking k found d t here is = λ d2 next.
     let now = t.each k d here in
     let then = t.each (k + 1) d2 next in
-    let least = deadline-is us (get_or turns k d).tx found now.in_range is in
-    let some = (period-is us (get_or turns k d).tx found least).some in
+    let least = deadline-is us (get_or ranking k d).tx found now.in_range is in
+    let some = (period-is us (get_or ranking k d).tx found least).some in
     let up = t.rising k (k + 1) d2 (omega arith) next in
-    let same = ap (λ (turn : Turn). turn.place) (get_or_default turns k d2 d here) in
+    let same = ap (λ (ranked : Ranked). ranked.place) (get_or_default ranking k d2 d here) in
     record {
       some = least.low;
       below =
           λ w some-ticks less.
           ⊎_elim
-          (λ (alone : (get_or turns k d).tx ≡ (get_or turns (k + 1) d2).tx). subst (λ (tx : ℕ). w < load us (period us) tx w) alone (least.before w some-ticks less))
-          (λ (other : (get_or turns k d).tx ≡ (get_or turns (k + 1) d2).tx → ⊥).
-          let before = less-place us (get_or turns k d).tx (get_or turns (k + 1) d2).tx now.in_range then.in_range (omega (arith, place-alone us (get_or turns k d).tx (get_or turns (k + 1) d2).tx now.in_range then.in_range other, now.place, then.place, up, same)) in
-          omega (arith, least.before w some-ticks less, load-grows us (get_or turns k d).tx (get_or turns (k + 1) d2).tx w now.in_range before some some-ticks))
-          (cases_eq (get_or turns k d).tx (get_or turns (k + 1) d2).tx);
+          (λ (alone : (get_or ranking k d).tx ≡ (get_or ranking (k + 1) d2).tx). subst (λ (tx : ℕ). w < load us (period us) tx w) alone (least.before w some-ticks less))
+          (λ (other : (get_or ranking k d).tx ≡ (get_or ranking (k + 1) d2).tx → ⊥).
+          let before = less-place us (get_or ranking k d).tx (get_or ranking (k + 1) d2).tx now.in_range then.in_range (omega (arith, place-alone us (get_or ranking k d).tx (get_or ranking (k + 1) d2).tx now.in_range then.in_range other, now.place, then.place, up, same)) in
+          omega (arith, least.before w some-ticks less, load-grows us (get_or ranking k d).tx (get_or ranking (k + 1) d2).tx w now.in_range before some some-ticks))
+          (cases_eq (get_or ranking k d).tx (get_or ranking (k + 1) d2).tx);
     }

@@ -27,7 +27,7 @@ use Rattle.update_rates.specs.Rates.{load, period, rate_of}
 use Rattle.update_rates.specs.RatedSet.{with_rate, set_with, list_rate, plain_set, rated_set}
 use Rattle.update_rates.specs.Refusal.{is_other, not_an_updater, too_tight, rate_refusal, Refuses}
 use Rattle.update_rates.specs.Laws.{KeepsValidity, AreGreatest, HasBestRates, TellsTight}
-use Rattle.update_rates.specs.Turns.{AreRates}
+use Rattle.update_rates.specs.Ranking.{AreRates}
 use Rattle.update_rates.proofs.Levels.{load-same}
 use Rattle.update_rates.proofs.Tight.{periods-are-greatest, tight-unless-kept}
 use Rattle.update_rates.proofs.Retimed.{with-at, updaters-same, other-same, with-again}

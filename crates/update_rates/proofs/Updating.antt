@@ -16,7 +16,7 @@ use Rattle.update_rates.specs.declared.updaters.Updater.{Updater}
 use Rattle.update_rates.specs.declared.error.RateError.TheVariants.{NotAnUpdater}
 use Rattle.update_rates.specs.Updaters.{sensor_validity, lone_sensor, written_validity, updater_validity, updater_of, updaters}
 use Rattle.update_rates.specs.Refusal.{is_other, not_an_updater}
-use Rattle.update_rates.specs.Turns.{HasFewSteps}
+use Rattle.update_rates.specs.Ranking.{HasFewSteps}
 
 -- an updater reads nothing, and what it may write is one sensor item
 pub record IsUpdater (items : List ItemDecl) (reads writes : List ItemId) : Type 0 where

@@ -9,7 +9,7 @@ use Rattle.update_rates.specs.declared.updaters.Updater.{Updater}
 use Rattle.update_rates.specs.declared.rates.Rate.{Rate}
 use Rattle.update_rates.specs.Updaters.{updater_at}
 use Rattle.update_rates.specs.Rates.{is_earlier, place_of, load, cap, least_window, deadline, period}
-use Rattle.update_rates.specs.Turns.{IsRated, StandForEarlier}
+use Rattle.update_rates.specs.Ranking.{IsRated, StandForEarlier}
 use Rattle.update_rates.proofs.Levels.{deadlines-are-least}
 use Rattle.update_rates.proofs.Greatest.{deadline-is, period-is}
 use Rattle.update_rates.proofs.Ranges.{rest_of, rest-start, sum-passes}

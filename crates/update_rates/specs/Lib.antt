@@ -3,4 +3,4 @@ pub mod Rates
 pub mod RatedSet
 pub mod Refusal
 pub mod Laws
-pub mod Turns
+pub mod Ranking

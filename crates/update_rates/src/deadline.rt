@@ -2,7 +2,7 @@
 ghost use Rattle.std.specs.Prelude.{◌≡◌, ◌<◌, ◌≤◌, ◌^◌, length, Some, None, IfOk, IfErr};
 ghost use Rattle.std.specs.List.{All};
 ghost use Rattle.update_rates.specs.Rates.{load, cap, longest, deadline, period};
-ghost use Rattle.update_rates.specs.Turns.{HasFewSteps, AreRatedBefore, IsTooShort, StandForEarlier};
+ghost use Rattle.update_rates.specs.Ranking.{HasFewSteps, AreRatedBefore, IsTooShort, StandForEarlier};
 
 use crate::order::is_earlier;
 use crate::rates::Rate;

@@ -10,7 +10,7 @@ ghost use Rattle.update_rates.specs.Updaters.{updaters as updaters_in};
 ghost use Rattle.update_rates.specs.RatedSet.{with_rate, txns_with, list_rate, plain_set, rated_set};
 ghost use Rattle.update_rates.specs.Refusal.{not_an_updater, too_tight, rate_refusal, Refuses};
 ghost use Rattle.update_rates.specs.Laws.{HasBestRates, TellsTight};
-ghost use Rattle.update_rates.specs.Turns.{AreRates};
+ghost use Rattle.update_rates.specs.Ranking.{AreRates};
 ghost use Rattle.update_rates.specs.declared.error.RateError.TheVariants.{Compile as DoesNotCompile};
 
 use crate::deadline::LONGEST;
@@ -114,7 +114,7 @@ fn compile_memory(error: CompileError) -> OutOfMemory
     }
 }
 
-// The same of an admission.
+// Where no rule refuses a set, an admission fails for want of memory alone.
 fn admit_memory(error: AdmitError) -> OutOfMemory
     requires { RefusesAdmission None error }
 {

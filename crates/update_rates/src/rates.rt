@@ -1,12 +1,12 @@
 //! The rates of updaters: their priorities, periods and deadlines.
 ghost use Rattle.std.specs.Prelude.{◌≡◌, ◌≤◌, length, None, IfOk, IfErr};
 ghost use Rattle.std.specs.List.{All};
-ghost use Rattle.update_rates.specs.Turns.{HasFewSteps, AreRates};
+ghost use Rattle.update_rates.specs.Ranking.{HasFewSteps, AreRates};
 ghost use Rattle.update_rates.specs.Refusal.{too_tight, Refuses};
 
 use crate::deadline::{LONGEST, deadline_of, earlier_loads};
 use crate::error::RateError;
-use crate::order::turns_of;
+use crate::order::ranking_of;
 use crate::updaters::Updater;
 use rt_base::{Prio, Tick, TxId};
 use std::alloc::Global;
@@ -29,7 +29,7 @@ pub fn rates_of(alloc: Global, updaters: &[Updater]) -> Result<Vec<Rate>, RateEr
     ensures passed { IfOk result (λ rates. too_tight updaters.now ≡ None) }
     ensures err { IfErr result (Refuses (too_tight updaters.now)) }
 {
-    let turns = turns_of(alloc, updaters)?;
+    let ranking = ranking_of(alloc, updaters)?;
     let none = Rate {
         prio: 0,
         period: 0,
@@ -37,20 +37,20 @@ pub fn rates_of(alloc: Global, updaters: &[Updater]) -> Result<Vec<Rate>, RateEr
     };
     let mut rates = vec![in alloc; none; updaters.len()]?;
     let mut from = 1;
-    for turn in &turns {
-        let mut loads = earlier_loads(alloc, updaters, &rates, turn.tx, from)?;
-        match deadline_of(updaters, &rates, &mut loads, turn.tx) {
+    for ranked in &ranking {
+        let mut loads = earlier_loads(alloc, updaters, &rates, ranked.tx, from)?;
+        match deadline_of(updaters, &rates, &mut loads, ranked.tx) {
             Ok(deadline) => {
                 from = deadline;
-                rates[turn.tx] = Rate {
-                    prio: (updaters.len() - turn.place) as u32,
-                    period: (updaters[turn.tx].validity - deadline).min(LONGEST),
+                rates[ranked.tx] = Rate {
+                    prio: (updaters.len() - ranked.place) as u32,
+                    period: (updaters[ranked.tx].validity - deadline).min(LONGEST),
                     deadline,
                 }
             }
             Err(demand) => {
                 return Err(RateError::TooTight {
-                    tx: TxId(turn.tx as u32),
+                    tx: TxId(ranked.tx as u32),
                     demand,
                 });
             }

@@ -1,6 +1,6 @@
 use Rattle.std.proofs.Common.{◌<◌, [], length, arith, ◌∙◌}
 use Rattle.std.proofs.lemmas.Option.{slice_get_within}
-use Rattle.sim_run.proofs.Turns.{begun_more, map_set_same}
+use Rattle.sim_run.proofs.Calls.{begun_more, map_set_same}
 use Rattle.sim_run.proofs.begin_all.Goals as goal
 
 pub loop-tx-preserved : goal.loop-tx-preserved

@@ -11,9 +11,9 @@ invariant-loop-tx g l =
     record {
       handed : IsHanded (g.O.EntryOut.got l.fn.out) (g.O.EntryOut.got l.out) (g.B.Board.kept l.fn.board ++ plans_from 0 l.releases) (g.B.Board.kept l.board ++ rest);
       none_lost : g.O.EntryOut.lost l.out [];
-      stands : (story : List Entry) → g.B.Board.stands l.fn.board story → Goes (g.B.Board.stands l.board) rest (story ++ plans_from 0 l.releases);
+      stands : (history : List Entry) → g.B.Board.stands l.fn.board history → Goes (g.B.Board.stands l.board) rest (history ++ plans_from 0 l.releases);
       ready : IsReady (length (g.B.Board.kept l.board)) (g.B.Board.room l.board);
       later : g.O.EntryOut.stops l.fn.out ≤ g.O.EntryOut.stops l.out;
-      good : (story : List Entry) → g.O.EntryOut.good l.fn.out story → g.O.EntryOut.good l.out story;
+      good : (history : List Entry) → g.O.EntryOut.good l.fn.out history → g.O.EntryOut.good l.out history;
       fixed : (g.B.Board.set l.board ≡ g.B.Board.set l.fn.board) × (g.B.Board.room l.board ≡ g.B.Board.room l.fn.board);
     }

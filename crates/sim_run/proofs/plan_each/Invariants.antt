@@ -11,9 +11,9 @@ invariant-loop-tick g l =
     record {
       handed : IsHanded (g.O.EntryOut.got l.fn.out) (g.O.EntryOut.got l.out) (g.B.Board.kept l.fn.board ++ map (Planned l.fn.tx) l.ticks) (g.B.Board.kept l.board ++ rest);
       none_lost : g.O.EntryOut.lost l.out [];
-      stands : (story : List Entry) → g.B.Board.stands l.fn.board story → Goes (g.B.Board.stands l.board) rest (story ++ map (Planned l.fn.tx) l.ticks);
+      stands : (history : List Entry) → g.B.Board.stands l.fn.board history → Goes (g.B.Board.stands l.board) rest (history ++ map (Planned l.fn.tx) l.ticks);
       ready : IsReady (length (g.B.Board.kept l.board)) (g.B.Board.room l.board);
       later : g.O.EntryOut.stops l.fn.out ≤ g.O.EntryOut.stops l.out;
-      good : (story : List Entry) → g.O.EntryOut.good l.fn.out story → g.O.EntryOut.good l.out story;
+      good : (history : List Entry) → g.O.EntryOut.good l.fn.out history → g.O.EntryOut.good l.out history;
       fixed : (g.B.Board.set l.board ≡ g.B.Board.set l.fn.board) × (g.B.Board.room l.board ≡ g.B.Board.room l.fn.board);
     }

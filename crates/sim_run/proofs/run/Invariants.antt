@@ -14,7 +14,7 @@ invariant-loop-board g l =
       none_lost : g.O.EntryOut.lost l.out [];
       ready : IsReady (length (g.B.Board.kept l.board)) (g.B.Board.room l.board);
       later : g.O.EntryOut.stops l.fn.out ≤ g.O.EntryOut.stops l.out;
-      good : (story : List Entry) → g.O.EntryOut.good l.fn.out story → g.O.EntryOut.good l.out story;
+      good : (history : List Entry) → g.O.EntryOut.good l.fn.out history → g.O.EntryOut.good l.out history;
       fixed : (g.B.Board.set l.board ≡ g.B.Board.set l.fn.board) × (g.B.Board.room l.board ≡ g.B.Board.room l.fn.board);
       same : map g.Y.Body.gives l.bodies ≡ map g.Y.Body.gives l.fn.bodies;
     }

@@ -6,7 +6,7 @@ push_all-requires c =
     let opened = c.in_ok-rows.ensures in
     record {
       set = c.args.set.now;
-      story = [];
+      history = [];
       follows = opened.1;
       legal = c.requires.legal;
       fits = omega (arith, opened.0, c.requires.jobs);

@@ -5,7 +5,7 @@ use Rattle.sim_run.specs.Runs.{IsWhole, IsStopped}
 use Rattle.sim_run.proofs.Planning.{releases_legal}
 use Rattle.law_runs.proofs.Fixed.{sim_is_run}
 use Rattle.plant_run.specs.declared.watched.Watched.{Watched}
-use Rattle.plant_run.specs.Ready.{workload_in, own_in}
+use Rattle.plant_run.specs.Ready.{workload_in, eager_jobs_in}
 use Rattle.plant_run.proofs.Ending.{cut_before}
 use Rattle.plant_run.proofs.alone.run_alone.Goals as goal
 
@@ -24,7 +24,7 @@ returns-in_err-run-clause-stopped g c = λ stopped.
     (ap (λ (l : List (Watched g.row.Y.Denot g.row.G.Denot)). map (λ w. g.Y.Body.gives w.body) l) c.as_mut_slice.ensures.value ∙ c.in_ok-bodies.ensures) c.in_err-run.ensures.stopped in
     record {
       history = s.history;
-      so_far = (sim_is_run (workload_in g.B.Board.set g.Y.Body.gives c.args.run) (own_in c.args.run) s.history c.requires.none_eager s.sim).so_far;
+      so_far = (sim_is_run (workload_in g.B.Board.set g.Y.Body.gives c.args.run) (eager_jobs_in c.args.run) s.history c.requires.none_eager s.sim).so_far;
       passed = s.passed;
       missed = s.missed;
       grown = s.grown;
@@ -37,7 +37,7 @@ returns-clause-whole g c =
     (ap (λ (l : List (Watched g.row.Y.Denot g.row.G.Denot)). map (λ w. g.Y.Body.gives w.body) l) c.as_mut_slice.ensures.value ∙ c.in_ok-bodies.ensures) c.in_ok-run.ensures.whole in
     record {
       history = s.history;
-      run = sim_is_run (workload_in g.B.Board.set g.Y.Body.gives c.args.run) (own_in c.args.run) s.history c.requires.none_eager s.sim;
+      run = sim_is_run (workload_in g.B.Board.set g.Y.Body.gives c.args.run) (eager_jobs_in c.args.run) s.history c.requires.none_eager s.sim;
       stood = s.stood;
       grown = s.grown;
     }

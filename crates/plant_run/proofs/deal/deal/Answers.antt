@@ -3,7 +3,7 @@ use Rattle.std.proofs.lemmas.List.{length-set}
 use Rattle.std.proofs.lemmas.Nat.{mod_below}
 use Rattle.shared_plant.specs.Seats.{newcomers}
 use Rattle.plant_run.specs.Deals.{HavePlaces, AreDealt}
-use Rattle.plant_run.specs.Runs.{own_at}
+use Rattle.plant_run.specs.Runs.{eager_jobs_at}
 use Rattle.plant_run.proofs.Gathers.{popped_one, popped_items}
 use Rattle.plant_run.proofs.Deals.{Row, rows, none_dealt, dealt_more, place_left, places_more, last_seat, is_dealt, all_bodies, bodies_more}
 use Rattle.plant_run.proofs.deal.deal.Goals as goal
@@ -18,8 +18,8 @@ loop-dealt-init g c =
       capacity = refl;
       number = refl;
       places = subst (λ (k : ℕ). HavePlaces k c.args.lists.now) (sym all) c.requires.places;
-      dealt = λ id past first is. subst (λ (k : ℕ). (c.args.seats.now.items ≡ newcomers id past first k) × AreDealt g.Y.Body.gives (map g.Y.Body.gives c.args.bodies.items) c.args.releases.now (own_at c.args.own.now) id past first k (rows c.args.lists.now)) (sym all)
-          (is, none_dealt g.Y.Body.gives (map g.Y.Body.gives c.args.bodies.items) c.args.releases.now (own_at c.args.own.now) id past first c.args.lists.now c.requires.empty);
+      dealt = λ id past first is. subst (λ (k : ℕ). (c.args.seats.now.items ≡ newcomers id past first k) × AreDealt g.Y.Body.gives (map g.Y.Body.gives c.args.bodies.items) c.args.releases.now (eager_jobs_at c.args.eager_jobs.now) id past first k (rows c.args.lists.now)) (sym all)
+          (is, none_dealt g.Y.Body.gives (map g.Y.Body.gives c.args.bodies.items) c.args.releases.now (eager_jobs_at c.args.eager_jobs.now) id past first c.args.lists.now c.requires.empty);
     }
 
 pub push_reserved-requires : goal.push_reserved-requires
@@ -61,8 +61,8 @@ loop-dealt-preserved g c =
           let was = i.dealt id past first is in
           let last = last_seat id past first left tx c.loop-dealt.seats.items c.pop.new.self.items c.unwrap-seat.result left_is was.0 gone in
           let seat = parts.0 ∙ last.1 in
-          let m = is_dealt g.Y.Body.gives c.args.bodies.items c.args.releases.now (own_at c.args.own.now) id past first tx c.new.result c.unwrap-body.result (omega (arith, low)) (omega (arith, low, c.requires.each.0)) body.1 seat (ap g.Y.Body.gives parts.1)
+          let m = is_dealt g.Y.Body.gives c.args.bodies.items c.args.releases.now (eager_jobs_at c.args.eager_jobs.now) id past first tx c.new.result c.unwrap-body.result (omega (arith, low)) (omega (arith, low, c.requires.each.0)) body.1 seat (ap g.Y.Body.gives parts.1)
           (parts.2 ∙ c.jobs_of-jobs.ensures.jobs) (parts.3 ∙ c.jobs_of-jobs.ensures.eager) in
-          subst (λ (k : ℕ). (c.pop.new.self.items ≡ newcomers id past first k) × AreDealt g.Y.Body.gives (map g.Y.Body.gives c.args.bodies.items) c.args.releases.now (own_at c.args.own.now) id past first k (rows (set lists at list'))) next
-          (last.0, dealt_more g.Y.Body.gives (map g.Y.Body.gives c.args.bodies.items) c.args.releases.now (own_at c.args.own.now) id past first left tx at lists list list' c.new.result left_is lt here grown m seat was.1);
+          subst (λ (k : ℕ). (c.pop.new.self.items ≡ newcomers id past first k) × AreDealt g.Y.Body.gives (map g.Y.Body.gives c.args.bodies.items) c.args.releases.now (eager_jobs_at c.args.eager_jobs.now) id past first k (rows (set lists at list'))) next
+          (last.0, dealt_more g.Y.Body.gives (map g.Y.Body.gives c.args.bodies.items) c.args.releases.now (eager_jobs_at c.args.eager_jobs.now) id past first left tx at lists list list' c.new.result left_is lt here grown m seat was.1);
     }

@@ -12,5 +12,5 @@ pub run-requires-clause-good : goal.run-requires-clause-good
 run-requires-clause-good c = λ history sim n. record {
   begun = [];
   is_got = c.requires.empty;
-  is_good = good_by _ steady_set history n c.args.out.now.room c.requires.set c.requires.opened.is_story.compiled sim c.requires.enough;
+  is_good = good_by _ steady_set history n c.args.out.now.room c.requires.set c.requires.opened.is_history.compiled sim c.requires.enough;
 }

@@ -18,5 +18,5 @@ loop-done-preserved g c = record {
   so_far = subst (g.O.EntryOut.got c.put.new.self)
       (sym (take_piece c.loop-done.done c.min-count.result c.args.entries.now c.loop-done.invariant.within))
       (c.in_ok-put.ensures.taken _ c.loop-done.invariant.so_far);
-  same = λ story h. c.put.ensures.same story (c.loop-done.invariant.same story h);
+  same = λ history h. c.put.ensures.same history (c.loop-done.invariant.same history h);
 }

@@ -7,7 +7,7 @@ invariant-loop-done g l = record {
   within : l.done ≤ length l.entries;
   none_lost : g.O.EntryOut.lost l.out [];
   so_far : g.O.EntryOut.got l.out (take l.done l.entries);
-  same : (story : List Noted) → g.O.EntryOut.good l.initial.out story → g.O.EntryOut.good l.out story;
+  same : (history : List Noted) → g.O.EntryOut.good l.initial.out history → g.O.EntryOut.good l.out history;
 }
 
 abbrev pub decreases-loop-done : goal.decreases-loop-done

@@ -22,7 +22,7 @@ add_next-requires c =
     record {
       goes = record {
         set = c.args.set.now;
-        story = take c.loop-i.i c.args.entries.now;
+        history = take c.loop-i.i c.args.entries.now;
         follows = inv.follows;
         legal = next_legal c.args.set.now c.args.entries.now c.loop-i.i filler c.loop-i-test.true c.requires.legal;
         fits = omega (arith, inv.places, next_fits c.args.entries.now c.loop-i.i filler c.loop-i-test.true);
@@ -33,11 +33,11 @@ add_next-requires c =
 pub loop-i-preserved : goal.loop-i-preserved
 loop-i-preserved c =
     let inv = c.loop-i.invariant in
-    let story : List Entry = take c.loop-i.i c.args.entries.now in
+    let history : List Entry = take c.loop-i.i c.args.entries.now in
     let legal = next_legal c.args.set.now c.args.entries.now c.loop-i.i filler c.loop-i-test.true c.requires.legal in
     record {
       so_far = next_row (whole_entry_line c.args.names.now) _ _ _ c.args.entries.now c.loop-i.i filler c.loop-i-test.true c.in_ok-add_next.ensures.text inv.so_far;
-      follows = subst (Follows c.args.set.now c.add_next.new.writer) (sym (take_more c.args.entries.now c.loop-i.i filler c.loop-i-test.true)) (c.in_ok-add_next.ensures.follows c.args.set.now story inv.follows legal);
+      follows = subst (Follows c.args.set.now c.add_next.new.writer) (sym (take_more c.args.entries.now c.loop-i.i filler c.loop-i-test.true)) (c.in_ok-add_next.ensures.follows c.args.set.now history inv.follows legal);
       places = c.add_next.ensures.places ∙ inv.places;
     }
 
@@ -45,7 +45,7 @@ pub finish-requires : goal.finish-requires
 finish-requires c =
     record {
       set = c.args.set.now;
-      story = c.args.entries.now;
+      history = c.args.entries.now;
       follows = subst (Follows c.args.set.now c.loop-i.writer) (take_all c.loop-i.i c.args.entries.now c.loop-i-test.false) c.loop-i.invariant.follows;
       one_each = c.requires.names;
       last = c.requires.last;

@@ -15,7 +15,7 @@ pub returns-in-Ok-clause-reply : goal.returns-in-Ok-clause-reply
 returns-in-Ok-clause-reply g c =
     let s : Shown = shown c.args.scenario in
     let begun = c.in-Ok.ensures.begun s (taken _ _ _ c.in-Ok-Ok.field-0-is c.in-Ok-Ok.ensures.plan) in
-    IfOk-weaker c.run_over.result.0 _ _ (λ (r : Reply) h. journal_reply s (g.D.Disk.seen c.args.disk) r.status r.text.items begun.calm h) (c.run_over.ensures.reply s begun)
+    IfOk-weaker c.run_over.result.0 _ _ (λ (r : Reply) h. journal_reply s (g.D.Disk.seen c.args.disk) r.status r.text.items begun.admitted_without_eager h) (c.run_over.ensures.reply s begun)
 
 pub returns-in-Ok-clause-holds : goal.returns-in-Ok-clause-holds
 returns-in-Ok-clause-holds g c =

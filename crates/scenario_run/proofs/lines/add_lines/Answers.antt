@@ -77,4 +77,4 @@ returns-in_err-send-clause-front g c =
 pub returns-clause-follows : goal.returns-clause-follows
 returns-clause-follows g c =
     let le : length c.args.entries.now ≤ c.loop-done.done = omega (arith, c.loop-done-test.false) in
-    λ set story f legal. subst (λ (l : List Noted). Follows set c.loop-done.writer (story ++ l)) (take_all c.loop-done.done c.args.entries.now le) (c.loop-done.invariant.0.follows set story f legal)
+    λ set history f legal. subst (λ (l : List Noted). Follows set c.loop-done.writer (history ++ l)) (take_all c.loop-done.done c.args.entries.now le) (c.loop-done.invariant.0.follows set history f legal)

@@ -5,7 +5,7 @@ use Rattle.law_histories.specs.Sim.{Workload}
 use Rattle.sim_run.specs.Workloads.{workload, ticks_of}
 use Rattle.scenario_run.specs.Kept.{Roomed}
 use Rattle.sim_run.specs.declared.fault.RunFault.TheVariants.{Writing}
-use Rattle.plant_run.specs.Runs.{own_at}
+use Rattle.plant_run.specs.Runs.{eager_jobs_at}
 use Rattle.scenario_run.proofs.Keeping.{never_stops, kept_run, only_memory}
 use Rattle.scenario_run.proofs.worked.run_into.Goals as goal
 
@@ -16,10 +16,10 @@ no_memory-requires g c =
     let q = c.run_workers.new.out in
     let out : Roomed = record { room = was.room; kept = was.entries.items; full = was.full } in
     let out' : Roomed = record { room = q.room; kept = q.entries.items; full = q.full } in
-    let fits : room_of_jobs w.set.txns (λ tx. length (ticks_of w.releases tx) + own_at c.args.run.own.now tx) ≤ g.T.Roomy.room =
-    subst (λ (n : ℕ). room_of_jobs w.set.txns (λ tx. length (ticks_of w.releases tx) + own_at c.args.run.own.now tx) ≤ n) c.requires.fresh.0 c.requires.entries in
+    let fits : room_of_jobs w.set.txns (λ tx. length (ticks_of w.releases tx) + eager_jobs_at c.args.run.eager_jobs.now tx) ≤ g.T.Roomy.room =
+    subst (λ (n : ℕ). room_of_jobs w.set.txns (λ tx. length (ticks_of w.releases tx) + eager_jobs_at c.args.run.eager_jobs.now tx) ≤ n) c.requires.fresh.0 c.requires.entries in
     only_memory c.in-Err.fault (λ e. (let is : IsErrOf c.run_workers.result Writing = c.in-Err.is ∙ ap Err e in
-    never_stops w (own_at c.args.run.own.now) g.T.Roomy.room out out' c.requires.compiled (c.requires.fresh.0, c.requires.fresh.1) c.requires.fresh.2 fits
+    never_stops w (eager_jobs_at c.args.run.eager_jobs.now) g.T.Roomy.room out out' c.requires.compiled (c.requires.fresh.0, c.requires.fresh.1) c.requires.fresh.2 fits
     (c.run_workers.ensures.stopped is) (c.run_workers.ensures.cause is)))
 
 pub returns-in-Ok-clause-run : goal.returns-in-Ok-clause-run
@@ -29,7 +29,7 @@ returns-in-Ok-clause-run g c =
     let q = c.run_workers.new.out in
     let out : Roomed = record { room = was.room; kept = was.entries.items; full = was.full } in
     let out' : Roomed = record { room = q.room; kept = q.entries.items; full = q.full } in
-    (kept_run w (own_at c.args.run.own.now) g.T.Roomy.room (g.B.Board.stands c.in-Ok.board) out out' (c.requires.fresh.0, c.requires.fresh.1) c.in-Ok.ensures.whole).0
+    (kept_run w (eager_jobs_at c.args.run.eager_jobs.now) g.T.Roomy.room (g.B.Board.stands c.in-Ok.board) out out' (c.requires.fresh.0, c.requires.fresh.1) c.in-Ok.ensures.whole).0
 
 pub returns-in-Ok-clause-stood : goal.returns-in-Ok-clause-stood
 returns-in-Ok-clause-stood g c =
@@ -38,4 +38,4 @@ returns-in-Ok-clause-stood g c =
     let q = c.run_workers.new.out in
     let out : Roomed = record { room = was.room; kept = was.entries.items; full = was.full } in
     let out' : Roomed = record { room = q.room; kept = q.entries.items; full = q.full } in
-    (kept_run w (own_at c.args.run.own.now) g.T.Roomy.room (g.B.Board.stands c.in-Ok.board) out out' (c.requires.fresh.0, c.requires.fresh.1) c.in-Ok.ensures.whole).1
+    (kept_run w (eager_jobs_at c.args.run.eager_jobs.now) g.T.Roomy.room (g.B.Board.stands c.in-Ok.board) out out' (c.requires.fresh.0, c.requires.fresh.1) c.in-Ok.ensures.whole).1

@@ -8,7 +8,7 @@ use Rattle.scenario_run.specs.ReportOuts.{Begun, OutSeen, seen}
 use Rattle.scenario_run.proofs.Taking.{opens, goes}
 use Rattle.scenario_run.proofs.Pieces.{fronts_legal}
 use Rattle.sim_run.specs.declared.fault.RunFault.TheVariants.{Writing, Memory}
-use Rattle.plant_run.specs.Runs.{own_at}
+use Rattle.plant_run.specs.Runs.{eager_jobs_at}
 use Rattle.plant_run.proofs.Fixed.{whole_is_sim, stopped_is_sim, short_is_sim}
 use Rattle.scenario_run.proofs.Handing.{has_lines, stopped_lines, not_full}
 use Rattle.scenario_run.proofs.Wholes.{lines_as, first_as}
@@ -50,7 +50,7 @@ returns-clause-lines g c =
     let set : g.T.Reported.begun.set ≡ w.set = ap (λ (b : Begun). b.set) c.requires.begun in
     both_ok c.run_workers.result
     (λ b h lost. lines_as w _ _ _ _ _ _ _ _ _ (ap (λ (x : Begun). x.names) c.requires.begun) (ap (λ (x : Begun). x.front) c.requires.begun) refl
-    (has_lines g.T.Reported.begun w out set _ _ q.sink.ghost_name opened (whole_is_sim w (own_at c.args.run.own.now) _ _ _ c.requires.none_eager h) lost))
+    (has_lines g.T.Reported.begun w out set _ _ q.sink.ghost_name opened (whole_is_sim w (eager_jobs_at c.args.run.eager_jobs.now) _ _ _ c.requires.none_eager h) lost))
     c.run_workers.ensures.whole c.run_workers.ensures.none_lost
 
 pub returns-clause-front : goal.returns-clause-front
@@ -64,9 +64,9 @@ returns-clause-front g c =
     let set : g.T.Reported.begun.set ≡ w.set = ap (λ (b : Begun). b.set) c.requires.begun in
     let places : sum (map length c.args.run.ticks.now) ≤ g.T.Reported.begun.room = subst (λ (n : ℕ). sum (map length c.args.run.ticks.now) ≤ n) (sym (ap (λ (b : Begun). b.room) c.requires.begun)) c.requires.places in
     let stopped = λ (e : IsErrOf c.run_workers.result Writing). stopped_lines g.T.Reported.begun w out set _ q.sink.ghost_name places opened
-    (stopped_is_sim w (own_at c.args.run.own.now) _ _ _ c.requires.rows.compiled c.requires.ready.obedient c.requires.none_eager (c.run_workers.ensures.stopped e)) in
+    (stopped_is_sim w (eager_jobs_at c.args.run.eager_jobs.now) _ _ _ c.requires.rows.compiled c.requires.ready.obedient c.requires.none_eager (c.run_workers.ensures.stopped e)) in
     let short = λ (e : IsErrOf c.run_workers.result Memory). short_lines g.T.Reported.begun w out set _ q.sink.ghost_name places opened
-    (short_is_sim w (own_at c.args.run.own.now) _ _ _ c.requires.rows.compiled c.requires.ready.obedient c.requires.none_eager (c.run_workers.ensures.short e)) in
+    (short_is_sim w (eager_jobs_at c.args.run.eager_jobs.now) _ _ _ c.requires.rows.compiled c.requires.ready.obedient c.requires.none_eager (c.run_workers.ensures.short e)) in
     any_err c.run_workers.result
     (λ e. first_as w _ _ _ _ _ _ (ap (λ (x : Begun). x.names) c.requires.begun) (ap (λ (x : Begun). x.front) c.requires.begun) refl (stopped e).1)
     (λ e. first_as w _ _ _ _ _ _ (ap (λ (x : Begun). x.names) c.requires.begun) (ap (λ (x : Begun). x.front) c.requires.begun) refl (short e).1)
@@ -82,9 +82,9 @@ returns-clause-cause g c = λ e.
     let set : g.T.Reported.begun.set ≡ w.set = ap (λ (b : Begun). b.set) c.requires.begun in
     let places : sum (map length c.args.run.ticks.now) ≤ g.T.Reported.begun.room = subst (λ (n : ℕ). sum (map length c.args.run.ticks.now) ≤ n) (sym (ap (λ (b : Begun). b.room) c.requires.begun)) c.requires.places in
     let stopped = λ (e : IsErrOf c.run_workers.result Writing). stopped_lines g.T.Reported.begun w out set _ q.sink.ghost_name places opened
-    (stopped_is_sim w (own_at c.args.run.own.now) _ _ _ c.requires.rows.compiled c.requires.ready.obedient c.requires.none_eager (c.run_workers.ensures.stopped e)) in
+    (stopped_is_sim w (eager_jobs_at c.args.run.eager_jobs.now) _ _ _ c.requires.rows.compiled c.requires.ready.obedient c.requires.none_eager (c.run_workers.ensures.stopped e)) in
     let short = λ (e : IsErrOf c.run_workers.result Memory). short_lines g.T.Reported.begun w out set _ q.sink.ghost_name places opened
-    (short_is_sim w (own_at c.args.run.own.now) _ _ _ c.requires.rows.compiled c.requires.ready.obedient c.requires.none_eager (c.run_workers.ensures.short e)) in
+    (short_is_sim w (eager_jobs_at c.args.run.eager_jobs.now) _ _ _ c.requires.rows.compiled c.requires.ready.obedient c.requires.none_eager (c.run_workers.ensures.short e)) in
     rose_as was.standing q.standing (g.K.Sink.faults was.sink.now) (g.K.Sink.faults q.sink.now) c.requires.fresh.0 (stopped e).0 (c.run_workers.ensures.cause e) c.run_workers.ensures.later
 
 pub returns-clause-later : goal.returns-clause-later
@@ -98,9 +98,9 @@ returns-clause-later g c =
     let set : g.T.Reported.begun.set ≡ w.set = ap (λ (b : Begun). b.set) c.requires.begun in
     let places : sum (map length c.args.run.ticks.now) ≤ g.T.Reported.begun.room = subst (λ (n : ℕ). sum (map length c.args.run.ticks.now) ≤ n) (sym (ap (λ (b : Begun). b.room) c.requires.begun)) c.requires.places in
     let stopped = λ (e : IsErrOf c.run_workers.result Writing). stopped_lines g.T.Reported.begun w out set _ q.sink.ghost_name places opened
-    (stopped_is_sim w (own_at c.args.run.own.now) _ _ _ c.requires.rows.compiled c.requires.ready.obedient c.requires.none_eager (c.run_workers.ensures.stopped e)) in
+    (stopped_is_sim w (eager_jobs_at c.args.run.eager_jobs.now) _ _ _ c.requires.rows.compiled c.requires.ready.obedient c.requires.none_eager (c.run_workers.ensures.stopped e)) in
     let short = λ (e : IsErrOf c.run_workers.result Memory). short_lines g.T.Reported.begun w out set _ q.sink.ghost_name places opened
-    (short_is_sim w (own_at c.args.run.own.now) _ _ _ c.requires.rows.compiled c.requires.ready.obedient c.requires.none_eager (c.run_workers.ensures.short e)) in
+    (short_is_sim w (eager_jobs_at c.args.run.eager_jobs.now) _ _ _ c.requires.rows.compiled c.requires.ready.obedient c.requires.none_eager (c.run_workers.ensures.short e)) in
     let not : q.standing ≢ Full =
     any c.run_workers.result (map_ok c.run_workers.result (λ b lost. not_full q.standing (goes g.T.Reported.begun out lost)) c.run_workers.ensures.none_lost)
     (λ e. (stopped e).0) (λ e. (short e).0) in

@@ -1,7 +1,7 @@
 use Rattle.std.proofs.Common.{◌≡◌, ◌<◌, ◌∙◌, true, false, sym, ap, subst, rules}
 use Rattle.step_journal.specs.declared.entry.Entry.{Entry}
 use Rattle.turn_cell.specs.declared.view.View.{View}
-use Rattle.board.specs.Stories.{running_of}
+use Rattle.board.specs.Histories.{running_of}
 use Rattle.shared_plant.proofs.Turns.{own_holds, one_of, far_step, far_ends}
 use Rattle.shared_plant.proofs.turn.step_on.Goals as goal
 

@@ -9,9 +9,9 @@ use Rattle.admitted_core.proofs.admitted.AdmittedBoard.keeps_bounds.Goals as goa
 
 pub returns : goal.returns
 returns c d =
-    subst (λ (a : AdmittedSeen _). (story : List Entry) → c.B.Board.stands a.board story → KeepsBounds a.admitted story) d.self.view_is
-    (λ story h.
-    let is = c.met.B.Board.is_story d.self.inside.board story h in
+    subst (λ (a : AdmittedSeen _). (history : List Entry) → c.B.Board.stands a.board history → KeepsBounds a.admitted history) d.self.view_is
+    (λ history h.
+    let is = c.met.B.Board.is_history d.self.inside.board history h in
     let same = d.self.invariant.same in
-    keeps_bounds d.self.inside.admitted story d.self.invariant.compiled d.self.invariant.meets
-    (subst (λ (set : Set). IsLegal set story) same is.legal))
+    keeps_bounds d.self.inside.admitted history d.self.invariant.compiled d.self.invariant.meets
+    (subst (λ (set : Set). IsLegal set history) same is.legal))

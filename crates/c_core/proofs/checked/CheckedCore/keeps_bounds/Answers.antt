@@ -7,5 +7,5 @@ use Rattle.c_core.proofs.checked.CheckedCore.keeps_bounds.Goals as goal
 
 pub returns : goal.returns
 returns c =
-    subst (λ (o : OpenSeen). (story : List Entry) → Stands o.board story → KeepsBoundsOf o story) c.self.view_is
-    (λ story h. kept c.self.inside.core c.self.inside.admitted story c.self.invariant.0 h)
+    subst (λ (o : OpenSeen). (history : List Entry) → Stands o.board history → KeepsBoundsOf o history) c.self.view_is
+    (λ history h. kept c.self.inside.core c.self.inside.admitted history c.self.invariant.0 h)

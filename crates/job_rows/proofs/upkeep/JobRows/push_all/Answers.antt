@@ -16,5 +16,5 @@ loop-entry-preserved c = record {
 }
 
 pub returns-clause-follows : goal.returns-clause-follows
-returns-clause-follows c set story f legal =
-    subst (λ (l : List Entry). Follows set c.loop-entry.self (story ++ l)) (take_all c.loop-entry.entry-index c.args.entries.now c.loop-entry-test.false) (c.loop-entry.invariant.follows set story f legal)
+returns-clause-follows c set history f legal =
+    subst (λ (l : List Entry). Follows set c.loop-entry.self (history ++ l)) (take_all c.loop-entry.entry-index c.args.entries.now c.loop-entry-test.false) (c.loop-entry.invariant.follows set history f legal)

@@ -7,7 +7,7 @@ use Rattle.plain_core.proofs.Runs.{running_is}
 use Rattle.plain_core.proofs.board_impl.PlainCoreBoard.running.Goals as goal
 
 pub returns : goal.returns
-returns c = λ story h.
+returns c = λ history h.
     c.running.ensures
     ∙ (ap (λ t. running_by t c.slots.result.now) c.txns.ensures
     ∙ (ap (λ (r : List (Option Row)). running_by c.self.inside.set.txns r) c.slots.ensures

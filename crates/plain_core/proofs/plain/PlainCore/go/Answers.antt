@@ -31,7 +31,7 @@ arrive-requires-clause-rows c =
       ap (λ (t : TablesSeen). length t.state.rows) c.effect.ensures,
       effect_rows c.self.inside.set c.args.job c.args.op c.self.inside.tables,
       (fit_core _ c.self.invariant).rows,
-      c.self.invariant.stands.is_story.compiled.few_txns,
+      c.self.invariant.stands.is_history.compiled.few_txns,
     )
 
 pub arrive-requires-clause-few : goal.arrive-requires-clause-few

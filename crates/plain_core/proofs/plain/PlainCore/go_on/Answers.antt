@@ -7,7 +7,7 @@ use Rattle.plain_core.proofs.Idles.{advances, went_on, still_core, tallies_fit}
 use Rattle.plain_core.proofs.plain.PlainCore.go_on.Goals as goal
 
 pub arrive-requires-clause-rows : goal.arrive-requires-clause-rows
-arrive-requires-clause-rows c = omega (arith, (fit_core _ c.self.invariant).rows, c.self.invariant.stands.is_story.compiled.few_txns)
+arrive-requires-clause-rows c = omega (arith, (fit_core _ c.self.invariant).rows, c.self.invariant.stands.is_history.compiled.few_txns)
 
 pub arrive-requires-clause-few : goal.arrive-requires-clause-few
 arrive-requires-clause-few c = λ n. omega (arith, tallies_fit _ c.self.invariant n)

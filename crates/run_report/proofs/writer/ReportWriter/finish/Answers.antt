@@ -9,8 +9,8 @@ pub add_closing-requires-clause-rows : goal.add_closing-requires-clause-rows
 add_closing-requires-clause-rows c =
     subst (All (KnownRow c.args.names.now))
     (sym (c.as_slice.ensures
-    ∙ c.into_rows-rows.ensures c.requires.set c.requires.story
-    (subst (λ (r : RowsSeen). Follows c.requires.set r c.requires.story) (sym c.self.view_is) c.requires.follows)))
+    ∙ c.into_rows-rows.ensures c.requires.set c.requires.history
+    (subst (λ (r : RowsSeen). Follows c.requires.set r c.requires.history) (sym c.self.view_is) c.requires.follows)))
     (closes_rows _ _ _ c.requires)
 
 pub add_closing-requires-clause-items : goal.add_closing-requires-clause-items

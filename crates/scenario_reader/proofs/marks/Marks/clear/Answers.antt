@@ -5,8 +5,8 @@ use Rattle.scenario_reader.proofs.marks.Marks.clear.Goals as goal
 
 pub returns : goal.returns
 returns c =
-    let all = c.next_turn-self-inside.ensures.all ∙ ap length c.deref_mut.ensures.value in
-    ap (map (λ s. s == c.next_turn-self-inside.result))
-    (with_items_is c.self.inside.stamps c.next_turn-self-inside.new.stamps (all ∙ sym c.self.inside.stamps.ok.0))
-    ∙ cleared c.next_turn-self-inside.result c.next_turn-self-inside.new.stamps c.self.inside.stamps.items
-    c.args.self.now c.self.inside.turn c.next_turn-self-inside.ensures.later all c.self.view_is
+    let all = c.next_round-self-inside.ensures.all ∙ ap length c.deref_mut.ensures.value in
+    ap (map (λ s. s == c.next_round-self-inside.result))
+    (with_items_is c.self.inside.stamps c.next_round-self-inside.new.stamps (all ∙ sym c.self.inside.stamps.ok.0))
+    ∙ cleared c.next_round-self-inside.result c.next_round-self-inside.new.stamps c.self.inside.stamps.items
+    c.args.self.now c.self.inside.round c.next_round-self-inside.ensures.later all c.self.view_is

@@ -24,7 +24,7 @@ append_all-requires-clause-legal g c =
     put_goes_on d.seen d.may_leave d.moment d.left_since names set begun.disk out.log there kept e c.some_from-known.result.now going legal known c.in_default.ensures
 
 pub returns-clause-taken : goal.returns-clause-taken
-returns-clause-taken g c = λ story got.
+returns-clause-taken g c = λ history got.
     let d = g.D.Disk in
     let out = c.args.self.now in
     let fine = c.requires.fine in
@@ -47,7 +47,7 @@ returns-clause-taken g c = λ story got.
       c.append.ensures.items ∙ ap (λ (l : List Entry). l ++ e) got.0,
       of_now d.seen d.may_leave d.moment d.left_since begun names set there out.room out.log.disk got.1 new.disk c.append_all.ensures.faults.told,
       taken_at out.standing _ (goes out.standing begun.there kept c.requires.nothing_lost.0)
-          (going_back d.seen d.may_leave d.moment d.left_since begun names set there out.room out.log.disk got.1 new kept e story got.0 taken),
+          (going_back d.seen d.may_leave d.moment d.left_since begun names set there out.room out.log.disk got.1 new kept e history got.0 taken),
     )
 
 pub returns-in-Some-clause-lost : goal.returns-in-Some-clause-lost

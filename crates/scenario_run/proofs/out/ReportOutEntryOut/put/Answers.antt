@@ -41,20 +41,20 @@ pub returns-in-Ok-clause-taken : goal.returns-in-Ok-clause-taken
 returns-in-Ok-clause-taken g c =
     let out : OutSeen = seen c.args.self.now.standing c.args.self.now.names.now c.args.self.now.writer c.args.self.now.lines.items c.args.self.now.bytes (g.K.Sink.taken c.args.self.now.sink.now) in
     let few : planned_jobs c.args.entries.now ≤ c.places_left.result = omega (arith, c.if-planned-places_left.false, c.planned.ensures) in
-    λ story h. (
+    λ history h. (
       h.0,
       taken_on g.T.Reported.begun out c.args.entries.now c.add_lines.new.writer c.add_lines.new.lines.items c.in-Ok.bytes (g.K.Sink.taken c.add_lines.new.sink) c.places_left.result
           c.requires.nothing_lost c.add_lines.ensures.places c.in-Ok.ensures.follows c.in-Ok.ensures.all.0 c.in-Ok.ensures.all.1 c.places_left.ensures few
-          c.in-Ok.ensures.bytes.0 c.in-Ok.ensures.bytes.1 story h.1,
+          c.in-Ok.ensures.bytes.0 c.in-Ok.ensures.bytes.1 history h.1,
     )
 
 pub returns-in-Err-clause-kept : goal.returns-in-Err-clause-kept
 returns-in-Err-clause-kept g c =
     let out : OutSeen = seen c.args.self.now.standing c.args.self.now.names.now c.args.self.now.writer c.args.self.now.lines.items c.args.self.now.bytes (g.K.Sink.taken c.args.self.now.sink.now) in
-    λ story h. (
+    λ history h. (
       h.0,
       cut_taken g.T.Reported.begun out c.args.entries.now c.add_lines.new.writer c.add_lines.new.lines.items (g.K.Sink.taken c.add_lines.new.sink) c.in-Err.ensures.front.0 c.in-Err.ensures.front.1
-          c.requires.nothing_lost story h.1,
+          c.requires.nothing_lost history h.1,
     )
 
 pub returns-in-Err-clause-lost : goal.returns-in-Err-clause-lost

@@ -12,9 +12,9 @@ returns-clause-closed g c =
     let set_is = ap (λ (q : Set × ℕ). q.0) w.same ∙ ap (λ (p : PlantFacts). p.set) c.self.view_is in
     let room_is = ap (λ (q : Set × ℕ). q.1) w.same ∙ ap (λ (p : PlantFacts). p.room) c.self.view_is in
     subst (λ b. Closed g.B.Board.stands g.B.Board.set g.B.Board.room g.B.Board.first g.B.Board.kept c.args.self b c.args.seats.items) (sym c.into_board.ensures)
-    (closed g.B.Board.stands g.B.Board.set g.B.Board.room g.B.Board.first g.B.Board.kept (λ b story. g.met.B.Board.is_story b story) c.args.self c.in-Ok.shared.board.value c.args.seats.items
-    w.story w.stood set_is room_is
-    (subst (λ (n : ℕ). n ≤ length w.story) start_is w.began)
+    (closed g.B.Board.stands g.B.Board.set g.B.Board.room g.B.Board.first g.B.Board.kept (λ b history. g.met.B.Board.is_history b history) c.args.self c.in-Ok.shared.board.value c.args.seats.items
+    w.history w.stood set_is room_is
+    (subst (λ (n : ℕ). n ≤ length w.history) start_is w.began)
     w.each
-    (λ place. subst (λ (n : ℕ). total (times_in place) (map view_of c.args.seats.items) + below place n ≡ below place (length w.story)) start_is (w.placed place))
+    (λ place. subst (λ (n : ℕ). total (times_in place) (map view_of c.args.seats.items) + below place n ≡ below place (length w.history)) start_is (w.placed place))
     w.marked w.drained)

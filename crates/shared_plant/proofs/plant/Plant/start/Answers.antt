@@ -8,7 +8,7 @@ pub seat_all-requires-clause-fresh : goal.seat_all-requires-clause-fresh
 seat_all-requires-clause-fresh g c =
     let id = c.in-Ok-new.cell.id in let past = g.P.Past.past in let first = g.B.Board.first c.args.board in
     let txs = c.txs_of-txs.result in let n : (txs + 1) - 1 ≡ txs = omega arith in
-    let counted = (g.met.B.Board.is_story c.args.board past c.requires).counted in
+    let counted = (g.met.B.Board.is_history c.args.board past c.requires).counted in
     let within : first ≤ length past = omega arith in (
       id,
       past,

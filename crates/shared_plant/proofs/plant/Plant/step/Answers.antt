@@ -1,5 +1,5 @@
 use Rattle.std.proofs.Common.{◌≡◌, ◌∙◌, true, false, rules}
-use Rattle.board.specs.Stories.{now_of}
+use Rattle.board.specs.Histories.{now_of}
 use Rattle.shared_plant.proofs.Answering.{busy_of}
 use Rattle.shared_plant.proofs.Laters.{later_refl, later_of, tried_none, later_missed, later_answered, not_yet_has_none, tried_missed, tried_answered}
 use Rattle.shared_plant.proofs.plant.Plant.step.Goals as goal
@@ -33,7 +33,7 @@ loop-preserved-else-not-is_not_yet g c =
     let yet = c.is_not_yet.ensures.yes is in (
       tt,
       tt,
-      later_answered _ _ _ _ _ _ i.2 (c.in-Said.ensures.said tx.0 (i.2.tx ∙ tx.1)) (λ story. not_yet_has_none c.in-Said.reply (record { tx = tx.0; serial = c.args.serial }) c.args.op (now_of c.args.self.now.set story) yet),
+      later_answered _ _ _ _ _ _ i.2 (c.in-Said.ensures.said tx.0 (i.2.tx ∙ tx.1)) (λ history. not_yet_has_none c.in-Said.reply (record { tx = tx.0; serial = c.args.serial }) c.args.op (now_of c.args.self.now.set history) yet),
       λ x e. tried_answered c.args.self.now.set c.args.self.now.room (record { tx = x; serial = c.args.serial }) c.args.op (now_of c.args.self.now.set) c.in-Said.reply _ _ _ (i.3 x e) (c.in-Said.ensures.said x (i.2.tx ∙ e)) yet,
     )
 

@@ -1,7 +1,7 @@
 use Rattle.std.proofs.Common.{◌≡◌, ◌-◌, ◌∙◌, ℕ, length, ap, sym, subst, arith}
 use Rattle.step_journal.specs.History.{IsLegal}
 use Rattle.txn_set.specs.Set.{Set}
-use Rattle.board.specs.Stories.{noted, plan_next_answer}
+use Rattle.board.specs.Histories.{noted, plan_next_answer}
 use Rattle.shared_plant.proofs.shared_board.SharedBoard.plan_next.Goals as goal
 
 pub returns-clause-fixed : goal.returns-clause-fixed
@@ -10,26 +10,26 @@ returns-clause-fixed g c =
     (f.0 ∙ ap g.B.Board.set at, f.1 ∙ ap g.B.Board.room at, f.2 ∙ ap g.B.Board.first at)
 
 pub returns-clause-answer : goal.returns-clause-answer
-returns-clause-answer g c = λ story stood.
+returns-clause-answer g c = λ history stood.
     let b = c.args.self.now.board.value in let at = c.deref_mut.ensures.value in
-    let counted = (g.met.B.Board.is_story b story stood).counted in
-    let kept : length (g.B.Board.kept b) ≡ length story - g.B.Board.first b = omega arith in
-    c.plan_next-reply.ensures.answer story (subst (λ x. g.B.Board.stands x story) (sym at) stood)
-    ∙ (ap (λ x. plan_next_answer (g.B.Board.set x) story (length (g.B.Board.kept x)) (g.B.Board.room x) c.args.tx.0) at
-    ∙ ap (λ (n : ℕ). plan_next_answer (g.B.Board.set b) story n (g.B.Board.room b) c.args.tx.0) kept)
+    let counted = (g.met.B.Board.is_history b history stood).counted in
+    let kept : length (g.B.Board.kept b) ≡ length history - g.B.Board.first b = omega arith in
+    c.plan_next-reply.ensures.answer history (subst (λ x. g.B.Board.stands x history) (sym at) stood)
+    ∙ (ap (λ x. plan_next_answer (g.B.Board.set x) history (length (g.B.Board.kept x)) (g.B.Board.room x) c.args.tx.0) at
+    ∙ ap (λ (n : ℕ). plan_next_answer (g.B.Board.set b) history n (g.B.Board.room b) c.args.tx.0) kept)
 
 pub returns-clause-entry : goal.returns-clause-entry
-returns-clause-entry g c = λ story stood.
+returns-clause-entry g c = λ history stood.
     c.entry_of_plan_next-entry.ensures
 
 pub returns-clause-after : goal.returns-clause-after
-returns-clause-after g c = λ story stood.
+returns-clause-after g c = λ history stood.
     let b = c.args.self.now.board.value in let at = c.deref_mut.ensures.value in
     let entry = c.entry_of_plan_next-entry.result in
-    let next = c.plan_next-reply.ensures.after story (subst (λ x. g.B.Board.stands x story) (sym at) stood) in
-    let stands = subst (λ o. g.B.Board.stands c.plan_next-reply.new.self (noted story o)) (sym (c.entry_of_plan_next-entry.ensures)) next in
-    let counted = (g.met.B.Board.is_story b story stood).counted in record {
+    let next = c.plan_next-reply.ensures.after history (subst (λ x. g.B.Board.stands x history) (sym at) stood) in
+    let stands = subst (λ o. g.B.Board.stands c.plan_next-reply.new.self (noted history o)) (sym (c.entry_of_plan_next-entry.ensures)) next in
+    let counted = (g.met.B.Board.is_history b history stood).counted in record {
       stood = stands;
-      legal = subst (λ (z : Set). IsLegal z (noted story entry)) (c.plan_next-reply.ensures.fixed.0 ∙ ap g.B.Board.set at) (g.met.B.Board.is_story c.plan_next-reply.new.self (noted story entry) stands).legal;
+      legal = subst (λ (z : Set). IsLegal z (noted history entry)) (c.plan_next-reply.ensures.fixed.0 ∙ ap g.B.Board.set at) (g.met.B.Board.is_history c.plan_next-reply.new.self (noted history entry) stands).legal;
       within = omega arith;
     }

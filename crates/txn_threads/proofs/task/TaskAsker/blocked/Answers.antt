@@ -8,5 +8,5 @@ returns g c = λ by ceiling. record {
   same = refl;
   serial = λ on. absurd on;
   heard = λ none. none;
-  tied = λ tx mine story now k. tied_other g.Y.Body.gives g.Y.Body.stands tx mine _ _ (tied_asked g.Y.Body.gives g.Y.Body.stands tx mine c.args.self.now c.args.op c.args.self.now.heard k (c.requires tx mine k)) (λ s. refl);
+  tied = λ tx mine history now k. tied_other g.Y.Body.gives g.Y.Body.stands tx mine _ _ (tied_asked g.Y.Body.gives g.Y.Body.stands tx mine c.args.self.now c.args.op c.args.self.now.heard k (c.requires tx mine k)) (λ s. refl);
 }

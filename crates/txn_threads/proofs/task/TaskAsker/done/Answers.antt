@@ -7,5 +7,5 @@ returns g c = λ op asked. record {
   same = c.told.ensures.same;
   serial = λ on. refl;
   heard = λ none. none;
-  tied = λ tx mine story now k. tied_done g.Y.Body.gives g.Y.Body.stands tx mine c.args.self.now _ op now _ c.args.outcome None k refl refl c.told.ensures.more;
+  tied = λ tx mine history now k. tied_done g.Y.Body.gives g.Y.Body.stands tx mine c.args.self.now _ op now _ c.args.outcome None k refl refl c.told.ensures.more;
 }

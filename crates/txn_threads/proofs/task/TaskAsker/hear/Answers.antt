@@ -7,5 +7,5 @@ returns g c = let e = c.answered.ensures in record {
   same = e.same;
   serial = e.serial;
   heard = λ none. e.heard ∙ c.kept_of-self.ensures;
-  tied = λ tx mine story now k. e.tied tx mine c.args.op now story (tied_asked g.Y.Body.gives g.Y.Body.stands tx mine c.args.self.now c.args.op c.kept_of-self.result k (c.requires tx mine k));
+  tied = λ tx mine history now k. e.tied tx mine c.args.op now history (tied_asked g.Y.Body.gives g.Y.Body.stands tx mine c.args.self.now c.args.op c.kept_of-self.result k (c.requires tx mine k));
 }

@@ -1,6 +1,0 @@
-use Rattle.std.proofs.Common.{◌≡◌, ◌++◌, drop, map}
-use Rattle.step_script.specs.Releases.{eager_of}
-use Rattle.scenario_run.proofs.ticks.all_own.Given as goal
-
-abbrev pub invariant-loop-list : goal.invariant-loop-list
-invariant-loop-list l = l.own.items ++ map eager_of (drop l.list-index l.releases) ≡ map eager_of l.releases

@@ -1,6 +1,0 @@
-use Rattle.std.proofs.Common.{◌≡◌, ◌+◌, drop}
-use Rattle.std.specs.List.{sum}
-use Rattle.scenario_run.proofs.ticks.count_own.Given as goal
-
-abbrev pub invariant-loop-jobs : goal.invariant-loop-jobs
-invariant-loop-jobs l = l.count + sum (drop l.jobs-index l.own) ≡ sum l.own
