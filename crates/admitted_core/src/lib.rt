@@ -1,6 +1,6 @@
-//! A board over an admitted set: its calls are those of the board that it is made of, and no job of it is late.
+//! A core over an admitted set: its calls are those of the core, and no job of it is late.
 #![tactic(auto)]
 
 mod admitted;
 
-pub use admitted::{AdmittedBoard, AdmittedCore};
+pub use admitted::AdmittedCore;

@@ -1,5 +1,5 @@
 -- What contracts see of a core over an admitted set or over one that was not admitted.
-use Rattle.std.specs.Prelude.{◌≡◌, List, [], Option, Some, IfSome, vec_capacity}
+use Rattle.std.specs.Prelude.{◌≡◌, List, Option, Some, IfSome}
 use Rattle.step_journal.specs.declared.entry.Entry.{Entry}
 use Rattle.txn_set.specs.Set.{Set, IsCompiled}
 use Rattle.set_admission.specs.Bounds.{MeetsAdmission}

@@ -40,7 +40,7 @@ pub record IsStation (plant : PlantFacts) (seat : SeatFacts) (others : List Seat
   pub items_are : items ≡ length plant.set.items
 
 -- the operator's seat of a plant on this core, which is new, with all other seats
-pub record IsStarted (core : AdmittedSeen CoreSeen) (s : SeatSeen) : Type 0 where
+pub record IsStarted (core : AdmittedSeen) (s : SeatSeen) : Type 0 where
   pub set_is : s.plant.set ≡ core.board.set
   pub room_is : s.plant.room ≡ core.board.journal.room
   pub start : s.plant.start ≡ 0

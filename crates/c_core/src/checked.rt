@@ -16,7 +16,7 @@ use crate::forms::{
 };
 use crate::refusals::{NOT_ADMITTED, Refused};
 use crate::tables::{Tables, compiled};
-use admitted_core::{AdmittedBoard, AdmittedCore};
+use admitted_core::AdmittedCore;
 use board::{Board, StepReply};
 use lock_core::Core;
 use rt_base::{ItemId, JobId, Op, OutOfMemory, Outcome, TxId};
@@ -224,7 +224,7 @@ impl CheckedCore {
         } = self;
         drop(spare);
         match admitted {
-            Some(set) => Some(AdmittedBoard::of(core, set)),
+            Some(set) => Some(AdmittedCore::of(core, set)),
             None => {
                 drop(core);
                 None

@@ -1,5 +1,5 @@
 -- Entries that compare equal are equal.
-use Rattle.std.proofs.Common.{◌≡◌, true, Option, None, Some, ℕ, eqb, refl, ap, ◌∙◌, ◌&&◌, arith}
+use Rattle.std.proofs.Common.{◌≡◌, true, false, Option, None, Some, ℕ, eqb, refl, ap, ◌∙◌, ◌&&◌, arith}
 use Rattle.std.proofs.lemmas.Bool.{eqb-true, eq-eqb, and_parts, and_from}
 use Rattle.std.specs.Option.{option_eq}
 use Rattle.rt_base.specs.declared.ids.TxId.{TxId}
@@ -20,13 +20,16 @@ use Rattle.rt_base.specs.contracts.operation.OutcomePartialEq.TheImpl as outcome
 use Rattle.rt_base.specs.contracts.ids.JobIdPartialEq.TheImpl as job
 use Rattle.step_journal.specs.contracts.entry.EntryPartialEq.TheImpl as entry
 
+no : false ≡ true → ⊥
+no h = cc
+
 op_same : (a b : Op) → op.eq-value.it a b ≡ true → a ≡ b
 op_same (Read i) (Read j) h = grind arith
 op_same (Write i v) (Write j w) h = grind arith
 op_same Compute Compute h = refl
 op_same Commit Commit h = refl
 op_same Quit Quit h = refl
-op_same a b h = absurd cc
+op_same a b h = absurd (no h)
 
 end_same : (a b : End) → end.eq-value.it a b ≡ true → a ≡ b
 end_same Committed Committed h = refl
@@ -35,7 +38,7 @@ end_same Late Late h = refl
 end_same (Stale i s) (Stale j t) h = grind arith
 end_same (Apart i j) (Apart k l) h = grind arith
 end_same ends.Quit ends.Quit h = refl
-end_same a b h = absurd cc
+end_same a b h = absurd (no h)
 
 job_same : (a b : JobId) → job.eq-value.it a b ≡ true → a ≡ b
 job_same a b h = grind arith
@@ -43,19 +46,19 @@ job_same a b h = grind arith
 stamp_same : (a b : Option ℕ) → option_eq eqb a b ≡ true → a ≡ b
 stamp_same None None h = refl
 stamp_same (Some s) (Some t) h = grind arith
-stamp_same a b h = absurd cc
+stamp_same a b h = absurd (no h)
 
 outcome_same : (a b : Outcome) → outcome.eq-value.it a b ≡ true → a ≡ b
 outcome_same (Got v s) (Got w t) h = grind (arith, stamp_same s t)
 outcome_same Put Put h = refl
 outcome_same Computed Computed h = refl
 outcome_same Closed Closed h = refl
-outcome_same a b h = absurd cc
+outcome_same a b h = absurd (no h)
 
 over_same : (a b : Option End) → option_eq end.eq-value.it a b ≡ true → a ≡ b
 over_same None None h = refl
 over_same (Some e) (Some f) h = ap Some (end_same e f h)
-over_same a b h = absurd cc
+over_same a b h = absurd (no h)
 
 tx_same : (a b : TxId) → tx.eq-value.it a b ≡ true → a ≡ b
 tx_same a b h = grind arith
@@ -85,7 +88,7 @@ entry_same (Blocked j o b c t) (Blocked k p d e u) h =
     ∙ (ap (λ (x : JobId). Blocked k p x c t) (job_same b d q.0)
     ∙ (ap (λ (x : ℕ). Blocked k p d x t) (eqb-true c e r.0) ∙ ap (Blocked k p d e) (eqb-true t u r.1))))
 entry_same (Idle f t) (Idle g u) h = grind arith
-entry_same a b h = absurd cc
+entry_same a b h = absurd (no h)
 
 -- each compares equal to itself
 
