@@ -1,3 +1,5 @@
+pub mod Calling
+pub mod Mapped
 pub mod Back
 pub mod Putting
 pub mod Ranges

@@ -6,7 +6,6 @@ use Rattle.txn_set.specs.Set.{IsCompiled}
 use Rattle.set_admission.specs.Bounds.{MeetsAdmission}
 use Rattle.law_times.specs.Ages.{IsAdmitted}
 use Rattle.txn_compiler.specs.Kept.{kept}
-use Rattle.lock_core.specs.Seen.{CoreSeen}
 use Rattle.admitted_core.specs.Seen.{AdmittedSeen}
 use Rattle.shared_plant.specs.Seats.{PlantFacts, SeatFacts, IsOf, newcomer, newcomers, tx_of}
 use Rattle.c_core.specs.declared.tables.Tables.{Tables}
