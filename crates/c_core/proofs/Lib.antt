@@ -1,3 +1,9 @@
+pub mod Steps
+pub mod BoxApart
+pub mod Apart
+pub mod Moved
+pub mod Holders
+pub mod Crosses
 pub mod Calling
 pub mod Mapped
 pub mod Back

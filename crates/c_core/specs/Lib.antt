@@ -1,3 +1,4 @@
+pub mod Held
 pub mod Forms
 pub mod Back
 pub mod Rows

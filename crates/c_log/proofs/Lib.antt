@@ -1,3 +1,4 @@
+pub mod Holders
 pub mod Moments
 pub mod Settled
 pub mod Staged

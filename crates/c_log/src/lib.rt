@@ -8,6 +8,7 @@ mod call;
 mod device;
 mod entry;
 mod lines;
+mod log_handle;
 mod opening;
 mod piece;
 mod queue;
@@ -15,5 +16,6 @@ mod refused;
 mod station;
 
 pub use call::{Call, Piece};
+pub use log_handle::LogHandle;
 pub use refused::{AppendRefused, LogRefused};
 pub use station::LogStation;

@@ -11,38 +11,29 @@ ghost use Rattle.c_core.specs.Called.{Opened, OpenedTrial, Stepped, Planned, Idl
 ghost use Rattle.rtdb_c.specs.Called.{Called, ToldWhy, ToldWhyNotTried, IsNowOf, IsKeptOf, IsPlannedOf};
 
 mod causes;
-mod handle;
 mod log;
-mod log_handle;
 mod margin;
 mod plant;
-mod raw_box;
-mod seat;
-mod slot;
 mod telling;
 mod text;
 mod text_laws;
 mod words;
 
+pub use c_core::{CLOSED, Handle, SeatHandle};
 use c_core::{
     CheckedCore, EntryForm, JobForm, OK, OpForm, RefusalForm, Refused, StepForm, StoredForm,
     Tables, TimeForm, refusal_form,
 };
-pub use handle::Handle;
+pub use c_log::LogHandle;
 pub use log::CallForm;
-pub use log_handle::LogHandle;
 pub use margin::rtdb_margin;
 pub use plant::{
     rtdb_plant_open, rtdb_seat_close, rtdb_seat_drain, rtdb_seat_front, rtdb_seat_idle,
     rtdb_seat_open, rtdb_seat_peek, rtdb_seat_plan, rtdb_seat_plan_next, rtdb_seat_step,
 };
-pub use seat::SeatHandle;
 use std::alloc::Global;
 pub use text::rtdb_text;
 pub use text_laws::{numbers_are_names, refusals_are_told};
-
-/// The handle is closed.
-pub const CLOSED: u32 = 1;
 
 /// The handle is open already.
 pub const OPEN: u32 = 2;
@@ -156,13 +147,7 @@ pub extern "C" fn rtdb_close(alloc: Global, db: &mut Handle) -> u32
     ensures closed { db.new.core ≡ None }
     ensures status { MatchOption db.old.core (result ≡ 1) (λ _. result ≡ 0) }
 {
-    match db.take(alloc) {
-        Some(core) => {
-            drop(core);
-            OK
-        }
-        None => CLOSED,
-    }
+    db.close(alloc)
 }
 
 /// Plans the transaction's next job for a tick. NO_TRANSACTION where it is none of the set.

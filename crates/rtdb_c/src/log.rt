@@ -5,10 +5,9 @@ ghost use Rattle.c_log.specs.Opening.{WhyNotOpened};
 ghost use Rattle.c_log.specs.declared.refused.LogRefused.TheVariants.{OutOfMemory as WantOfMemory};
 ghost use Rattle.rtdb_c.specs.Logged.{LogCalled, LogOpened, LogToldWhy, LogAppended, LogNext, LogAnswered, LogCounted, LogFound, append_status, told_log, form_of_call};
 
-use crate::log_handle::LogHandle;
-use crate::{CLOSED, OPEN, told_why};
-use c_core::{EntryForm, NO_MEMORY, NO_ROOM, NOTHING, OK, RefusalForm, Refused, put_entry};
-use c_log::{AppendRefused, Call, LogRefused, LogStation};
+use crate::{OPEN, told_why};
+use c_core::{CLOSED, EntryForm, NO_MEMORY, NO_ROOM, NOTHING, OK, RefusalForm, Refused, put_entry};
+use c_log::{AppendRefused, Call, LogHandle, LogRefused, LogStation};
 use std::alloc::Global;
 
 /// A call of a log failed.

@@ -6,11 +6,10 @@ ghost use Rattle.c_core.specs.Tries.{SeatStepped, SeatPlanned, SeatPlannedNext, 
 ghost use Rattle.rtdb_c.specs.Called.{ToldWhy};
 ghost use Rattle.rtdb_c.specs.SeatCalls.{SeatCalled, HandedTo, IsFrontOf};
 
-use crate::seat::SeatHandle;
-use crate::{CLOSED, OPEN, told_why};
+use crate::{OPEN, told_why};
 use c_core::{
-    EntryForm, OK, OpForm, RefusalForm, SeatStation, StepForm, StoredForm, Tables, TimeForm,
-    plant_over,
+    CLOSED, EntryForm, OK, OpForm, RefusalForm, SeatHandle, SeatStation, StepForm, StoredForm,
+    Tables, TimeForm, plant_over,
 };
 use std::alloc::Global;
 

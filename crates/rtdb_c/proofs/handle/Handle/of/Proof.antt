@@ -1,9 +1,0 @@
-use Rattle.std.proofs.Common.{◌≡◌, refl}
-use Rattle.rtdb_c.proofs.Moved.{moved}
-use Rattle.rtdb_c.proofs.Holders.{Core, slot_of, handle_of_core}
-use Rattle.rtdb_c.specs.contracts.handle.Handle.of as f
-use Rattle.rtdb_c.proofs.handle.Handle.of.Statement.{statement}
-use Rattle.rtdb_c.proofs.handle.Handle.of.Code as code
-
-pub of_spec : {M : Type 1} → statement M
-of_spec 𝓤 𝓛 𝓜 𝓡 wired = moved Core 𝓤 (slot_of Core) handle_of_core (λ d r. r.core ≡ d.value) 𝓛 𝓜 𝓡 f.Key.name (code.unfolded 𝓤 𝓛.H 𝓜 𝓡 wired) (λ x w. refl) (λ x. tt) (λ d. refl)

@@ -1,9 +1,0 @@
-use Rattle.std.proofs.Common.{◌≡◌, refl}
-use Rattle.rtdb_c.proofs.Moved.{moved}
-use Rattle.rtdb_c.proofs.Holders.{Log, slot_of, handle_of_log}
-use Rattle.rtdb_c.specs.contracts.log_handle.LogHandle.of as f
-use Rattle.rtdb_c.proofs.log_handle.LogHandle.of.Statement.{statement}
-use Rattle.rtdb_c.proofs.log_handle.LogHandle.of.Code as code
-
-pub of_spec : {M : Type 1} → statement M
-of_spec 𝓤 𝓛 𝓜 𝓡 wired = moved Log 𝓤 (slot_of Log) handle_of_log (λ d r. r.station ≡ d.value) 𝓛 𝓜 𝓡 f.Key.name (code.unfolded 𝓤 𝓛.H 𝓜 𝓡 wired) (λ x w. refl) (λ x. tt) (λ d. refl)
