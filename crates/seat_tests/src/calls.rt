@@ -146,6 +146,11 @@ impl<B: Board> House<B> {
         }
     }
 
+    /// Plans each of these, the transaction and the tick. Whether all were granted.
+    pub fn plan_each(&mut self, plans: &[(u32, Tick)]) -> bool {
+        plan_each(&self.plant, &mut self.operator, plans)
+    }
+
     /// How many entries were drained, at most so many.
     pub fn drain(&mut self, most: usize, into: &mut Vec<Entry>) -> Option<usize> {
         drained(&self.plant, &mut self.operator, most, into)

@@ -7,9 +7,9 @@ mod calls;
 mod ends;
 mod growths;
 mod held;
-mod hostile;
 mod house;
 mod pairs;
+mod progress;
 mod told;
 mod turns;
 mod workers;
@@ -20,7 +20,6 @@ use calls::Ask;
 use ends::{ends_of, waits};
 use growths::try_growths;
 use held::told_while_held;
-use hostile::{Hostile, take_hostile_turns};
 use house::{House, Opens, closed, new_house};
 use pairs::planned_by_two;
 use rt_base::{End, TxId};
@@ -31,7 +30,7 @@ use std::thread::Threads;
 use step_journal::Entry;
 use test_sets::{Told, declared, entry_of};
 use told::{has_told, is_legal};
-use turns::{Kept, Turned, take_turns};
+use turns::{Kept, take_turns};
 use txn_set::CompiledSet;
 use workers::{case_of, counts, ran};
 
@@ -125,44 +124,44 @@ fn committed(kept: &Kept) -> [usize; 3] {
     [samples, controls, logs]
 }
 
-// Writes whether a history that was drained whole is legal and has what each seat was told, and how many jobs committed.
+// Writes whether a history that was drained whole is legal and has what each seat was told, how many jobs committed, and how
+// many operations were refused for good.
 fn judge(
     alloc: Global,
     set: &CompiledSet,
     history: &[Entry],
     kept: &Kept,
-    all_drained: bool,
     said: &mut String,
 ) -> Option<()> {
     let legal = is_legal(alloc, set, history)?;
     let once = told_once(alloc, history, kept)?;
-    let committed = committed(kept);
+    let (committed, refused) = (committed(kept), kept.refused);
     write!(
         said,
-        "drained {all_drained}, legal {legal}, told once {once:?}, committed {committed:?}"
+        "legal {legal}, told once {once:?}, committed {committed:?}, refused for good {refused:?}"
     )
     .ok()
 }
 
-// Writes whether what was drained and what was kept is one legal history, whatever the schedule was.
-fn judge_turns<B: Board + Drop>(
+// Lets each seat of a new plant take its turns on a thread of its own, and writes whether what was drained and what was left
+// is one legal history, whatever the schedule was; it is kept.
+fn run_turns<R: Threads + Wait + Sync, B: Opens + Send + Drop>(
+    rt: &R,
     alloc: Global,
-    set: &CompiledSet,
-    turned: Turned<B>,
+    scene: &mut Scene<B>,
+    is_hostile: bool,
     said: &mut String,
 ) -> Option<()> {
-    let Turned {
-        mut drained,
-        kept,
-        board,
-    } = turned;
-    let all_drained = board.first() == drained.len() as u64;
-    let whole = drained.extend_from_slice(board.entries());
+    let set = &scene.told.as_ref()?.set;
+    let (board, mut kept) = take_turns(rt, alloc, new_house::<B>(alloc, set)?, is_hostile)?;
+    let all_drained = board.first() == kept.drained.len() as u64;
+    let whole = kept.drained.extend_from_slice(board.entries());
     drop(board);
-    let judged = judge(alloc, set, drained.as_slice(), &kept, all_drained, said);
-    drop(kept);
-    drop(drained);
-    whole.ok().and(judged)
+    whole.ok()?;
+    write!(said, "drained {all_drained}, ").ok()?;
+    let judged = judge(alloc, set, kept.drained.as_slice(), &kept, said);
+    scene.entries = kept.drained;
+    judged
 }
 
 // A run of workers on a new plant, whose answer is written; the entries that its out took are kept.
@@ -185,29 +184,6 @@ fn run<R: Threads + Wait + Sync, B: Opens + Send + Drop>(
     let (answer, entries) = ran(rt, alloc, house, number, case).ok()?;
     scene.entries = entries;
     write!(said, "{answer:?}").ok()
-}
-
-// A run of hostile callers on a new plant.
-fn run_hostile<R: Threads + Wait + Sync, B: Opens + Send + Drop>(
-    rt: &R,
-    alloc: Global,
-    scene: &mut Scene<B>,
-    said: &mut String,
-) -> Option<()> {
-    let set = &scene.told.as_ref()?.set;
-    let Hostile {
-        history,
-        refused,
-        all_drained,
-    } = take_hostile_turns(rt, alloc, new_house::<B>(alloc, set)?)?;
-    let legal = is_legal(alloc, set, history.as_slice());
-    scene.entries = history;
-    let legal = legal?;
-    write!(
-        said,
-        "drained {all_drained}, legal {legal}, refused for good {refused:?}"
-    )
-    .ok()
 }
 
 // Writes how the jobs of a transaction ended in the last run.
@@ -250,7 +226,7 @@ fn write_jobs(entries: &[Entry], tx: &str, end: End, said: &mut String) -> Optio
     write!(said, "{ends} of {plans}").ok()
 }
 
-// Lets two threads plan on a new plant, or each seat take its turns on a thread of its own, and writes what they were told.
+// Lets two threads plan on a new plant, or try while another has the turn, and writes what they were told.
 fn with_threads<R: Threads + Wait + Sync, B: Opens + Send + Drop>(
     rt: &R,
     alloc: Global,
@@ -262,10 +238,6 @@ fn with_threads<R: Threads + Wait + Sync, B: Opens + Send + Drop>(
         "pair" => {
             let answers = planned_by_two(rt, alloc, new_house::<B>(alloc, &told.set)?)?;
             write!(said, "{answers:?}").ok()
-        }
-        "turns" => {
-            let turned = take_turns(rt, alloc, new_house::<B>(alloc, &told.set)?)?;
-            judge_turns(alloc, &told.set, turned, said)
         }
         _ => {
             let answers = told_while_held::<R, B>(rt, alloc, &told.set)?;
@@ -297,11 +269,10 @@ fn follow<R: Threads + Wait + Sync, B: Opens + Send + Drop>(
         "drain" => drain(scene, rest, said),
         "close" => close(alloc, scene, said),
         "operator" | "sample" | "control" | "logger" => ask_at(rt, scene, word, rest, said),
-        "pair" | "turns" | "held" => {
-            with_threads::<R, B>(rt, alloc, scene.told.as_ref()?, word, said)
-        }
+        "pair" | "held" => with_threads::<R, B>(rt, alloc, scene.told.as_ref()?, word, said),
+        "turns" => run_turns(rt, alloc, scene, false, said),
+        "hostile" => run_turns(rt, alloc, scene, true, said),
         "run" => run(rt, alloc, scene, rest, said),
-        "hostile" => run_hostile(rt, alloc, scene, said),
         "ends" => write_ends(alloc, scene, rest, said),
         _ => write_seen(scene.entries.as_slice(), word, rest, said),
     }

@@ -1,22 +1,19 @@
-//! What each seat does on a thread of its own: a sampler, a controller and a logger run their scripts, and the operator
-//! drains. Each goes on until its jobs are over, and makes so many tries at most, so that it ends whatever the others do.
-ghost use Rattle.std.specs.Prelude.{◌≡◌, Some, None, IfSome};
+//! What each seat does on a thread of its own: a sampler, a controller and a logger run their jobs, and the operator drains.
+//! Each goes on until its jobs are over, and makes so many tries at most, so that it ends whatever the others do.
+ghost use Rattle.std.specs.Prelude.{◌≡◌, Some, None};
 ghost use Rattle.shared_plant.specs.Seats.{IsOf};
 ghost use Rattle.rt_base.specs.declared.ids.TxId.{TxId as Transaction};
 
-use crate::calls::{drained, idled, plan_each, replied};
+use crate::calls::{drained, idled, replied};
 use crate::house::{House, closed};
+use crate::progress::Progress;
 use board::{Board, StepReply};
-use rt_base::{End, ItemId, JobId, Op, Outcome, Tick, TxId, Value};
+use rt_base::{JobId, Op, Tick, TxId};
 use shared_plant::{Plant, Seat};
 use std::alloc::Global;
 use std::thread;
 use std::thread::{Threads, join};
 use step_journal::Entry;
-
-const TEMP: ItemId = ItemId(0);
-
-const VALVE: ItemId = ItemId(1);
 
 // Far more than a caller needs, even where another's thread starts late.
 const TRIES: u32 = 1 << 24;
@@ -26,50 +23,13 @@ const DRAINS: u32 = 10_000;
 /// The releases of the sampler, the controller and the logger.
 pub const PLANS: [(u32, Tick); 7] = [(0, 0), (0, 10), (0, 20), (0, 30), (1, 0), (1, 20), (2, 0)];
 
-/// A seat with what its caller keeps: the entries that its calls appended, with 0 for the tick, or those that it drained.
+/// A seat with what its caller keeps: the entries that its calls appended, with 0 for the tick, or those that it drained; and
+/// how many of its operations were refused for good.
 #[derive(Drop)]
 struct Caller<B: Board> {
     seat: Seat<B>,
     kept: Vec<Entry>,
-}
-
-/// How far the caller of a transaction is: the job, its next operation, and the value that it read last.
-#[derive(Clone, Copy)]
-struct Progress {
-    serial: u32,
-    at: u32,
-    read: Value,
-}
-
-impl Progress {
-    fn after(self, outcome: Outcome, over: Option<End>) -> Progress {
-        let mut next = self;
-        if let Outcome::Got { value, stamp: _ } = outcome {
-            next.read = value;
-        }
-        if over.is_some() {
-            next.serial = next.serial.saturating_add(1);
-            next.at = 0;
-        } else {
-            next.at = next.at.saturating_add(1);
-        }
-        next
-    }
-
-    // The next operation of a transaction's script.
-    fn op(self, tx: TxId) -> Op {
-        match (tx.0, self.at) {
-            (0, 0) => {
-                let sampled = Value::from(self.serial).saturating_mul(2).saturating_add(5);
-                Op::Write(TEMP, sampled)
-            }
-            (1, 0) | (2, 0) => Op::Read(TEMP),
-            (2, 1) => Op::Read(VALVE),
-            (1, 2) => Op::Write(VALVE, self.read.saturating_add(100)),
-            (1, 1) | (2, 2..=4) => Op::Compute,
-            _ => Op::Commit,
-        }
-    }
+    refused: u32,
 }
 
 fn note(kept: &mut Vec<Entry>, entry: Entry) {
@@ -78,43 +38,56 @@ fn note(kept: &mut Vec<Entry>, entry: Entry) {
     }
 }
 
-// Keeps the entry that a reply tells of, and says how far the caller is then.
-fn noted(
-    kept: &mut Vec<Entry>,
-    job: JobId,
-    op: Op,
-    reply: Option<StepReply>,
-    now: Progress,
-) -> Progress {
+// The entry that a reply tells of, with 0 for the tick.
+fn told(job: JobId, op: Op, reply: StepReply) -> Option<Entry> {
     let tick = 0;
     match reply {
-        Some(StepReply::Done { outcome, over }) => {
-            note(
-                kept,
-                Entry::Step {
-                    job,
-                    op,
-                    outcome,
-                    over,
-                    tick,
-                },
-            );
-            now.after(outcome, over)
-        }
-        Some(StepReply::Blocked { by, ceiling }) => {
-            note(
-                kept,
-                Entry::Blocked {
-                    job,
-                    op,
-                    by,
-                    ceiling,
-                    tick,
-                },
-            );
+        StepReply::Done { outcome, over } => Some(Entry::Step {
+            job,
+            op,
+            outcome,
+            over,
+            tick,
+        }),
+        StepReply::Blocked { by, ceiling } => Some(Entry::Blocked {
+            job,
+            op,
+            by,
+            ceiling,
+            tick,
+        }),
+        _ => None,
+    }
+}
+
+// How far the caller is after a reply; where its job is not released yet the time goes on.
+fn after<B: Board>(
+    plant: &Plant<B>,
+    caller: &mut Caller<B>,
+    reply: Option<StepReply>,
+    now: Progress,
+) -> Progress
+    requires { IsOf plant.now caller.old.seat }
+    ensures { (caller.new.seat.plant ≡ caller.old.seat.plant) × (caller.new.seat.tx ≡ caller.old.seat.tx) }
+{
+    match reply {
+        Some(StepReply::Done { outcome, over }) => now.after(outcome, over),
+        Some(
+            StepReply::Undeclared { .. } | StepReply::TooEarly { .. } | StepReply::Unwritten { .. },
+        ) => now.after_refusal(),
+        Some(StepReply::NoJob { ended, last: _ }) => {
+            if ended > now.serial {
+                return now.of(ended);
+            }
+            if let Some(to) = idled(plant, &mut caller.seat) {
+                note(&mut caller.kept, Entry::Idle { from: 0, to });
+            }
             now
         }
-        _ => now,
+        _ => {
+            thread::yield_now();
+            now
+        }
     }
 }
 
@@ -129,16 +102,12 @@ fn try_once<B: Board>(plant: &Plant<B>, caller: &mut Caller<B>, tx: TxId, now: P
         serial: now.serial,
     };
     let reply = replied(plant, &mut caller.seat, now.serial, op);
-    match reply {
-        Some(StepReply::NoJob { .. }) => {
-            if let Some(to) = idled(plant, &mut caller.seat) {
-                note(&mut caller.kept, Entry::Idle { from: 0, to });
-            }
-        }
-        Some(StepReply::Done { .. }) | Some(StepReply::Blocked { .. }) => {}
-        _ => thread::yield_now(),
+    if let Some(reply) = reply
+        && let Some(entry) = told(job, op, reply)
+    {
+        note(&mut caller.kept, entry);
     }
-    noted(&mut caller.kept, job, op, reply, now)
+    after(plant, caller, reply, now)
 }
 
 // How many jobs of a transaction `PLANS` has.
@@ -150,21 +119,18 @@ fn jobs_of(tx: TxId) -> u32 {
     }
 }
 
-fn make_steps<B: Board>(plant: &Plant<B>, caller: &mut Caller<B>, tx: TxId)
+fn make_steps<B: Board>(plant: &Plant<B>, caller: &mut Caller<B>, tx: TxId, is_hostile: bool)
     requires { IsOf plant.now caller.old.seat × ((tx : Transaction) × (caller.old.seat.tx ≡ Some tx)) }
     ensures { (caller.new.seat.plant ≡ caller.old.seat.plant) × (caller.new.seat.tx ≡ caller.old.seat.tx) }
 {
-    let mut now = Progress {
-        serial: 0,
-        at: 0,
-        read: 0,
-    };
+    let mut now = Progress::new(is_hostile);
     for _ in 0..TRIES {
         if now.serial >= jobs_of(tx) {
-            return;
+            break;
         }
         now = try_once(plant, caller, tx, now);
     }
+    caller.refused = now.refused;
 }
 
 fn drain_often<B: Board>(plant: &Plant<B>, caller: &mut Caller<B>)
@@ -178,12 +144,12 @@ fn drain_often<B: Board>(plant: &Plant<B>, caller: &mut Caller<B>)
 }
 
 // A caller that takes its turns.
-fn after_turns<B: Board>(plant: &Plant<B>, mut caller: Caller<B>) -> Caller<B>
+fn after_turns<B: Board>(plant: &Plant<B>, mut caller: Caller<B>, is_hostile: bool) -> Caller<B>
     requires { IsOf plant.now caller.seat }
     ensures { (result.seat.plant ≡ caller.seat.plant) × (result.seat.tx ≡ caller.seat.tx) }
 {
     match caller.seat.tx() {
-        Some(tx) => make_steps(plant, &mut caller, tx),
+        Some(tx) => make_steps(plant, &mut caller, tx, is_hostile),
         None => drain_often(plant, &mut caller),
     }
     caller
@@ -195,6 +161,7 @@ fn two_turns<R: Threads, B: Board + Send>(
     plant: &Plant<B>,
     a: Caller<B>,
     b: Caller<B>,
+    is_hostile: bool,
 ) -> (Caller<B>, Caller<B>)
     requires { IsOf plant.now a.seat × IsOf plant.now b.seat }
     ensures a { (result.0.seat.plant ≡ a.seat.plant) × (result.0.seat.tx ≡ a.seat.tx) }
@@ -205,70 +172,94 @@ fn two_turns<R: Threads, B: Board + Send>(
         || -> Caller<B>
             requires { IsOf plant.now a.seat }
             ensures { (result.seat.plant ≡ a.seat.plant) × (result.seat.tx ≡ a.seat.tx) }
-        { after_turns(plant, a) },
+        { after_turns(plant, a, is_hostile) },
         || -> Caller<B>
             requires { IsOf plant.now b.seat }
             ensures { (result.seat.plant ≡ b.seat.plant) × (result.seat.tx ≡ b.seat.tx) }
-        { after_turns(plant, b) },
+        { after_turns(plant, b, is_hostile) },
     )
 }
 
-fn new_caller<B: Board>(alloc: Global, seat: Seat<B>) -> Option<Caller<B>>
-    ensures { IfSome result (λ c. c.seat ≡ seat) }
-{
-    match Vec::with_capacity(alloc, 4096) {
-        Ok(kept) => Some(Caller { seat, kept }),
-        Err(_) => None,
-    }
-}
-
-/// What the three callers kept.
+/// What the operator drained, what the three callers kept, and how many operations of theirs were refused for good.
 #[derive(Drop)]
 pub struct Kept {
+    pub drained: Vec<Entry>,
     pub sample: Vec<Entry>,
     pub control: Vec<Entry>,
     pub logger: Vec<Entry>,
+    pub refused: [u32; 3],
 }
 
-/// What was drained, what the callers kept, and the board that was left.
-#[derive(Drop)]
-pub struct Turned<B> {
-    pub drained: Vec<Entry>,
-    pub kept: Kept,
-    pub board: B,
+fn book(alloc: Global) -> Option<Vec<Entry>> {
+    Vec::with_capacity(alloc, 4096).ok()
 }
 
-/// Plans the releases, and lets all callers take their turns at once.
+fn new_kept(alloc: Global) -> Option<Kept> {
+    Some(Kept {
+        drained: book(alloc)?,
+        sample: book(alloc)?,
+        control: book(alloc)?,
+        logger: book(alloc)?,
+        refused: [0, 0, 0],
+    })
+}
+
+fn new_caller<B: Board>(seat: Seat<B>, kept: Vec<Entry>) -> Caller<B>
+    ensures { result.seat ≡ seat }
+{
+    Caller {
+        seat,
+        kept,
+        refused: 0,
+    }
+}
+
+/// Plans the releases, and lets all callers take their turns at once: the board that was left, and what was drained and kept.
 pub fn take_turns<R: Threads + Sync, B: Board + Send + Drop>(
     rt: &R,
     alloc: Global,
-    house: House<B>,
-) -> Option<Turned<B>> {
+    mut house: House<B>,
+    is_hostile: bool,
+) -> Option<(B, Kept)> {
+    let kept = new_kept(alloc)?;
+    if !house.plan_each(&PLANS) {
+        return None;
+    }
     let House {
         plant,
-        mut operator,
+        operator,
         sample,
         control,
         logger,
     } = house;
-    if !plan_each(&plant, &mut operator, &PLANS) {
-        return None;
-    }
-    let (o, s) = (new_caller(alloc, operator)?, new_caller(alloc, sample)?);
-    let (c, l) = (new_caller(alloc, control)?, new_caller(alloc, logger)?);
+    let (o, s) = (
+        new_caller(operator, kept.drained),
+        new_caller(sample, kept.sample),
+    );
+    let (c, l) = (
+        new_caller(control, kept.control),
+        new_caller(logger, kept.logger),
+    );
     let ((o, s), (c, l)) = join(
         rt,
         || -> (Caller<B>, Caller<B>)
             requires { IsOf plant o.seat × IsOf plant s.seat }
             ensures o { (result.0.seat.plant ≡ o.seat.plant) × (result.0.seat.tx ≡ o.seat.tx) }
             ensures s { (result.1.seat.plant ≡ s.seat.plant) × (result.1.seat.tx ≡ s.seat.tx) }
-        { two_turns(rt, &plant, o, s) },
+        { two_turns(rt, &plant, o, s, is_hostile) },
         || -> (Caller<B>, Caller<B>)
             requires { IsOf plant c.seat × IsOf plant l.seat }
             ensures c { (result.0.seat.plant ≡ c.seat.plant) × (result.0.seat.tx ≡ c.seat.tx) }
             ensures l { (result.1.seat.plant ≡ l.seat.plant) × (result.1.seat.tx ≡ l.seat.tx) }
-        { two_turns(rt, &plant, c, l) },
+        { two_turns(rt, &plant, c, l, is_hostile) },
     );
+    let kept = Kept {
+        drained: o.kept,
+        sample: s.kept,
+        control: c.kept,
+        logger: l.kept,
+        refused: [s.refused, c.refused, l.refused],
+    };
     let house = House {
         plant,
         operator: o.seat,
@@ -277,13 +268,5 @@ pub fn take_turns<R: Threads + Sync, B: Board + Send + Drop>(
         logger: l.seat,
     };
     let (_, _, board) = closed(alloc, house)?;
-    Some(Turned {
-        drained: o.kept,
-        kept: Kept {
-            sample: s.kept,
-            control: c.kept,
-            logger: l.kept,
-        },
-        board,
-    })
+    Some((board, kept))
 }
