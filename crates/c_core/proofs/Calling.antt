@@ -14,10 +14,10 @@ use Rattle.board.specs.Histories.{noted, plan_entry, plan_next_entry, step_entry
 use Rattle.lock_core.specs.Promises.{IsLawfulStep}
 use Rattle.lock_core.specs.Seen.{CoreSeen, set_of, kept_by}
 use Rattle.lock_core.specs.Stands.{Stands}
-use Rattle.c_core.specs.declared.forms.StepForm.{StepForm}
-use Rattle.c_core.specs.declared.forms.TimeForm.{TimeForm}
-use Rattle.c_core.specs.declared.entries.EntryForm.{EntryForm}
-use Rattle.c_core.specs.Forms.{form_of_step, form_of_plan, form_of_plan_next, form_of_idle, form_of_entry}
+use Rattle.c_forms.specs.declared.forms.StepForm.{StepForm}
+use Rattle.c_forms.specs.declared.forms.TimeForm.{TimeForm}
+use Rattle.c_forms.specs.declared.entries.EntryForm.{EntryForm}
+use Rattle.c_forms.specs.Forms.{form_of_step, form_of_plan, form_of_plan_next, form_of_idle, form_of_entry}
 use Rattle.c_core.specs.Calls.{tx_status, step_reply_of, plan_reply_of, plan_next_reply_of, idle_reply_of}
 use Rattle.c_core.specs.Called.{Keeps, AskedOf, Planned, PlannedNext, Idled, Drained}
 use Rattle.c_core.specs.Open.{OpenSeen, KeepsBoundsOf}

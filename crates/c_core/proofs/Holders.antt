@@ -1,22 +1,18 @@
--- The structs of two words that own the same: a slot, and the handles.
+-- The structs of two words that own what a slot owns: the handles of a core and of a seat.
 use Rattle.std.proofs.Common.{refl}
 use denote.RattleType.{RattleType}
 use denote.Struct.Owning.{shape}
 use Rattle.c_core.specs.contracts.checked.CheckedCore as checked
 use Rattle.c_core.specs.contracts.seat_station.SeatStation as seat_station
-use Rattle.c_core.specs.contracts.slot.Slot as slot
 use Rattle.c_core.specs.contracts.handle.Handle as handle
 use Rattle.c_core.specs.contracts.seat.SeatHandle as seat_handle
-use Rattle.c_core.proofs.Moved.{Holder}
+use Rattle.c_forms.proofs.Moved.{Holder}
 
 abbrev pub Core : RattleType
 Core = checked.the_row
 
 abbrev pub Seat : RattleType
 Seat = seat_station.the_row
-
-abbrev pub slot_of : (T : RattleType) → Holder T
-slot_of T = record { row = slot.the_row T; shape = shape (slot.the_type T); parts = λ d. (d.at, d.alloc, d.value); make = λ x. record { at = x.0; alloc = x.1; value = x.2 }; made = λ x. refl }
 
 abbrev pub handle_of_core : Holder Core
 handle_of_core = record { row = handle.the_row; shape = shape handle.the_type; parts = λ d. (d.at, d.alloc, d.core); make = λ x. record { at = x.0; alloc = x.1; core = x.2 }; made = λ x. refl }

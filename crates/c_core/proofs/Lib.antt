@@ -1,17 +1,6 @@
-pub mod Steps
-pub mod BoxApart
-pub mod Apart
-pub mod Moved
 pub mod Holders
-pub mod Crosses
 pub mod Calling
-pub mod Mapped
-pub mod Back
-pub mod Putting
-pub mod Ranges
 pub mod Over
-pub mod Told
-pub mod MarginsBack
 pub mod Handing
 pub mod Saying
 pub mod Trying

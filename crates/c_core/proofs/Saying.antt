@@ -17,12 +17,12 @@ use Rattle.board.specs.Histories.{plan_entry, plan_next_entry, step_entry, idle_
 use Rattle.shared_plant.specs.Seats.{PlantFacts, SeatFacts}
 use Rattle.shared_plant.specs.Answers.{Answered, Drained, nothing}
 use Rattle.c_core.specs.Calls.{in_set}
-use Rattle.c_core.specs.Forms.{op_named, form_of_step, form_of_plan, form_of_plan_next, form_of_idle, form_of_entry}
+use Rattle.c_forms.specs.Forms.{op_named, form_of_step, form_of_plan, form_of_plan_next, form_of_idle, form_of_entry}
 use Rattle.c_core.specs.declared.checked.StoredForm.{StoredForm}
-use Rattle.c_core.specs.declared.forms.OpForm.{OpForm}
-use Rattle.c_core.specs.declared.forms.StepForm.{StepForm}
-use Rattle.c_core.specs.declared.forms.TimeForm.{TimeForm}
-use Rattle.c_core.specs.declared.entries.EntryForm.{EntryForm}
+use Rattle.c_forms.specs.declared.forms.OpForm.{OpForm}
+use Rattle.c_forms.specs.declared.forms.StepForm.{StepForm}
+use Rattle.c_forms.specs.declared.forms.TimeForm.{TimeForm}
+use Rattle.c_forms.specs.declared.entries.EntryForm.{EntryForm}
 use Rattle.c_core.specs.Seats.{SeatSeen, seen_of}
 use Rattle.c_core.specs.Tries.{Tries, HadItsTurn, StepSaid, PlanSaid, PlanNextSaid, IdleSaid, DrainSaid, job_at, step_refusal, item_refusal, drain_refusal}
 use Rattle.c_core.proofs.Trying.{tells, had_turn}

@@ -14,16 +14,16 @@ use Rattle.txn_compiler.specs.Kept.{kept}
 use Rattle.txn_compiler.specs.Refusal.{compile_refusal}
 use Rattle.lock_core.specs.Stands.{Stands}
 use Rattle.c_core.specs.declared.checked.StoredForm.{StoredForm}
-use Rattle.c_core.specs.declared.forms.JobForm.{JobForm}
-use Rattle.c_core.specs.declared.forms.OpForm.{OpForm}
-use Rattle.c_core.specs.declared.forms.StepForm.{StepForm}
-use Rattle.c_core.specs.declared.forms.TimeForm.{TimeForm}
-use Rattle.c_core.specs.declared.entries.EntryForm.{EntryForm}
-use Rattle.c_core.specs.declared.tables.Tables.{Tables}
-use Rattle.c_core.specs.Forms.{op_named, job_of, form_of_step, form_of_plan, form_of_plan_next, form_of_idle, form_of_entry}
+use Rattle.c_forms.specs.declared.forms.JobForm.{JobForm}
+use Rattle.c_forms.specs.declared.forms.OpForm.{OpForm}
+use Rattle.c_forms.specs.declared.forms.StepForm.{StepForm}
+use Rattle.c_forms.specs.declared.forms.TimeForm.{TimeForm}
+use Rattle.c_forms.specs.declared.entries.EntryForm.{EntryForm}
+use Rattle.c_forms.specs.declared.tables.Tables.{Tables}
+use Rattle.c_forms.specs.Forms.{op_named, job_of, form_of_step, form_of_plan, form_of_plan_next, form_of_idle, form_of_entry}
 use Rattle.c_core.specs.Calls.{tx_status, item_status, step_status, bound_status, step_reply_of, plan_reply_of, plan_next_reply_of, idle_reply_of, IsRunning, IsAgeOf as IsAgeIn}
 use Rattle.c_core.specs.Open.{OpenSeen, KeepsBoundsOf}
-use Rattle.c_core.specs.Rows.{set_of_tables, FitTables}
+use Rattle.c_forms.specs.Rows.{set_of_tables, FitTables}
 
 -- a core is opened over the set of the tables, which are fit and admitted, at the opening state
 pub record Opened (tables : Tables) (room : ℕ) (s : OpenSeen) : Type 0 where

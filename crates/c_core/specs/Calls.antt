@@ -11,9 +11,9 @@ use Rattle.txn_set.specs.Set.{Set}
 use Rattle.item_model.specs.Kinds.{is_dated}
 use Rattle.set_admission.specs.Bounds.{age_of}
 use Rattle.lock_core.specs.Seen.{CoreSeen}
-use Rattle.c_core.specs.declared.forms.JobForm.{JobForm}
-use Rattle.c_core.specs.declared.forms.OpForm.{OpForm}
-use Rattle.c_core.specs.Forms.{op_named, form_of_job}
+use Rattle.c_forms.specs.declared.forms.JobForm.{JobForm}
+use Rattle.c_forms.specs.declared.forms.OpForm.{OpForm}
+use Rattle.c_forms.specs.Forms.{op_named, form_of_job}
 
 -- the same of a set
 abbrev pub in_set : Set → ℕ → ℕ

@@ -1,13 +1,5 @@
-pub mod Held
-pub mod Forms
-pub mod Back
-pub mod Rows
-pub mod Refusals
-pub mod Laws
 pub mod Calls
 pub mod Called
 pub mod Open
-pub mod Margins
-pub mod MarginLaws
 pub mod Seats
 pub mod Tries

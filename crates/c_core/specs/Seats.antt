@@ -8,8 +8,8 @@ use Rattle.law_times.specs.Ages.{IsAdmitted}
 use Rattle.txn_compiler.specs.Kept.{kept}
 use Rattle.admitted_core.specs.Seen.{AdmittedSeen}
 use Rattle.shared_plant.specs.Seats.{PlantFacts, SeatFacts, IsOf, newcomer, newcomers, tx_of}
-use Rattle.c_core.specs.declared.tables.Tables.{Tables}
-use Rattle.c_core.specs.Rows.{set_of_tables, FitTables}
+use Rattle.c_forms.specs.declared.tables.Tables.{Tables}
+use Rattle.c_forms.specs.Rows.{set_of_tables, FitTables}
 
 -- The plant, the seat, and how many transactions' seats it has that were not handed out.
 pub record SeatSeen : Type 0 where

@@ -12,12 +12,12 @@ use Rattle.step_journal.specs.History.{state_of}
 use Rattle.set_admission.specs.Laws.{KeepsBounds}
 use Rattle.shared_plant.specs.Answers.{Answered, Drained, nothing, missed_once}
 use Rattle.c_core.specs.Calls.{in_set}
-use Rattle.c_core.specs.Forms.{op_named, form_of_step, form_of_plan, form_of_plan_next, form_of_idle, form_of_entry}
+use Rattle.c_forms.specs.Forms.{op_named, form_of_step, form_of_plan, form_of_plan_next, form_of_idle, form_of_entry}
 use Rattle.c_core.specs.declared.checked.StoredForm.{StoredForm}
-use Rattle.c_core.specs.declared.forms.OpForm.{OpForm}
-use Rattle.c_core.specs.declared.forms.StepForm.{StepForm}
-use Rattle.c_core.specs.declared.forms.TimeForm.{TimeForm}
-use Rattle.c_core.specs.declared.entries.EntryForm.{EntryForm}
+use Rattle.c_forms.specs.declared.forms.OpForm.{OpForm}
+use Rattle.c_forms.specs.declared.forms.StepForm.{StepForm}
+use Rattle.c_forms.specs.declared.forms.TimeForm.{TimeForm}
+use Rattle.c_forms.specs.declared.entries.EntryForm.{EntryForm}
 use Rattle.c_core.specs.Seats.{SeatSeen, seen_of}
 
 -- a seat that found the turn taken once more: nothing else of it changes

@@ -7,17 +7,15 @@ ghost use Rattle.lock_core.specs.Stands.{Stands};
 ghost use Rattle.c_core.specs.Calls.{step_reply_of};
 ghost use Rattle.c_core.specs.Called.{AskedOf, Drained, Idled, IsAgeOf, IsBlockingOf, IsEndedOf, IsPendingOf, IsResponseOf, IsRunningOf, Keeps, Opened, OpenedTrial, Peeked, Planned, PlannedNext, Stepped};
 ghost use Rattle.c_core.specs.Open.{KeepsBoundsOf};
-ghost use Rattle.c_core.specs.Refusals.{WhyNotOpened, WhyNotTried};
+ghost use Rattle.c_forms.specs.Refusals.{WhyNotOpened, WhyNotTried};
 
-use crate::entries::{EntryForm, put_entries};
-use crate::forms::{
-    JobForm, OpForm, StepForm, TimeForm, idle_form, job_form, job_of, op_of, plan_form,
-    plan_next_form, put_done, put_reply,
-};
-use crate::refusals::{NOT_ADMITTED, Refused};
-use crate::tables::{Tables, compiled};
 use admitted_core::AdmittedCore;
 use board::{Board, StepReply};
+use c_forms::{
+    EntryForm, JobForm, NOT_ADMITTED, OK, OpForm, Refused, StepForm, Tables, TimeForm, compiled,
+    idle_form, job_form, job_of, op_of, plan_form, plan_next_form, put_done, put_entries,
+    put_reply,
+};
 use lock_core::Core;
 use rt_base::{ItemId, JobId, Op, OutOfMemory, Outcome, TxId};
 use set_admission::{AdmittedSet, admit};
@@ -25,9 +23,6 @@ use std::alloc::Global;
 use std::marker::Model;
 use step_journal::Entry;
 use txn_set::CompiledSet;
-
-/// The call was made.
-pub const OK: u32 = 0;
 
 /// The number names no operation.
 pub const NO_OPERATION: u32 = 3;

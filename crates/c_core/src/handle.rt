@@ -4,8 +4,8 @@ ghost use Rattle.std.specs.Coded.{coded_option};
 ghost use Rattle.c_core.specs.Open.{OpenSeen as Seen};
 ghost use Rattle.c_core.specs.contracts.checked.CheckedCore.{the_row};
 
-use crate::checked::{CheckedCore, OK};
-use crate::slot::Slot;
+use crate::checked::CheckedCore;
+use c_forms::{OK, Slot};
 use std::alloc::Global;
 use std::marker::Model;
 use std::mem;
@@ -24,7 +24,7 @@ pub struct Handle {
 
 impl Model for Handle {
     ghost use Rattle.c_core.specs.contracts.checked.CheckedCore.{the_row};
-    ghost use Rattle.c_core.specs.Held.{held};
+    ghost use Rattle.c_forms.specs.Held.{held};
 
     ghost also_owns = { λ h. held the_row h.alloc h.at h.core };
 }

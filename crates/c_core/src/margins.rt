@@ -1,11 +1,10 @@
 //! The margin of a core's set.
 ghost use Rattle.std.specs.Prelude.{◌≡◌, ◌≢◌, ◌⊎◌, IfOk};
 ghost use Rattle.scale_margin.specs.Margins.{IsMargin};
-ghost use Rattle.c_core.specs.Margins.{ToldMargin};
+ghost use Rattle.c_forms.specs.Margins.{ToldMargin};
 
-use crate::checked::{CheckedCore, OK};
-use crate::margin_forms::{MarginForm, margin_form};
-use crate::refusals::NO_MEMORY;
+use crate::checked::CheckedCore;
+use c_forms::{MarginForm, NO_MEMORY, OK, margin_form};
 use rt_base::{OutOfMemory, Steps};
 use scale_margin::{Margin, margin};
 use std::alloc::Global;

@@ -1,15 +1,14 @@
 //! A plant over tables.
 ghost use Rattle.std.specs.Prelude.{◌≡◌, [], IfOk, IfErr, Some};
 ghost use Rattle.lock_core.specs.Stands.{Stands};
-ghost use Rattle.c_core.specs.Refusals.{WhyNotOpened};
+ghost use Rattle.c_forms.specs.Refusals.{WhyNotOpened};
 ghost use Rattle.c_core.specs.Seats.{IsStarted, PlantOpened};
 
 use crate::checked::{CheckedCore, places};
-use crate::refusals::Refused;
 use crate::seat_station::SeatStation;
-use crate::tables::Tables;
 use admitted_core::AdmittedCore;
 use board::Board;
+use c_forms::{Refused, Tables};
 use rt_base::OutOfMemory;
 use shared_plant::Plant;
 use std::alloc::Global;

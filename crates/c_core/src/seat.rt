@@ -5,7 +5,7 @@ ghost use Rattle.c_core.specs.Seats.{SeatSeen as Seen};
 ghost use Rattle.c_core.specs.contracts.seat_station.SeatStation.{the_row};
 
 use crate::seat_station::SeatStation;
-use crate::slot::Slot;
+use c_forms::Slot;
 use std::alloc::Global;
 use std::marker::Model;
 use std::mem;
@@ -21,7 +21,7 @@ pub struct SeatHandle {
 
 impl Model for SeatHandle {
     ghost use Rattle.c_core.specs.contracts.seat_station.SeatStation.{the_row};
-    ghost use Rattle.c_core.specs.Held.{held};
+    ghost use Rattle.c_forms.specs.Held.{held};
 
     ghost also_owns = { λ h. held the_row h.alloc h.at h.seat };
 }

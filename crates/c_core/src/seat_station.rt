@@ -7,13 +7,12 @@ ghost use Rattle.shared_plant.specs.Seats.{newcomer};
 ghost use Rattle.c_core.specs.Seats.{SeatSeen, HandsOut, WhyNoneHanded};
 ghost use Rattle.c_core.specs.Tries.{SeatStepped, SeatPlanned, SeatPlannedNext, SeatIdled, SeatPeeked, SeatDrained};
 
-use crate::checked::{NO_ITEM, NO_OPERATION, NO_TRANSACTION, NOTHING, OK, StoredForm};
-use crate::entries::{EntryForm, put_entries};
-use crate::forms::{
-    OpForm, StepForm, TimeForm, idle_form, op_of, plan_form, plan_next_form, put_step,
-};
-use crate::refusals::NO_MEMORY;
+use crate::checked::{NO_ITEM, NO_OPERATION, NO_TRANSACTION, NOTHING, StoredForm};
 use admitted_core::AdmittedCore;
+use c_forms::{
+    EntryForm, NO_MEMORY, OK, OpForm, StepForm, TimeForm, idle_form, op_of, plan_form,
+    plan_next_form, put_entries, put_step,
+};
 use rt_base::{ItemId, TxId};
 use shared_plant::{Plant, Seat, Tried};
 use std::alloc::Global;

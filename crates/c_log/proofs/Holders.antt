@@ -2,7 +2,7 @@
 use Rattle.std.proofs.Common.{refl}
 use denote.RattleType.{RattleType}
 use denote.Struct.Owning.{shape}
-use Rattle.c_core.proofs.Moved.{Holder}
+use Rattle.c_forms.proofs.Moved.{Holder}
 use Rattle.c_log.specs.contracts.station.LogStation as station
 use Rattle.c_log.specs.contracts.log_handle.LogHandle as log_handle
 

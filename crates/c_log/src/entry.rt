@@ -2,9 +2,9 @@
 ghost use Rattle.std.specs.Prelude.{◌≡◌, ◌≤◌, ◌↔◌, ◌<◌, [], length, map, IsTrue, true, false, vec_capacity};
 ghost use Rattle.std.specs.List.{All};
 ghost use Rattle.journal_text.specs.Lines.{Answers, IsWritable, KnownEnd, KnownOp, KnownOver};
-ghost use Rattle.c_core.specs.Back.{entry_of as entry_of_form};
+ghost use Rattle.c_forms.specs.Back.{entry_of as entry_of_form};
 
-use c_core::{EntryForm, entry_of};
+use c_forms::{EntryForm, entry_of};
 use rt_base::{End, ItemId, Names, Op, Outcome, TxId};
 use step_journal::Entry;
 

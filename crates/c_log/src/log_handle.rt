@@ -5,7 +5,7 @@ ghost use Rattle.c_log.specs.Kept.{Station as Seen};
 ghost use Rattle.c_log.specs.contracts.station.LogStation.{the_row};
 
 use crate::station::LogStation;
-use c_core::Slot;
+use c_forms::Slot;
 use std::alloc::Global;
 use std::marker::Model;
 use std::mem;
@@ -21,7 +21,7 @@ pub struct LogHandle {
 
 impl Model for LogHandle {
     ghost use Rattle.c_log.specs.contracts.station.LogStation.{the_row};
-    ghost use Rattle.c_core.specs.Held.{held};
+    ghost use Rattle.c_forms.specs.Held.{held};
 
     ghost also_owns = { λ h. held the_row h.alloc h.at h.station };
 }

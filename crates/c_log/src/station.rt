@@ -1,6 +1,6 @@
 //! A log whose calls another program makes on its file.
 ghost use Rattle.std.specs.Prelude.{◌≡◌, ◌+◌, ◌<◌, ◌≤◌, [], length, map, option_map, true, false, None, IfOk, IfErr, OnOk, OnErr, vec_capacity};
-ghost use Rattle.c_core.specs.Back.{entry_of as entry_of_form};
+ghost use Rattle.c_forms.specs.Back.{entry_of as entry_of_form};
 ghost use Rattle.c_log.specs.Opening.{IsOpenedBy, WhyNotOpened};
 ghost use Rattle.c_log.specs.Appending.{Appended, WhyNotAppended};
 ghost use Rattle.c_log.specs.Answering.{MadeOne, next_of};
@@ -12,7 +12,7 @@ use crate::lines::Lines;
 use crate::opening::open_file;
 use crate::queue::Queue;
 use crate::refused::{AppendRefused, LogRefused};
-use c_core::EntryForm;
+use c_forms::EntryForm;
 use rt_base::{Names, OutOfMemory};
 use std::alloc::Global;
 use std::marker::Model;

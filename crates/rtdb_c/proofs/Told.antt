@@ -6,9 +6,9 @@ use Rattle.txn_compiler.specs.declared.error.Which.TheVariants as which
 use Rattle.txn_compiler.specs.declared.error.CompileError.TheVariants as rule
 use Rattle.set_admission.specs.declared.error.AdmitError.TheVariants as admission
 use Rattle.refusal_lines.specs.Causes.{word, number, which_text}
-use Rattle.c_core.specs.declared.refusals.RefusalForm.{RefusalForm}
-use Rattle.c_core.specs.declared.refusals.Refused.TheVariants as refused
-use Rattle.c_core.specs.Refusals.{which_of}
+use Rattle.c_forms.specs.declared.refusals.RefusalForm.{RefusalForm}
+use Rattle.c_forms.specs.declared.refusals.Refused.TheVariants as refused
+use Rattle.c_forms.specs.Refusals.{which_of}
 use Rattle.rtdb_c.specs.Texts.{item_name, txn_name, numbered, names_for, rule_text, admission_text}
 use Rattle.rtdb_c.specs.Laws.{NumbersAreNames, RefusalsAreTold}
 

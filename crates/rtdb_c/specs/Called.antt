@@ -4,10 +4,10 @@ use Rattle.step_journal.specs.declared.entry.Entry.{Entry}
 use Rattle.board.specs.Histories.{now_of, planned_of}
 use Rattle.lock_core.specs.Stands.{Stands}
 use Rattle.c_core.specs.Open.{OpenSeen}
-use Rattle.c_core.specs.declared.tables.Tables.{Tables}
-use Rattle.c_core.specs.declared.refusals.Refused.{Refused}
-use Rattle.c_core.specs.declared.refusals.RefusalForm.{RefusalForm}
-use Rattle.c_core.specs.Refusals.{WhyNotOpened, WhyNotTried, form_of_refusal}
+use Rattle.c_forms.specs.declared.tables.Tables.{Tables}
+use Rattle.c_forms.specs.declared.refusals.Refused.{Refused}
+use Rattle.c_forms.specs.declared.refusals.RefusalForm.{RefusalForm}
+use Rattle.c_forms.specs.Refusals.{WhyNotOpened, WhyNotTried, form_of_refusal}
 
 abbrev pub Called : Option OpenSeen → Option OpenSeen → Type 0 → (OpenSeen → OpenSeen → Type 0) → Type 0
 Called None None closed call = closed

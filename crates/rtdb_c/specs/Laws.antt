@@ -2,9 +2,9 @@
 use Rattle.std.specs.Prelude.{◌≡◌, ℕ, ◌<◌, List, [], ◌++◌, codes, slice_index_or}
 use Rattle.rt_base.specs.declared.name.Names.{Names}
 use Rattle.refusal_lines.specs.Causes.{number, compile_cause, admit_cause}
-use Rattle.c_core.specs.declared.refusals.Refused.{Refused}
-use Rattle.c_core.specs.declared.refusals.Refused.TheVariants as refused
-use Rattle.c_core.specs.Refusals.{form_of_refusal, plain}
+use Rattle.c_forms.specs.declared.refusals.Refused.{Refused}
+use Rattle.c_forms.specs.declared.refusals.Refused.TheVariants as refused
+use Rattle.c_forms.specs.Refusals.{form_of_refusal, plain}
 use Rattle.rtdb_c.specs.Texts.{item_name, txn_name, numbered, names_for, text_of}
 
 -- each number names the item and the transaction that it is

@@ -1,10 +1,10 @@
 -- A call by the handle of a log: `closed` where it is closed and stays so, and else `call` of the station before and after.
 use Rattle.std.specs.Prelude.{◌≡◌, ◌≢◌, ◌+◌, ◌<◌, ◌≤◌, ◌++◌, ℕ, List, length, drop, Option, None, Some, slice_get, true, false}
 use Rattle.step_journal.specs.declared.entry.Entry.{Entry}
-use Rattle.c_core.specs.declared.entries.EntryForm.{EntryForm}
-use Rattle.c_core.specs.declared.refusals.RefusalForm.{RefusalForm}
-use Rattle.c_core.specs.Forms.{form_of_entry}
-use Rattle.c_core.specs.Refusals.{bare_refusal, form_of_rule}
+use Rattle.c_forms.specs.declared.entries.EntryForm.{EntryForm}
+use Rattle.c_forms.specs.declared.refusals.RefusalForm.{RefusalForm}
+use Rattle.c_forms.specs.Forms.{form_of_entry}
+use Rattle.c_forms.specs.Refusals.{bare_refusal, form_of_rule}
 use Rattle.c_log.specs.declared.call.Call.{Call}
 use Rattle.c_log.specs.declared.call.Call.TheVariants as call
 use Rattle.c_log.specs.Calls.{bytes_of}

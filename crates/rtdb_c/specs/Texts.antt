@@ -3,8 +3,8 @@ use Rattle.std.specs.Prelude.{ℕ, ◌+◌, ◌==◌, ◌&&◌, nat_le, if◌the
 use Rattle.std.specs.List.{range_with_len}
 use Rattle.rt_base.specs.declared.name.Names.{Names}
 use Rattle.refusal_lines.specs.Causes.{number, compile_cause, admit_cause}
-use Rattle.c_core.specs.declared.refusals.RefusalForm.{RefusalForm}
-use Rattle.c_core.specs.Refusals.{rule_of, admission_of}
+use Rattle.c_forms.specs.declared.refusals.RefusalForm.{RefusalForm}
+use Rattle.c_forms.specs.Refusals.{rule_of, admission_of}
 
 abbrev pub item_name : ℕ → List ℕ
 item_name i = codes "item" ++ decimal i

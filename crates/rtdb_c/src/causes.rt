@@ -1,11 +1,11 @@
 //! Causes.
 ghost use Rattle.std.specs.Prelude.{◌≡◌, ◌≤◌, ◌++◌, length, codes};
 ghost use Rattle.refusal_lines.specs.Causes.{word, number, which_text};
-ghost use Rattle.c_core.specs.Refusals.{which_of};
+ghost use Rattle.c_forms.specs.Refusals.{which_of};
 ghost use Rattle.rtdb_c.specs.Texts.{item_name, txn_name, later_word, status_word, table_text, rule_text, admission_text};
 
 use crate::words::{Words, begun, put_item, put_number, put_txn, put_word};
-use c_core::RefusalForm;
+use c_forms::RefusalForm;
 
 // A word and a number.
 fn counted(cause: &[u8], n: u64) -> Words

@@ -5,8 +5,8 @@
 #![tactic(auto)]
 
 ghost use Rattle.std.specs.Prelude.{◌≡◌, ◌≢◌, None, MatchOption, IfOk, IfErr, IfSome, IsSomeAnd};
-ghost use Rattle.c_core.specs.Refusals.{WhyNotOpened, WhyNotTried, form_of_refusal};
-ghost use Rattle.c_core.specs.declared.refusals.Refused.TheVariants.{OutOfMemory as WantOfMemory};
+ghost use Rattle.c_forms.specs.Refusals.{WhyNotOpened, WhyNotTried, form_of_refusal};
+ghost use Rattle.c_forms.specs.declared.refusals.Refused.TheVariants.{OutOfMemory as WantOfMemory};
 ghost use Rattle.c_core.specs.Called.{Opened, OpenedTrial, Stepped, Planned, Idled, IsRunningOf, Peeked, PlannedNext, IsPendingOf, IsEndedOf, IsResponseOf, IsBlockingOf, IsAgeOf, Drained};
 ghost use Rattle.rtdb_c.specs.Called.{Called, ToldWhy, ToldWhyNotTried, IsNowOf, IsKeptOf, IsPlannedOf};
 
@@ -20,9 +20,9 @@ mod text_laws;
 mod words;
 
 pub use c_core::{CLOSED, Handle, SeatHandle};
-use c_core::{
-    CheckedCore, EntryForm, JobForm, OK, OpForm, RefusalForm, Refused, StepForm, StoredForm,
-    Tables, TimeForm, refusal_form,
+use c_core::{CheckedCore, StoredForm};
+use c_forms::{
+    EntryForm, JobForm, OK, OpForm, RefusalForm, Refused, StepForm, Tables, TimeForm, refusal_form,
 };
 pub use c_log::LogHandle;
 pub use log::CallForm;

@@ -3,7 +3,8 @@ ghost use Rattle.std.specs.Prelude.{◌≡◌};
 ghost use Rattle.rtdb_c.specs.Called.{Called};
 ghost use Rattle.rtdb_c.specs.Margin.{IsMarginOf};
 
-use c_core::{CLOSED, Handle, MarginForm, told_margin};
+use c_core::{CLOSED, Handle, told_margin};
+use c_forms::MarginForm;
 use std::alloc::Global;
 
 /// The greatest percentage of its steps at which the set is admitted, and what bars the next one; of a set that was not

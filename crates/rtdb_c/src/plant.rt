@@ -7,10 +7,8 @@ ghost use Rattle.rtdb_c.specs.Called.{ToldWhy};
 ghost use Rattle.rtdb_c.specs.SeatCalls.{SeatCalled, HandedTo, IsFrontOf};
 
 use crate::{OPEN, told_why};
-use c_core::{
-    CLOSED, EntryForm, OK, OpForm, RefusalForm, SeatHandle, SeatStation, StepForm, StoredForm,
-    Tables, TimeForm, plant_over,
-};
+use c_core::{CLOSED, SeatHandle, SeatStation, StoredForm, plant_over};
+use c_forms::{EntryForm, OK, OpForm, RefusalForm, StepForm, Tables, TimeForm};
 use std::alloc::Global;
 
 /// Compiles and admits the set of these tables, and opens a plant over it at the opening state, whose journal has room for so

@@ -4,7 +4,7 @@ ghost use Rattle.rtdb_c.specs.Texts.{text_of, laid};
 
 use crate::causes::{admission_words, numbered_words, rule_words, status_words, table_words};
 use crate::words::Words;
-use c_core::{BAD_TABLE, NOT_ADMITTED, NOT_COMPILED, RefusalForm};
+use c_forms::{BAD_TABLE, NOT_ADMITTED, NOT_COMPILED, RefusalForm};
 
 /// No text is longer, in bytes.
 pub const MOST_TEXT: usize = 96;

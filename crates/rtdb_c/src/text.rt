@@ -3,7 +3,7 @@ ghost use Rattle.std.specs.Prelude.{◌≡◌, ◌≤◌, length};
 ghost use Rattle.rtdb_c.specs.Texts.{text_of, laid};
 
 use crate::telling::text;
-use c_core::RefusalForm;
+use c_forms::RefusalForm;
 
 /// Writes the words of a status, with the numbers of its refusal if it has one, to the front of a slice, as much of them as
 /// it has places for, and answers how many bytes they are, 96 at most. It takes no memory.

@@ -1,6 +1,6 @@
 use Rattle.std.proofs.Common.{arith}
-use Rattle.c_core.specs.Back.{entry_of}
-use Rattle.c_core.proofs.Mapped.{one_more, all_made}
+use Rattle.c_forms.specs.Back.{entry_of}
+use Rattle.c_forms.proofs.Mapped.{one_more, all_made}
 use Rattle.c_log.proofs.entry.put_entries_of.Goals as goal
 
 pub loop-form-preserved : goal.loop-form-preserved

@@ -1,5 +1,5 @@
 use Rattle.std.proofs.Common.{◌≡◌, ◌≤◌, map, take, vec_capacity}
-use Rattle.c_core.specs.Back.{entry_of}
+use Rattle.c_forms.specs.Back.{entry_of}
 use Rattle.c_log.proofs.entry.put_entries_of.Given as goal
 
 abbrev pub invariant-loop-form : goal.invariant-loop-form

@@ -1,6 +1,7 @@
 use Rattle.std.proofs.Common.{◌≡◌, refl}
-use Rattle.c_core.proofs.Moved.{moved}
-use Rattle.c_core.proofs.Holders.{Core, slot_of, handle_of_core}
+use Rattle.c_forms.proofs.Moved.{moved}
+use Rattle.c_forms.proofs.Moved.{slot_of}
+use Rattle.c_core.proofs.Holders.{Core, handle_of_core}
 use Rattle.c_core.specs.contracts.handle.Handle.into_slot as f
 use Rattle.c_core.proofs.handle.Handle.into_slot.Statement.{statement}
 use Rattle.c_core.proofs.handle.Handle.into_slot.Code as code

@@ -3,7 +3,7 @@ use Rattle.std.specs.contracts.alloc.Global as global
 use Rattle.std.proofs.alloc.Global.TheSendSync as heap
 use Rattle.c_core.specs.contracts.seat_station.SeatStation as station
 use Rattle.c_core.proofs.seat_station.SeatStation.TheSendSync as station_crosses
-use Rattle.c_core.proofs.Crosses.{held_keyless, crosses}
+use Rattle.c_forms.proofs.Crosses.{held_keyless, crosses}
 use Rattle.c_core.specs.contracts.seat.SeatHandle.{struct, the_codes, the_heap, the_row}
 
 pub send : IsSend the_row

@@ -1,6 +1,7 @@
 use Rattle.std.proofs.Common.{◌≡◌, refl}
-use Rattle.c_core.proofs.Moved.{moved}
-use Rattle.c_core.proofs.Holders.{Seat, slot_of, handle_of_seat}
+use Rattle.c_forms.proofs.Moved.{moved}
+use Rattle.c_forms.proofs.Moved.{slot_of}
+use Rattle.c_core.proofs.Holders.{Seat, handle_of_seat}
 use Rattle.c_core.specs.contracts.seat.SeatHandle.of as f
 use Rattle.c_core.proofs.seat.SeatHandle.of.Statement.{statement}
 use Rattle.c_core.proofs.seat.SeatHandle.of.Code as code

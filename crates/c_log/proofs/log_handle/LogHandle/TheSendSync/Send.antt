@@ -3,7 +3,7 @@ use Rattle.std.specs.contracts.alloc.Global as global
 use Rattle.std.proofs.alloc.Global.TheSendSync as heap
 use Rattle.c_log.specs.contracts.station.LogStation as station
 use Rattle.c_log.proofs.station.LogStation.TheSendSync as station_crosses
-use Rattle.c_core.proofs.Crosses.{held_keyless, crosses}
+use Rattle.c_forms.proofs.Crosses.{held_keyless, crosses}
 use Rattle.c_log.specs.contracts.log_handle.LogHandle.{struct, the_codes, the_heap, the_row}
 
 pub send : IsSend the_row

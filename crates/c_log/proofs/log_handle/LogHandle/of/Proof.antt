@@ -1,6 +1,6 @@
 use Rattle.std.proofs.Common.{◌≡◌, refl}
-use Rattle.c_core.proofs.Moved.{moved}
-use Rattle.c_core.proofs.Holders.{slot_of}
+use Rattle.c_forms.proofs.Moved.{moved}
+use Rattle.c_forms.proofs.Moved.{slot_of}
 use Rattle.c_log.proofs.Holders.{Log, handle_of_log}
 use Rattle.c_log.specs.contracts.log_handle.LogHandle.of as f
 use Rattle.c_log.proofs.log_handle.LogHandle.of.Statement.{statement}

@@ -1,5 +1,0 @@
-use Rattle.c_core.proofs.MarginsBack.{margins_back}
-use Rattle.c_core.proofs.margin_laws.margins_lose_nothing.Goals as goal
-
-pub returns : goal.returns
-returns c = margins_back

@@ -1,0 +1,11 @@
+pub mod Steps
+pub mod BoxApart
+pub mod Apart
+pub mod Moved
+pub mod Crosses
+pub mod Mapped
+pub mod Back
+pub mod Putting
+pub mod Ranges
+pub mod Told
+pub mod MarginsBack

@@ -1,0 +1,6 @@
+use Rattle.std.proofs.Common.{◌≡◌, map, take}
+use Rattle.c_forms.specs.Rows.{txn_of_row}
+use Rattle.c_forms.proofs.tables.txns_of.Given as goal
+
+abbrev pub invariant-loop-row : goal.invariant-loop-row
+invariant-loop-row l = l.txns.items ≡ map (txn_of_row l.ids) (take l.row-index l.rows)
