@@ -1,21 +1,13 @@
--- The structs of two words that own what a slot owns: the handles of a core and of a seat.
+-- The struct of two words that owns what a slot owns: the handle of a core.
 use Rattle.std.proofs.Common.{refl}
 use denote.RattleType.{RattleType}
 use denote.Struct.Owning.{shape}
 use Rattle.c_core.specs.contracts.checked.CheckedCore as checked
-use Rattle.c_core.specs.contracts.seat_station.SeatStation as seat_station
 use Rattle.c_core.specs.contracts.handle.Handle as handle
-use Rattle.c_core.specs.contracts.seat.SeatHandle as seat_handle
 use Rattle.c_forms.proofs.Moved.{Holder}
 
 abbrev pub Core : RattleType
 Core = checked.the_row
 
-abbrev pub Seat : RattleType
-Seat = seat_station.the_row
-
 abbrev pub handle_of_core : Holder Core
 handle_of_core = record { row = handle.the_row; shape = shape handle.the_type; parts = λ d. (d.at, d.alloc, d.core); make = λ x. record { at = x.0; alloc = x.1; core = x.2 }; made = λ x. refl }
-
-abbrev pub handle_of_seat : Holder Seat
-handle_of_seat = record { row = seat_handle.the_row; shape = shape seat_handle.the_type; parts = λ d. (d.at, d.alloc, d.seat); make = λ x. record { at = x.0; alloc = x.1; seat = x.2 }; made = λ x. refl }

@@ -1,5 +1,3 @@
 pub mod Calls
 pub mod Called
 pub mod Open
-pub mod Seats
-pub mod Tries

@@ -70,8 +70,8 @@ impl Model for CheckedCore {
     ghost invariant = { λ o. IsOver (record { board = o.core; admitted = o.admitted }) × (o.spare.items ≡ []) × (vec_capacity o.spare ≡ 64) };
 }
 
-/// Places for the entries that a drain hands over.
-pub(crate) fn places(alloc: Global) -> Result<Vec<Entry>, OutOfMemory>
+/// Places for the 64 entries that a drain hands over at the most.
+pub fn places(alloc: Global) -> Result<Vec<Entry>, OutOfMemory>
     ensures items { IfOk result (λ spare. spare.items ≡ []) }
     ensures capacity { IfOk result (λ spare. vec_capacity spare ≡ 64) }
 {

@@ -7,10 +7,10 @@ use Rattle.std.proofs.lemmas.Slice.Eq.{bytes_eq-Decides}
 use Rattle.std.proofs.lemmas.Bool.{ne_eqb}
 use Rattle.std.proofs.lemmas.List.{take-append-drop}
 use Rattle.std.proofs.lemmas.Fmt.{decimal_nonempty}
-use Rattle.journal_text.specs.Cuts.{Lacks}
-use Rattle.journal_text.specs.Numbers.{unsigned_of}
-use Rattle.journal_text.proofs.CutLaws.{none_some}
-use Rattle.journal_text.proofs.NumberLaws.{decimal_lacks, unsigned_takes, no_minus}
+use Rattle.line_fields.specs.Cuts.{Lacks}
+use Rattle.line_fields.specs.Numbers.{unsigned_of}
+use Rattle.line_fields.proofs.CutLaws.{none_some}
+use Rattle.line_fields.proofs.NumberLaws.{decimal_lacks, unsigned_takes, no_minus}
 use Rattle.rt_base.proofs.Padding.{both as both_true}
 use Rattle.command_words.specs.Commands.{Text, Part, trial, workers, workers_are, number, number_of, number_part, option_part, part_of, parts_of, up_to_most, workers_part}
 use Rattle.command_words.specs.Asking.{is_part}

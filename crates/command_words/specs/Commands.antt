@@ -1,7 +1,7 @@
 -- What the words of the command line ask for.
 use Rattle.std.specs.Prelude.{ℕ, ◌≤◌, nat_le, ◌&&◌, List, [], ◌∷◌, take, drop, codes, if◌then◌else◌, Option, Some, None, option_map, option_and_then, true, false}
 use Rattle.std.specs.Str.{bytes_eq}
-use Rattle.journal_text.specs.Numbers.{unsigned_of}
+use Rattle.line_fields.specs.Numbers.{unsigned_of}
 use Rattle.command_words.specs.declared.command.PlainCommand.{PlainCommand}
 use Rattle.command_words.specs.declared.command.PlainCommand.TheVariants.{Ceilings, Admit, Replay, Gen, Rates, Margin}
 use Rattle.command_words.specs.declared.command.Command.{Command}

@@ -10,7 +10,7 @@ use crate::line::parsed;
 use clap::ArgMatches;
 use clap::error::ErrorKind;
 use io_edge::Word;
-use journal_text::unsigned;
+use line_fields::unsigned;
 use rt_base::OutOfMemory;
 use std::alloc::Global;
 

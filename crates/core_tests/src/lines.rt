@@ -1,10 +1,10 @@
 //! The lines of reports and journals: numbers, jobs, entries and heads, read and written.
 use crate::heads::try_head;
 use journal_text::{
-    Numeral, Numerals, done, item, job, next_unsigned, next_word, put, put_job, put_name,
-    put_short, put_signed, put_unsigned, read_entry, short, signed, tx, unsigned, word,
-    write_entry,
+    Numeral, Numerals, item, job, put, put_job, put_name, put_short, put_signed, put_unsigned,
+    read_entry, tx, write_entry,
 };
+use line_fields::{done, next_unsigned, next_word, short, signed, unsigned, word};
 use name_table::NameTables;
 use report_text::{Head, read_head};
 use rt_base::{JobId, TxId};

@@ -8,7 +8,8 @@ ghost use Rattle.rt_base.specs.Names.{AreNames};
 
 use durable_disk::{Disk, MemDisk};
 use durable_journal::{Log, LogError};
-use journal_text::{cut, read_entry};
+use journal_text::read_entry;
+use line_fields::cut;
 use name_table::NameTables;
 use report_text::read_head;
 use rt_base::{Names, OutOfMemory};

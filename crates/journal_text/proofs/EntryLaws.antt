@@ -13,11 +13,11 @@ use Rattle.rt_base.specs.declared.operation.End.{End}
 use Rattle.rt_base.specs.declared.operation.End.TheVariants as end
 use Rattle.step_journal.specs.declared.entry.Entry.{Entry}
 use Rattle.step_journal.specs.declared.entry.Entry.TheVariants.{Planned, Step, Blocked, Idle}
-use Rattle.journal_text.specs.Cuts.{◌>>=◌, word_of, word_is, field, Lacks, Ends}
-use Rattle.journal_text.specs.Numbers.{unsigned_of, short_of}
+use Rattle.line_fields.specs.Cuts.{◌>>=◌, word_of, word_is, field, Lacks, Ends}
+use Rattle.line_fields.specs.Numbers.{unsigned_of, short_of}
 use Rattle.journal_text.specs.Ids.{name_at, tx_of, job_text, job_of, IsJob}
-use Rattle.journal_text.proofs.CutLaws.{some_is, none_some, bind_some, take_step, take_last, word_takes, word_again, next_again, next_last, lacks_test, given_takes, given_again}
-use Rattle.journal_text.proofs.NumberLaws.{unsigned_takes, unsigned_again, unsigned_lacks, short_takes, short_again}
+use Rattle.line_fields.proofs.CutLaws.{some_is, none_some, bind_some, take_step, take_last, word_takes, word_again, next_again, next_last, lacks_test, given_takes, given_again}
+use Rattle.line_fields.proofs.NumberLaws.{unsigned_takes, unsigned_again, unsigned_lacks, short_takes, short_again}
 use Rattle.journal_text.proofs.IdLaws.{tx_takes, tx_again, id_lacks, job_takes, job_again, job_lacks}
 use Rattle.journal_text.specs.Lines.{◌⊕◌, op_text, outcome_text, over_text, entry_line, IsOp, IsEnd, IsOver, HasLine, IsEntryOf, KnownOp, KnownEnd, KnownOver, IsWritable}
 use Rattle.journal_text.specs.EntryLaws.{LinesBothWays}

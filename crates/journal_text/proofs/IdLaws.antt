@@ -13,11 +13,11 @@ use Rattle.rt_base.specs.declared.ids.JobId.{JobId}
 use Rattle.rt_base.specs.Names.{is_letter, is_name_byte, is_name, AreNames}
 use Rattle.name_table.specs.Places.{place_in}
 use Rattle.rt_base.proofs.Padding.{both as both_true}
-use Rattle.journal_text.specs.Cuts.{◌>>=◌, cut_at, next, Ends, Lacks}
-use Rattle.journal_text.specs.Numbers.{short_of, IsI64}
+use Rattle.line_fields.specs.Cuts.{◌>>=◌, cut_at, next, Ends, Lacks}
+use Rattle.line_fields.specs.Numbers.{short_of, IsI64}
 use Rattle.journal_text.specs.Ids.{name_at, index_of, tx_of, item_of, job_text, job_of, IsJob}
-use Rattle.journal_text.proofs.CutLaws.{some_is, bind_some, cut_again, cut_takes, position_at, lacks_append, lacks_test, next_again, Takes}
-use Rattle.journal_text.proofs.NumberLaws.{short_takes, short_again, unsigned_lacks}
+use Rattle.line_fields.proofs.CutLaws.{some_is, bind_some, cut_again, cut_takes, position_at, lacks_append, lacks_test, next_again, Takes}
+use Rattle.line_fields.proofs.NumberLaws.{short_takes, short_again, unsigned_lacks}
 
 -- ---- the bytes of a name
 

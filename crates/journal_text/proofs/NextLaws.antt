@@ -14,12 +14,12 @@ use Rattle.rt_base.specs.declared.operation.Op.TheVariants.{Compute}
 use Rattle.rt_base.specs.declared.operation.Outcome.TheVariants.{Computed}
 use Rattle.step_journal.specs.declared.entry.Entry.{Entry}
 use Rattle.step_journal.specs.declared.entry.Entry.TheVariants.{Step}
-use Rattle.journal_text.specs.Cuts.{◌>>=◌, cut_at, word_of, field_of, next, field, Lacks, Ends}
-use Rattle.journal_text.specs.Numbers.{unsigned_of}
+use Rattle.line_fields.specs.Cuts.{◌>>=◌, cut_at, word_of, field_of, next, field, Lacks, Ends}
+use Rattle.line_fields.specs.Numbers.{unsigned_of}
 use Rattle.journal_text.specs.Ids.{job_of, job_text}
 use Rattle.journal_text.specs.Numerals.{placed, AreDigits}
-use Rattle.journal_text.proofs.CutLaws.{some_is, none_some, bind_some, chosen, cut_again, field_takes, next_again, lacks_test, lacks_append}
-use Rattle.journal_text.proofs.NumberLaws.{unsigned_takes, unsigned_again, unsigned_lacks, decimal_lacks}
+use Rattle.line_fields.proofs.CutLaws.{some_is, none_some, bind_some, chosen, cut_again, field_takes, next_again, lacks_test, lacks_append}
+use Rattle.line_fields.proofs.NumberLaws.{unsigned_takes, unsigned_again, unsigned_lacks, decimal_lacks}
 use Rattle.journal_text.proofs.IdLaws.{unsigned_length}
 use Rattle.journal_text.proofs.NumeralLaws.{next_digits}
 use Rattle.journal_text.specs.Reading.{outcome_of, over_of, step_of, entry_of}

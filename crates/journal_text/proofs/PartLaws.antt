@@ -14,11 +14,11 @@ use Rattle.rt_base.specs.declared.operation.Outcome.{Outcome}
 use Rattle.rt_base.specs.declared.operation.Outcome.TheVariants.{Got, Put, Computed, Closed}
 use Rattle.rt_base.specs.declared.operation.End.{End}
 use Rattle.rt_base.specs.declared.operation.End.TheVariants as end
-use Rattle.journal_text.specs.Cuts.{◌>>=◌, next, field_of, word_is, done_of, field, Lacks, Ends}
-use Rattle.journal_text.specs.Numbers.{unsigned_of, signed_of, IsI64}
+use Rattle.line_fields.specs.Cuts.{◌>>=◌, next, field_of, word_is, done_of, field, Lacks, Ends}
+use Rattle.line_fields.specs.Numbers.{unsigned_of, signed_of, IsI64}
 use Rattle.journal_text.specs.Ids.{name_at, item_of}
-use Rattle.journal_text.proofs.CutLaws.{rest_of, some_is, none_some, bind_some, Takes, take_step, done_takes, field_takes, field_again, next_again, lacks_test, given_takes, given_again}
-use Rattle.journal_text.proofs.NumberLaws.{unsigned_takes, unsigned_again, unsigned_lacks, decimal_lacks, signed_takes, signed_again, signed_lacks}
+use Rattle.line_fields.proofs.CutLaws.{rest_of, some_is, none_some, bind_some, Takes, take_step, done_takes, field_takes, field_again, next_again, lacks_test, given_takes, given_again}
+use Rattle.line_fields.proofs.NumberLaws.{unsigned_takes, unsigned_again, unsigned_lacks, decimal_lacks, signed_takes, signed_again, signed_lacks}
 use Rattle.journal_text.proofs.IdLaws.{item_takes, item_again, id_lacks}
 use Rattle.journal_text.specs.Lines.{op_text, stamp_text, outcome_text, end_text, over_text, IsItem, IsOp, Answers, IsStamp, IsOutcome, IsEnd, IsOver}
 use Rattle.journal_text.specs.Reading.{read_of, write_of, op_form, op_of, stamp_of, got_of, outcome_of, stale_of, apart_of, end_form, end_of, over_of}

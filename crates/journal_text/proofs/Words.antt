@@ -2,7 +2,7 @@
 use Rattle.std.proofs.Common.{ℕ, List}
 use Rattle.rt_base.specs.Names.{AreNames}
 use Rattle.journal_text.specs.Laws.{NumbersBothWays, IdsBothWays}
-use Rattle.journal_text.proofs.NumberLaws.{unsigned_takes, unsigned_again, unsigned_lacks, short_takes, short_again, short_lacks, signed_takes, signed_again, signed_lacks}
+use Rattle.line_fields.proofs.NumberLaws.{unsigned_takes, unsigned_again, unsigned_lacks, short_takes, short_again, short_lacks, signed_takes, signed_again, signed_lacks}
 use Rattle.journal_text.proofs.IdLaws.{tx_takes, tx_again, item_takes, item_again, id_lacks, job_takes, job_again, job_lacks}
 
 pub numbers : NumbersBothWays

@@ -4,8 +4,8 @@ use Rattle.rt_base.specs.declared.ids.TxId.{TxId}
 use Rattle.rt_base.specs.declared.ids.ItemId.{ItemId}
 use Rattle.rt_base.specs.declared.ids.JobId.{JobId}
 use Rattle.name_table.specs.Places.{place_in}
-use Rattle.journal_text.specs.Cuts.{◌>>=◌, cut_at}
-use Rattle.journal_text.specs.Numbers.{short_of}
+use Rattle.line_fields.specs.Cuts.{◌>>=◌, cut_at}
+use Rattle.line_fields.specs.Numbers.{short_of}
 
 -- the name at a place, and the empty text where there is none
 abbrev pub name_at : List (List ℕ) → ℕ → List ℕ

@@ -4,8 +4,8 @@ use Rattle.std.specs.Fmt.{signed_decimal}
 use Rattle.rt_base.specs.declared.ids.TxId.{TxId}
 use Rattle.rt_base.specs.declared.ids.ItemId.{ItemId}
 use Rattle.rt_base.specs.Names.{AreNames}
-use Rattle.journal_text.specs.Cuts.{Lacks}
-use Rattle.journal_text.specs.Numbers.{unsigned_of, short_of, signed_of, IsI64}
+use Rattle.line_fields.specs.Cuts.{Lacks}
+use Rattle.line_fields.specs.Numbers.{unsigned_of, short_of, signed_of, IsI64}
 use Rattle.journal_text.specs.Ids.{name_at, tx_of, item_of, job_text, job_of, IsJob}
 
 -- what fits is read from what is written of it, and what is read from a text fits and is written so

@@ -1,5 +1,3 @@
-pub mod Cuts
-pub mod Numbers
 pub mod Ids
 pub mod Laws
 pub mod Numerals

@@ -12,8 +12,8 @@ use Rattle.rt_base.specs.declared.operation.End.{End}
 use Rattle.rt_base.specs.declared.operation.End.TheVariants as end
 use Rattle.step_journal.specs.declared.entry.Entry.{Entry}
 use Rattle.step_journal.specs.declared.entry.Entry.TheVariants.{Planned, Step, Blocked, Idle}
-use Rattle.journal_text.specs.Cuts.{field}
-use Rattle.journal_text.specs.Numbers.{IsI64}
+use Rattle.line_fields.specs.Cuts.{field}
+use Rattle.line_fields.specs.Numbers.{IsI64}
 use Rattle.journal_text.specs.Ids.{name_at, job_text, IsJob}
 
 -- parts in a row

@@ -4,7 +4,7 @@ use Rattle.rt_base.specs.declared.name.Names.{Names}
 use Rattle.rt_base.specs.declared.ids.JobId.{JobId}
 use Rattle.step_journal.specs.declared.entry.Entry.{Entry}
 use Rattle.step_journal.specs.declared.entry.Entry.TheVariants.{Step}
-use Rattle.journal_text.specs.Cuts.{◌>>=◌, cut_at, field, Lacks}
+use Rattle.line_fields.specs.Cuts.{◌>>=◌, cut_at, field, Lacks}
 use Rattle.journal_text.specs.Ids.{job_of, job_text}
 use Rattle.journal_text.specs.Lines.{◌⊕◌}
 use Rattle.journal_text.specs.Reading.{answers_of, op_of, over_of, entry_of}

@@ -10,8 +10,8 @@ use Rattle.rt_base.specs.declared.operation.End.{End}
 use Rattle.rt_base.specs.declared.operation.End.TheVariants as end
 use Rattle.step_journal.specs.declared.entry.Entry.{Entry}
 use Rattle.step_journal.specs.declared.entry.Entry.TheVariants.{Planned, Step, Blocked, Idle}
-use Rattle.journal_text.specs.Cuts.{◌>>=◌, word_of, field_of, next, word_is, done_of}
-use Rattle.journal_text.specs.Numbers.{unsigned_of, short_of, signed_of}
+use Rattle.line_fields.specs.Cuts.{◌>>=◌, word_of, field_of, next, word_is, done_of}
+use Rattle.line_fields.specs.Numbers.{unsigned_of, short_of, signed_of}
 use Rattle.journal_text.specs.Ids.{tx_of, item_of, job_of}
 
 -- ---- operations, after their first word

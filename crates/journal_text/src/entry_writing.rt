@@ -4,7 +4,7 @@ ghost use Rattle.std.specs.List.{All};
 ghost use Rattle.step_journal.specs.declared.entry.Entry.TheVariants.{Step};
 ghost use Rattle.journal_text.specs.Next.{front_of, IsOwn};
 ghost use Rattle.journal_text.specs.Ids.{job_text, IsJob};
-ghost use Rattle.journal_text.specs.Cuts.{field};
+ghost use Rattle.line_fields.specs.Cuts.{field};
 ghost use Rattle.journal_text.specs.Lines.{op_text, stamp_text, outcome_text, end_text, over_text, entry_line, IsOp, IsOutcome, IsEnd, IsOver, HasLine, whole_line, whole_lines, KnownOp, KnownEnd, KnownOver, IsWritable};
 
 use crate::next_step::NextStep;

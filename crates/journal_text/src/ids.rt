@@ -1,10 +1,9 @@
 //! Names and jobs as fields.
 ghost use Rattle.std.specs.Prelude.{◌≡◌, ◌++◌, ◌∷◌, Some, option_map, IfSome};
-ghost use Rattle.journal_text.specs.Cuts.{next, Lacks};
+ghost use Rattle.line_fields.specs.Cuts.{next, Lacks};
 ghost use Rattle.journal_text.specs.Ids.{tx_of, item_of, job_of};
 
-use crate::cuts::{cut_word, field};
-use crate::numbers::{at_front, short};
+use line_fields::{at_front, cut_word, field, short};
 use name_table::NameTables;
 use rt_base::{ItemId, JobId, TxId};
 
@@ -89,7 +88,7 @@ fn job_at_front<'a>(names: &NameTables, bytes: &'a [u8]) -> Option<(JobId, &'a [
 
 /// The transaction that the next field names, and the rest, by one look-up in a hash map.
 #[inline(always)]
-#[tactic(auto, unfolding(crate::specs::Cuts::next))]
+#[tactic(auto, unfolding(line_fields::specs::Cuts::next))]
 pub fn next_tx<'a>(names: &NameTables, bytes: &'a [u8]) -> Option<(TxId, &'a [u8])>
     ensures { option_map (λ p. (p.0, p.1.now)) result ≡ next (tx_of names.now.txns) bytes.now }
 {
@@ -100,7 +99,7 @@ pub fn next_tx<'a>(names: &NameTables, bytes: &'a [u8]) -> Option<(TxId, &'a [u8
 
 /// The item that the next field names, and the rest, by one look-up in a hash map.
 #[inline(always)]
-#[tactic(auto, unfolding(crate::specs::Cuts::next))]
+#[tactic(auto, unfolding(line_fields::specs::Cuts::next))]
 pub fn next_item<'a>(names: &NameTables, bytes: &'a [u8]) -> Option<(ItemId, &'a [u8])>
     ensures { option_map (λ p. (p.0, p.1.now)) result ≡ next (item_of names.now.items) bytes.now }
 {
@@ -111,7 +110,7 @@ pub fn next_item<'a>(names: &NameTables, bytes: &'a [u8]) -> Option<(ItemId, &'a
 
 /// The job that the next field names, and the rest, by one look-up in a hash map.
 #[inline(always)]
-#[tactic(auto, unfolding(crate::specs::Cuts::next))]
+#[tactic(auto, unfolding(line_fields::specs::Cuts::next))]
 pub fn next_job<'a>(names: &NameTables, bytes: &'a [u8]) -> Option<(JobId, &'a [u8])>
     ensures { option_map (λ p. (p.0, p.1.now)) result ≡ next (job_of names.now.txns) bytes.now }
 {

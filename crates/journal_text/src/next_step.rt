@@ -3,16 +3,15 @@ ghost use Rattle.std.specs.Prelude.{◌≡◌, ◌+◌, ◌-◌, ◌≤◌, ◌<
 ghost use Rattle.rt_base.specs.declared.name.Names.{Names as AllNames};
 ghost use Rattle.rt_base.specs.declared.ids.JobId.{JobId as Job};
 ghost use Rattle.step_journal.specs.declared.entry.Entry.TheVariants.{Step};
-ghost use Rattle.journal_text.specs.Cuts.{field, Lacks, Ends};
+ghost use Rattle.line_fields.specs.Cuts.{field, Lacks, Ends};
 ghost use Rattle.journal_text.specs.Ids.{job_of, job_text};
 ghost use Rattle.journal_text.specs.Reading.{entry_of};
 ghost use Rattle.journal_text.specs.Next.{step_by, first_entry as first_entry_of, compute_line, front_of, IsNext, IsOwn};
 
-use crate::cuts::cut;
 use crate::ids::next_job;
-use crate::numbers::next_unsigned;
 use crate::reading::{after, any_entry, step_after};
 use crate::writing::put;
+use line_fields::{cut, next_unsigned};
 use name_table::NameTables;
 use rt_base::{JobId, Op, Outcome, Tick, TxId};
 use step_journal::Entry;

@@ -1,6 +1,6 @@
 //! Numbers that come again from line to line.
 ghost use Rattle.std.specs.Prelude.{◌≡◌, ◌+◌, ◌^◌, ◌<◌, ◌≤◌, ◌++◌, length, decimal, vec_len, vec_capacity};
-ghost use Rattle.journal_text.specs.Cuts.{field};
+ghost use Rattle.line_fields.specs.Cuts.{field};
 ghost use Rattle.journal_text.specs.Ids.{job_text, IsJob};
 
 use crate::numeral::Numeral;

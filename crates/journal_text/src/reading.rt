@@ -1,14 +1,15 @@
 //! From lines to entries.
 ghost use Rattle.std.specs.Prelude.{◌≡◌, ◌≤◌, ◌++◌, option_map, IfSome, IsTrue, length, drop};
-ghost use Rattle.journal_text.specs.Cuts.{next, Ends};
+ghost use Rattle.line_fields.specs.Cuts.{next, Ends};
 ghost use Rattle.rt_base.specs.Names.{AreNames};
 ghost use Rattle.journal_text.specs.Lines.{entry_line, HasLine, IsEntryOf, IsWritable};
 ghost use Rattle.journal_text.specs.Next.{step_by};
 ghost use Rattle.journal_text.specs.Reading.{read_of, write_of, op_form, op_of, stamp_of, got_of, outcome_of, stale_of, apart_of, end_form, end_of, over_of, plan_of, answers_of, step_of, block_of, idle_of, form_of, entry_of};
 
-use crate::cuts::{done, field, is_word, next_word, word};
 use crate::ids::{next_item, next_job, next_tx};
-use crate::numbers::{next_short, next_signed, next_unsigned, unsigned};
+use line_fields::{
+    done, field, is_word, next_short, next_signed, next_unsigned, next_word, unsigned, word,
+};
 use name_table::NameTables;
 use rt_base::{End, JobId, Op, Outcome, Tick};
 use step_journal::Entry;
@@ -109,7 +110,7 @@ fn stamp(word: &[u8]) -> Option<Option<u64>>
 }
 
 #[inline(never)]
-#[tactic(auto, unfolding(crate::specs::Cuts::next))]
+#[tactic(auto, unfolding(line_fields::specs::Cuts::next))]
 fn any_stamp(rest: &[u8]) -> Option<(Option<u64>, &[u8])>
     ensures { option_map (λ p. (p.0, p.1.now)) result ≡ next stamp_of rest.now }
 {

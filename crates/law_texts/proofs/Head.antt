@@ -15,7 +15,7 @@ use Rattle.txn_set.specs.Set.{Set, IsCompiled, AreItemsOf, HasGoodTimes}
 use Rattle.txn_set.specs.Ceilings.{write_ceiling, absolute_ceiling, blocking}
 use Rattle.law_times.specs.Deadlines.{ResponseIsFound}
 use Rattle.set_admission.specs.Bounds.{response_of, age_of}
-use Rattle.journal_text.specs.Cuts.{field}
+use Rattle.line_fields.specs.Cuts.{field}
 use Rattle.journal_text.specs.Ids.{name_at}
 use Rattle.journal_text.proofs.IdLaws.{signed_length, unsigned_length}
 use Rattle.report_text.specs.Rows.{numbered}

@@ -2,7 +2,7 @@
 use Rattle.std.specs.Prelude.{ℕ, Bool, true, false, ◌-◌, ◌<◌, ◌^◌, max, nat_lt, nat_le, ◌&&◌, List, [], ◌∷◌, codes, Option, Some, None, if◌then◌else◌}
 use Rattle.std.specs.Str.{bytes_eq}
 use Rattle.step_journal.specs.declared.entry.Entry.{Entry}
-use Rattle.journal_text.specs.Numbers.{unsigned_of}
+use Rattle.line_fields.specs.Numbers.{unsigned_of}
 use Rattle.schedule_marks.specs.declared.part.Part.{Part}
 use Rattle.schedule_marks.specs.Marks.{last_instant}
 use Rattle.picture_command.specs.declared.wanted.Ticks.{Ticks}

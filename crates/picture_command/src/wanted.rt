@@ -4,7 +4,7 @@ ghost use Rattle.std.specs.Str.{bytes_eq};
 ghost use Rattle.picture_command.specs.Parts.{between, between_words, ticks_of, wanted_as, wanted_of, part_of, AreEarly, IsEarly};
 
 use io_edge::Word;
-use journal_text::unsigned;
+use line_fields::unsigned;
 use rt_base::Tick;
 use schedule_marks::{Part, last_instant};
 use step_journal::Entry;

@@ -8,7 +8,7 @@ use Rattle.txn_set.specs.declared.decl.TxnDecl.{TxnDecl}
 use Rattle.txn_set.specs.Set.{Set}
 use Rattle.txn_set.specs.Ceilings.{blocking}
 use Rattle.step_journal.specs.declared.entry.Entry.{Entry}
-use Rattle.journal_text.specs.Cuts.{field}
+use Rattle.line_fields.specs.Cuts.{field}
 use Rattle.journal_text.specs.Ids.{name_at}
 use Rattle.job_rows.specs.declared.row.JobRow.{JobRow}
 use Rattle.job_rows.specs.Rows.{job_rows}

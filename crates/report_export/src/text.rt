@@ -4,7 +4,7 @@ ghost use Rattle.item_model.specs.Kinds.{validity_of, is_dated};
 ghost use Rattle.txn_set.specs.Set.{txn_of};
 ghost use Rattle.txn_set.specs.Ceilings.{blocking as blocking_of};
 ghost use Rattle.set_admission.specs.Bounds.{response_of, age_of};
-ghost use Rattle.journal_text.specs.Cuts.{field};
+ghost use Rattle.line_fields.specs.Cuts.{field};
 ghost use Rattle.run_report.specs.Summary.{counted};
 ghost use Rattle.report_export.specs.Adding.{Grows};
 ghost use Rattle.report_export.specs.Texts.{number_text, ended_text, others_text, counts_line, worst_line, bound_in, age_line, age_text};

@@ -4,8 +4,8 @@ use Rattle.std.specs.List.{All}
 use Rattle.std.specs.Prelude.{IfNone}
 use Rattle.rt_base.specs.declared.name.Names.{Names}
 use Rattle.step_journal.specs.declared.entry.Entry.{Entry}
-use Rattle.journal_text.specs.Cuts.{◌>>=◌, cut_at}
-use Rattle.journal_text.proofs.CutLaws.{some_is, none_some, bind_some}
+use Rattle.line_fields.specs.Cuts.{◌>>=◌, cut_at}
+use Rattle.line_fields.proofs.CutLaws.{some_is, none_some, bind_some}
 use Rattle.journal_text.specs.Lines.{HasLine}
 use Rattle.journal_text.specs.Reading.{entry_of}
 use Rattle.journal_text.specs.Next.{first_entry}

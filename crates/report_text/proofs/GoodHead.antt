@@ -9,8 +9,8 @@ use Rattle.rt_base.specs.declared.ids.TogetherDecl.{TogetherDecl}
 use Rattle.rt_base.specs.Names.{AreNames}
 use Rattle.item_model.specs.declared.decl.ItemDecl.{ItemDecl}
 use Rattle.txn_set.specs.declared.decl.TxnDecl.{TxnDecl}
-use Rattle.journal_text.specs.Cuts.{◌>>=◌, word_of, field_of, next, done_of}
-use Rattle.journal_text.proofs.CutLaws.{some_is, none_some, bind_some}
+use Rattle.line_fields.specs.Cuts.{◌>>=◌, word_of, field_of, next, done_of}
+use Rattle.line_fields.proofs.CutLaws.{some_is, none_some, bind_some}
 use Rattle.report_text.specs.declared.found.Numbers.{Numbers}
 use Rattle.report_text.specs.declared.found.Found.{Found}
 use Rattle.report_text.specs.declared.found.Found.TheVariants as found

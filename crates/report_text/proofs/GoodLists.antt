@@ -10,7 +10,7 @@ use Rattle.std.proofs.lemmas.List.Quantifiers.{all_pairs_push}
 use Rattle.rt_base.specs.declared.ids.ItemId.{ItemId}
 use Rattle.rt_base.specs.Names.{is_name, name_of, AreNames}
 use Rattle.journal_text.specs.Ids.{name_at, index_of}
-use Rattle.journal_text.proofs.CutLaws.{some_is, none_some, bind_some, chosen}
+use Rattle.line_fields.proofs.CutLaws.{some_is, none_some, bind_some, chosen}
 use Rattle.journal_text.proofs.IdLaws.{index_takes, index_again}
 use Rattle.report_text.specs.Pieces.{all_pieces}
 use Rattle.report_text.specs.Head.{rising, list_of, fresh_of}

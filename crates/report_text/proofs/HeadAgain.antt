@@ -16,11 +16,11 @@ use Rattle.item_model.specs.declared.decl.ItemKind.TheVariants.{Sensor, Derived,
 use Rattle.item_model.specs.declared.decl.ItemDecl.{ItemDecl}
 use Rattle.txn_set.specs.declared.decl.TxnDecl.{TxnDecl}
 use Rattle.txn_set.specs.Set.{Set, AreItemsOf, no_txn}
-use Rattle.journal_text.specs.Cuts.{field, Lacks}
-use Rattle.journal_text.specs.Numbers.{IsI64}
+use Rattle.line_fields.specs.Cuts.{field, Lacks}
+use Rattle.line_fields.specs.Numbers.{IsI64}
 use Rattle.journal_text.specs.Ids.{name_at, index_of}
-use Rattle.journal_text.proofs.CutLaws.{cut_again, lacks_append, lacks_test}
-use Rattle.journal_text.proofs.NumberLaws.{decimal_lacks}
+use Rattle.line_fields.proofs.CutLaws.{cut_again, lacks_append, lacks_test}
+use Rattle.line_fields.proofs.NumberLaws.{decimal_lacks}
 use Rattle.journal_text.proofs.IdLaws.{index_takes, name_lacks}
 use Rattle.journal_text.specs.Lines.{◌⊕◌}
 use Rattle.item_model.proofs.Noting.{or_false as either_false}

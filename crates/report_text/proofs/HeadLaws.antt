@@ -1,6 +1,6 @@
 -- One more line of the head.
 use Rattle.std.proofs.Common.{◌≡◌, ℕ, ◌+◌, Bool, List, Option, Some, None, Result, Ok, Err, sym, ap, subst, ◌∙◌}
-use Rattle.journal_text.specs.Cuts.{cut_at}
+use Rattle.line_fields.specs.Cuts.{cut_at}
 use Rattle.report_text.specs.Pieces.{pieces}
 use Rattle.report_text.specs.declared.read.Line.TheVariants.{Bad, More, Mode}
 use Rattle.report_text.specs.declared.read.HeadError.{HeadError}

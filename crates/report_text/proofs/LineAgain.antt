@@ -7,11 +7,11 @@ use Rattle.item_model.specs.declared.decl.ItemKind.{ItemKind}
 use Rattle.item_model.specs.declared.decl.ItemKind.TheVariants.{Sensor, Derived, State}
 use Rattle.item_model.specs.declared.decl.ItemDecl.{ItemDecl}
 use Rattle.txn_set.specs.declared.decl.TxnDecl.{TxnDecl}
-use Rattle.journal_text.specs.Cuts.{field_of, word_is, field, Lacks, Ends}
-use Rattle.journal_text.specs.Numbers.{unsigned_of, short_of, signed_of, IsI64}
+use Rattle.line_fields.specs.Cuts.{field_of, word_is, field, Lacks, Ends}
+use Rattle.line_fields.specs.Numbers.{unsigned_of, short_of, signed_of, IsI64}
 use Rattle.journal_text.specs.Ids.{index_of}
-use Rattle.journal_text.proofs.CutLaws.{word_again, field_again, next_again, next_last, lacks_test, given_again}
-use Rattle.journal_text.proofs.NumberLaws.{unsigned_again, unsigned_lacks, short_again, short_lacks, signed_again, signed_lacks}
+use Rattle.line_fields.proofs.CutLaws.{word_again, field_again, next_again, next_last, lacks_test, given_again}
+use Rattle.line_fields.proofs.NumberLaws.{unsigned_again, unsigned_lacks, short_again, short_lacks, signed_again, signed_lacks}
 use Rattle.journal_text.proofs.IdLaws.{name_lacks}
 use Rattle.journal_text.specs.Lines.{◌⊕◌}
 use Rattle.report_text.specs.declared.found.Numbers.{Numbers}

@@ -7,9 +7,9 @@ use Rattle.std.proofs.lemmas.Slice.Eq.{bytes_eq-Decides}
 use Rattle.rt_base.specs.declared.ids.ItemId.{ItemId}
 use Rattle.rt_base.specs.declared.name.Names.{Names}
 use Rattle.rt_base.specs.Names.{is_letter, is_name, is_name_byte, AreNames}
-use Rattle.journal_text.specs.Cuts.{Lacks}
+use Rattle.line_fields.specs.Cuts.{Lacks}
 use Rattle.journal_text.specs.Ids.{index_of}
-use Rattle.journal_text.proofs.CutLaws.{lacks_append}
+use Rattle.line_fields.proofs.CutLaws.{lacks_append}
 use Rattle.journal_text.proofs.IdLaws.{index_again, name_lacks}
 use Rattle.rt_base.proofs.Padding.{both as both_true}
 use Rattle.report_text.specs.Pieces.{pieces, all_pieces}

@@ -3,7 +3,7 @@ use Rattle.std.proofs.Common.{◌≡◌, ℕ, ◌+◌, ◌<◌, ◌≤◌, true,
 use Rattle.std.specs.Str.{bytes_eq}
 use Rattle.std.proofs.lemmas.Bool.{le-leb, lt-leb}
 use Rattle.rt_base.specs.declared.ids.ItemId.{ItemId}
-use Rattle.journal_text.specs.Cuts.{cut_at}
+use Rattle.line_fields.specs.Cuts.{cut_at}
 use Rattle.journal_text.specs.Ids.{index_of}
 use Rattle.report_text.specs.Pieces.{all_pieces}
 use Rattle.report_text.specs.Head.{rising, list_of}

@@ -4,8 +4,8 @@ use Rattle.std.specs.Prelude.{position}
 use Rattle.std.specs.List.{position_or_len}
 use Rattle.std.proofs.lemmas.List.Sums.{fails_before_first}
 use Rattle.std.proofs.lemmas.Bool.{ne_eqb, eq-eqb}
-use Rattle.journal_text.specs.Cuts.{cut_at, Lacks}
-use Rattle.journal_text.proofs.CutLaws.{cut_takes, cut_lacks, none_found}
+use Rattle.line_fields.specs.Cuts.{cut_at, Lacks}
+use Rattle.line_fields.proofs.CutLaws.{cut_takes, cut_lacks, none_found}
 use Rattle.report_text.specs.Pieces.{pieces}
 
 abbrev Parts : Type 0

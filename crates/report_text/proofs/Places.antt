@@ -2,8 +2,8 @@
 use Rattle.std.proofs.Common.{◌≡◌, ℕ, List, [], ◌∷◌, ◌++◌, length, Some, refl, sym, ap, ◌∙◌, append_assoc}
 use Rattle.rt_base.specs.declared.name.Names.{Names}
 use Rattle.step_journal.specs.declared.entry.Entry.{Entry}
-use Rattle.journal_text.specs.Cuts.{cut_at}
-use Rattle.journal_text.proofs.CutLaws.{cut_takes}
+use Rattle.line_fields.specs.Cuts.{cut_at}
+use Rattle.line_fields.proofs.CutLaws.{cut_takes}
 use Rattle.journal_text.specs.Lines.{entry_line}
 use Rattle.report_text.specs.Placed.{entry_lines, EndsWith, Stand}
 

@@ -1,6 +1,6 @@
 -- The parts put together.
 use Rattle.std.proofs.Common.{◌≡◌, ℕ, ◌+◌, Bool, true, false, cond, nat_eq, List, [], ◌∷◌, Option, Some, None, Result, Ok, Err, refl, sym, ap, subst, ◌∙◌, arith}
-use Rattle.journal_text.specs.Cuts.{cut_at}
+use Rattle.line_fields.specs.Cuts.{cut_at}
 use Rattle.rt_base.specs.declared.name.Names.{Names}
 use Rattle.step_journal.specs.declared.entry.Entry.{Entry}
 use Rattle.report_text.specs.Pieces.{pieces, longer}

@@ -2,7 +2,7 @@
 use Rattle.std.specs.Prelude.{ℕ, ◌≡◌, Bool, List, Some, None}
 use Rattle.rt_base.specs.declared.name.Names.{Names}
 use Rattle.step_journal.specs.declared.entry.Entry.{Entry}
-use Rattle.journal_text.specs.Cuts.{cut_at}
+use Rattle.line_fields.specs.Cuts.{cut_at}
 use Rattle.journal_text.specs.Lines.{entry_line}
 use Rattle.report_text.specs.Forms.{entry_form}
 

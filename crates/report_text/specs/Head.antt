@@ -7,8 +7,8 @@ use Rattle.item_model.specs.declared.decl.ItemDecl.{ItemDecl}
 use Rattle.txn_set.specs.declared.decl.TxnDecl.{TxnDecl}
 use Rattle.rt_base.specs.declared.ids.TogetherDecl.{TogetherDecl}
 use Rattle.rt_base.specs.Names.{name_of}
-use Rattle.journal_text.specs.Cuts.{◌>>=◌, word_of, field_of, next, word_is, done_of}
-use Rattle.journal_text.specs.Numbers.{unsigned_of, short_of, signed_of}
+use Rattle.line_fields.specs.Cuts.{◌>>=◌, word_of, field_of, next, word_is, done_of}
+use Rattle.line_fields.specs.Numbers.{unsigned_of, short_of, signed_of}
 use Rattle.journal_text.specs.Ids.{index_of}
 use Rattle.report_text.specs.Pieces.{all_pieces, pieces}
 use Rattle.report_text.specs.declared.found.Numbers.{Numbers}

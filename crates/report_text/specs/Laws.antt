@@ -8,7 +8,7 @@ use Rattle.item_model.specs.declared.decl.ItemKind.TheVariants.{Sensor, Derived,
 use Rattle.item_model.specs.declared.decl.ItemDecl.{ItemDecl}
 use Rattle.txn_set.specs.declared.decl.TxnDecl.{TxnDecl}
 use Rattle.txn_set.specs.Set.{Set, AreItemsOf}
-use Rattle.journal_text.specs.Numbers.{IsI64}
+use Rattle.line_fields.specs.Numbers.{IsI64}
 use Rattle.report_text.specs.declared.read.Head.{Head}
 use Rattle.report_text.specs.Head.{head_of}
 use Rattle.report_text.specs.Texts.{NamesSet, declarations}

@@ -15,7 +15,7 @@ use Rattle.txn_set.specs.declared.decl.TxnDecl.{TxnDecl}
 use Rattle.txn_set.specs.Set.{Set}
 use Rattle.txn_set.specs.Ceilings.{write_ceiling, absolute_ceiling}
 use Rattle.step_journal.specs.declared.entry.Entry.{Entry}
-use Rattle.journal_text.specs.Cuts.{field}
+use Rattle.line_fields.specs.Cuts.{field}
 use Rattle.journal_text.specs.Ids.{name_at, job_text}
 use Rattle.journal_text.specs.Lines.{◌⊕◌, end_text, entry_line, KnownEnd}
 use Rattle.job_rows.specs.declared.row.JobRow.{JobRow}

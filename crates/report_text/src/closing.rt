@@ -2,7 +2,7 @@
 ghost use Rattle.std.specs.Prelude.{ℕ, ◌≡◌, ◌+◌, ◌<◌, ◌≤◌, ◌^◌, ◌++◌, Some, length, slice_get, OnOk, vec_len, vec_capacity};
 ghost use Rattle.std.specs.List.{All};
 ghost use Rattle.rt_base.specs.declared.operation.End.{End as EndOf};
-ghost use Rattle.journal_text.specs.Cuts.{field};
+ghost use Rattle.line_fields.specs.Cuts.{field};
 ghost use Rattle.report_text.specs.Texts.{by_text, close_text, job_line, jobs_text, final_line, finals_text, KnownBy, KnownClose, KnownRow};
 
 use item_model::Stored;

@@ -12,7 +12,7 @@ ghost use Rattle.report_text.specs.Placed.{document_in, EndsWith, Stand};
 use crate::forms::Kind;
 use crate::parts::{add_entries, end_fault, to_end, to_entries};
 use crate::read::{Head, HeadError, read_head};
-use journal_text::cut;
+use line_fields::cut;
 use rt_base::List;
 use std::alloc::Global;
 use step_journal::Entry;

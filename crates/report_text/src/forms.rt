@@ -1,14 +1,12 @@
 //! The forms of a report's lines after its declarations.
 ghost use Rattle.std.specs.Prelude.{◌≡◌, option_map, IfSome, IfNone};
-ghost use Rattle.journal_text.specs.Cuts.{next};
+ghost use Rattle.line_fields.specs.Cuts.{next};
 ghost use Rattle.journal_text.specs.Next.{IsNext};
 ghost use Rattle.report_text.specs.First.{IsFirst, HasNone};
 ghost use Rattle.report_text.specs.Forms.{begins as begins_with, where_true, ceiling_form, bound_form, age_form, may_end as end_allowed, may_be_over as over_allowed, may_be as entry_allowed, pending_form, ended_form, close_form, by_form, job_form, final_form, section_form, is_end as is_last};
 
-use journal_text::{
-    NextStep, done, field, is_word, job, next_end, next_item, next_job, next_short, next_signed,
-    next_tx, next_unsigned, next_word, word,
-};
+use journal_text::{NextStep, job, next_end, next_item, next_job, next_tx};
+use line_fields::{done, field, is_word, next_short, next_signed, next_unsigned, next_word, word};
 use name_table::NameTables;
 use rt_base::{End, ItemId, JobId};
 use step_journal::Entry;
@@ -181,7 +179,7 @@ fn by(names: &NameTables, word: &[u8]) -> Option<Option<JobId>>
     }
 }
 
-#[tactic(auto, unfolding(journal_text::specs::Cuts::next))]
+#[tactic(auto, unfolding(line_fields::specs::Cuts::next))]
 fn next_by<'a>(names: &NameTables, rest: &'a [u8]) -> Option<(Option<JobId>, &'a [u8])>
     ensures { option_map (λ p. (p.0, p.1.now)) result ≡ next (by_form names.now.txns) rest.now }
 {

@@ -5,7 +5,7 @@ ghost use Rattle.report_text.specs.Head.{timed_of, state_of, decl_of, item_of, n
 use crate::lists::{list, word_after};
 use crate::words::{next_fresh, next_mode};
 use item_model::{ItemDecl, ItemKind};
-use journal_text::{done, field, next_short, next_signed, next_unsigned, next_word, word};
+use line_fields::{done, field, next_short, next_signed, next_unsigned, next_word, word};
 use name_table::NameTable;
 use rt_base::{ItemId, List, Name, OutOfMemory, TogetherDecl};
 use std::alloc::Global;

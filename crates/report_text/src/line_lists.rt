@@ -1,7 +1,7 @@
 //! Lists of items.
 ghost use Rattle.std.specs.Prelude.{◌≡◌, ◌+◌, ◌<◌, ◌≤◌, ◌++◌, length, drop, OnOk};
 ghost use Rattle.std.specs.List.{All};
-ghost use Rattle.journal_text.specs.Cuts.{field};
+ghost use Rattle.line_fields.specs.Cuts.{field};
 ghost use Rattle.report_text.specs.Rows.{numbered};
 ghost use Rattle.report_text.specs.Texts.{item_name, more_name, list_text};
 

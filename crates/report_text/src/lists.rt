@@ -2,7 +2,7 @@
 ghost use Rattle.std.specs.Prelude.{◌≡◌, ◌^◌, ◌<◌, length, option_map, IfOk};
 ghost use Rattle.report_text.specs.Head.{list_of, worded};
 
-use journal_text::{cut, field, next_word};
+use line_fields::{cut, field, next_word};
 use name_table::NameTable;
 use rt_base::{ItemId, List, OutOfMemory};
 use std::alloc::Global;

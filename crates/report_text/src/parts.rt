@@ -7,7 +7,8 @@ ghost use Rattle.report_text.specs.Placed.{entry_lines, EndsWith};
 
 use crate::document::DocumentError;
 use crate::forms::{Kind, Section, first_in, is_end, line_in};
-use journal_text::{NextStep, cut};
+use journal_text::NextStep;
+use line_fields::cut;
 use name_table::NameTables;
 use rt_base::OutOfMemory;
 use step_journal::Entry;

@@ -9,7 +9,7 @@ ghost use Rattle.report_text.specs.Pieces.{pieces};
 use crate::found::{Found, Part, declared};
 use crate::words::version;
 use item_model::ItemDecl;
-use journal_text::cut;
+use line_fields::cut;
 use name_table::{NameTable, NameTables};
 use rt_base::{List, Name, OutOfMemory, TogetherDecl};
 use std::alloc::Global;

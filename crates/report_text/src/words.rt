@@ -1,9 +1,9 @@
 //! Words of a line.
 ghost use Rattle.std.specs.Prelude.{◌≡◌, option_map};
-ghost use Rattle.journal_text.specs.Cuts.{next};
+ghost use Rattle.line_fields.specs.Cuts.{next};
 ghost use Rattle.report_text.specs.Head.{fresh_of, version_of, mode_of};
 
-use journal_text::field;
+use line_fields::field;
 use name_table::NameTable;
 use rt_base::Name;
 
@@ -18,7 +18,7 @@ fn fresh(names: &NameTable, word: &[u8]) -> Option<Name>
     }
 }
 
-#[tactic(auto, unfolding(journal_text::specs::Cuts::next))]
+#[tactic(auto, unfolding(line_fields::specs::Cuts::next))]
 pub(crate) fn next_fresh<'a>(names: &NameTable, rest: &'a [u8]) -> Option<(Name, &'a [u8])>
     ensures { option_map (λ p. (p.0, p.1.now)) result ≡ next (fresh_of names.now) rest.now }
 {
@@ -53,7 +53,7 @@ fn mode(word: &[u8]) -> Option<bool>
     }
 }
 
-#[tactic(auto, unfolding(journal_text::specs::Cuts::next))]
+#[tactic(auto, unfolding(line_fields::specs::Cuts::next))]
 pub(crate) fn next_mode(rest: &[u8]) -> Option<(bool, &[u8])>
     ensures { option_map (λ p. (p.0, p.1.now)) result ≡ next mode_of rest.now }
 {

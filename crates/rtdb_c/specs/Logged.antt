@@ -5,17 +5,17 @@ use Rattle.c_forms.specs.declared.entries.EntryForm.{EntryForm}
 use Rattle.c_forms.specs.declared.refusals.RefusalForm.{RefusalForm}
 use Rattle.c_forms.specs.Forms.{form_of_entry}
 use Rattle.c_forms.specs.Refusals.{bare_refusal, form_of_rule}
-use Rattle.c_log.specs.declared.call.Call.{Call}
-use Rattle.c_log.specs.declared.call.Call.TheVariants as call
-use Rattle.c_log.specs.Calls.{bytes_of}
-use Rattle.c_log.specs.Kept.{Station}
-use Rattle.c_log.specs.Opening.{IsOpenedBy, WhyNotOpened}
-use Rattle.c_log.specs.Appending.{Appended, WhyNotAppended}
-use Rattle.c_log.specs.Answering.{MadeOne, next_of}
-use Rattle.c_log.specs.declared.refused.LogRefused.{LogRefused}
-use Rattle.c_log.specs.declared.refused.LogRefused.TheVariants as refused
-use Rattle.c_log.specs.declared.refused.AppendRefused.{AppendRefused}
-use Rattle.c_log.specs.declared.refused.AppendRefused.TheVariants as append
+use Rattle.c_stations.specs.declared.call.Call.{Call}
+use Rattle.c_stations.specs.declared.call.Call.TheVariants as call
+use Rattle.c_stations.specs.Calls.{bytes_of}
+use Rattle.c_stations.specs.Kept.{Station}
+use Rattle.c_stations.specs.Opening.{IsOpenedBy, WhyNotOpened}
+use Rattle.c_stations.specs.Appending.{Appended, WhyNotAppended}
+use Rattle.c_stations.specs.Answering.{MadeOne, next_of}
+use Rattle.c_stations.specs.declared.refused.LogRefused.{LogRefused}
+use Rattle.c_stations.specs.declared.refused.LogRefused.TheVariants as refused
+use Rattle.c_stations.specs.declared.refused.AppendRefused.{AppendRefused}
+use Rattle.c_stations.specs.declared.refused.AppendRefused.TheVariants as append
 use Rattle.rtdb_c.specs.declared.log.CallForm.{CallForm}
 
 abbrev pub LogCalled : Option Station → Option Station → Type 0 → (Station → Station → Type 0) → Type 0

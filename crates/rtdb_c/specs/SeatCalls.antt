@@ -1,6 +1,6 @@
 -- A call by the handle of a seat: `closed` where it is closed and stays so, and else `call` of the seat before and after.
 use Rattle.std.specs.Prelude.{◌≡◌, ℕ, length, Option, None, Some}
-use Rattle.c_core.specs.Seats.{SeatSeen, HandsOut, WhyNoneHanded}
+use Rattle.c_stations.specs.Seats.{SeatSeen, HandsOut, WhyNoneHanded}
 
 abbrev pub SeatCalled : Option SeatSeen → Option SeatSeen → Type 0 → (SeatSeen → SeatSeen → Type 0) → Type 0
 SeatCalled None None closed call = closed

@@ -19,12 +19,12 @@ mod text;
 mod text_laws;
 mod words;
 
-pub use c_core::{CLOSED, Handle, SeatHandle};
+pub use c_core::{CLOSED, Handle};
 use c_core::{CheckedCore, StoredForm};
 use c_forms::{
     EntryForm, JobForm, OK, OpForm, RefusalForm, Refused, StepForm, Tables, TimeForm, refusal_form,
 };
-pub use c_log::LogHandle;
+pub use c_stations::{LogHandle, SeatHandle};
 pub use log::CallForm;
 pub use margin::rtdb_margin;
 pub use plant::{

@@ -1,14 +1,14 @@
 //! The log of a database for programs in C: the functions of the last section of embed/rtdb.h.
 ghost use Rattle.std.specs.Prelude.{◌≡◌, ◌≢◌, ◌<◌, drop, map, None, MatchOption, IfOk, IfErr, IfSome, IsSomeAnd};
 ghost use Rattle.c_forms.specs.Back.{entry_of};
-ghost use Rattle.c_log.specs.Opening.{WhyNotOpened};
-ghost use Rattle.c_log.specs.declared.refused.LogRefused.TheVariants.{OutOfMemory as WantOfMemory};
+ghost use Rattle.c_stations.specs.Opening.{WhyNotOpened};
+ghost use Rattle.c_stations.specs.declared.refused.LogRefused.TheVariants.{OutOfMemory as WantOfMemory};
 ghost use Rattle.rtdb_c.specs.Logged.{LogCalled, LogOpened, LogToldWhy, LogAppended, LogNext, LogAnswered, LogCounted, LogFound, append_status, told_log, form_of_call};
 
 use crate::{OPEN, told_why};
 use c_core::{CLOSED, NOTHING};
 use c_forms::{EntryForm, NO_MEMORY, NO_ROOM, OK, RefusalForm, Refused, put_entry};
-use c_log::{AppendRefused, Call, LogHandle, LogRefused, LogStation};
+use c_stations::{AppendRefused, Call, LogHandle, LogRefused, LogStation};
 use std::alloc::Global;
 
 /// A call of a log failed.

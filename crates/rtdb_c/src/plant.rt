@@ -1,14 +1,15 @@
 //! Plants for programs in C: the functions of embed/rtdb.h by which threads share a database, each by the handle of a seat
 //! of its own. Each makes one try for the turn at most, and none waits.
 ghost use Rattle.std.specs.Prelude.{◌≡◌, ◌≢◌, None, MatchOption, IfSome, IsSomeAnd};
-ghost use Rattle.c_core.specs.Seats.{PlantOpened};
-ghost use Rattle.c_core.specs.Tries.{SeatStepped, SeatPlanned, SeatPlannedNext, SeatIdled, SeatPeeked, SeatDrained};
+ghost use Rattle.c_stations.specs.Seats.{PlantOpened};
+ghost use Rattle.c_stations.specs.Tries.{SeatStepped, SeatPlanned, SeatPlannedNext, SeatIdled, SeatPeeked, SeatDrained};
 ghost use Rattle.rtdb_c.specs.Called.{ToldWhy};
 ghost use Rattle.rtdb_c.specs.SeatCalls.{SeatCalled, HandedTo, IsFrontOf};
 
 use crate::{OPEN, told_why};
-use c_core::{CLOSED, SeatHandle, SeatStation, StoredForm, plant_over};
+use c_core::{CLOSED, StoredForm};
 use c_forms::{EntryForm, OK, OpForm, RefusalForm, StepForm, Tables, TimeForm};
+use c_stations::{SeatHandle, SeatStation, plant_over};
 use std::alloc::Global;
 
 /// Compiles and admits the set of these tables, and opens a plant over it at the opening state, whose journal has room for so

@@ -3,7 +3,7 @@ use Rattle.std.proofs.Common.{◌≡◌, ℕ, ◌+◌, Bool, true, false, List, 
 use Rattle.std.specs.Str.{bytes_eq}
 use Rattle.std.proofs.lemmas.Slice.Eq.{bytes_eq-Decides}
 use Rattle.rt_base.specs.declared.name.Names.{Names}
-use Rattle.journal_text.specs.Cuts.{cut_at}
+use Rattle.line_fields.specs.Cuts.{cut_at}
 use Rattle.report_text.specs.Document.{lines_of}
 use Rattle.report_text.proofs.Walking.{first_line, no_line}
 use Rattle.run_report.specs.declared.verdict.Verdict.{Verdict}

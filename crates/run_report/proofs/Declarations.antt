@@ -10,10 +10,10 @@ use Rattle.item_model.specs.declared.decl.ItemDecl.{ItemDecl}
 use Rattle.txn_set.specs.declared.decl.TxnDecl.{TxnDecl}
 use Rattle.step_journal.specs.declared.entry.Entry.{Entry}
 use Rattle.step_journal.specs.declared.entry.Entry.TheVariants.{Step, Blocked}
-use Rattle.journal_text.specs.Cuts.{◌>>=◌, word_of, field_of, next, word_is, done_of}
-use Rattle.journal_text.specs.Numbers.{unsigned_of, signed_of, IsI64}
-use Rattle.journal_text.proofs.CutLaws.{Takes, some_is, none_some, bind_some, take_step, given_takes}
-use Rattle.journal_text.proofs.NumberLaws.{unsigned_takes, signed_takes}
+use Rattle.line_fields.specs.Cuts.{◌>>=◌, word_of, field_of, next, word_is, done_of}
+use Rattle.line_fields.specs.Numbers.{unsigned_of, signed_of, IsI64}
+use Rattle.line_fields.proofs.CutLaws.{Takes, some_is, none_some, bind_some, take_step, given_takes}
+use Rattle.line_fields.proofs.NumberLaws.{unsigned_takes, signed_takes}
 use Rattle.journal_text.specs.Lines.{IsOp, HasLine}
 use Rattle.journal_text.specs.Reading.{entry_of}
 use Rattle.journal_text.proofs.PartLaws.{by_word}

@@ -3,8 +3,8 @@ use Rattle.std.proofs.Common.{◌≡◌, ℕ, ◌+◌, ◌<◌, ◌^◌, Bool, t
 use Rattle.rt_base.specs.declared.name.Names.{Names}
 use Rattle.rt_base.specs.declared.ids.TogetherDecl.{TogetherDecl}
 use Rattle.txn_set.specs.Set.{Set, AreItemsOf, no_txn}
-use Rattle.journal_text.specs.Cuts.{field, Lacks}
-use Rattle.journal_text.proofs.CutLaws.{lacks_test, lacks_append}
+use Rattle.line_fields.specs.Cuts.{field, Lacks}
+use Rattle.line_fields.proofs.CutLaws.{lacks_test, lacks_append}
 use Rattle.report_text.specs.Rows.{numbered}
 use Rattle.report_text.specs.Texts.{list_text, item_line, txn_line, together_line, first_line, mode_line, is_second, declarations}
 use Rattle.report_text.specs.Laws.{HasLines}

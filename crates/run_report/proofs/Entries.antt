@@ -12,9 +12,9 @@ use Rattle.rt_base.specs.declared.operation.End.{End}
 use Rattle.rt_base.specs.declared.operation.End.TheVariants as end
 use Rattle.step_journal.specs.declared.entry.Entry.{Entry}
 use Rattle.step_journal.specs.declared.entry.Entry.TheVariants.{Planned, Step, Blocked, Idle}
-use Rattle.journal_text.specs.Cuts.{field, Lacks}
+use Rattle.line_fields.specs.Cuts.{field, Lacks}
 use Rattle.journal_text.specs.Ids.{name_at, job_text, IsJob}
-use Rattle.journal_text.proofs.CutLaws.{lacks_test, lacks_append}
+use Rattle.line_fields.proofs.CutLaws.{lacks_test, lacks_append}
 use Rattle.journal_text.specs.Lines.{◌⊕◌, op_text, stamp_text, outcome_text, end_text, over_text, entry_line, IsOp, IsStamp, IsOutcome, IsEnd, IsOver, HasLine, KnownOp, KnownEnd, KnownOver, IsWritable}
 use Rattle.report_text.specs.Texts.{whole_entry_line}
 use Rattle.report_text.proofs.HeadAgain.{word_lacks, number_lacks}

@@ -22,7 +22,7 @@ use Rattle.step_journal.specs.State.{State, Row, pending, new_row, opening}
 use Rattle.step_journal.specs.LockRule.{in_falling_priority}
 use Rattle.step_journal.specs.Instant.{freed, with_end, with_late, is_due, with_cancellations, with_row, with_releases, arrived}
 use Rattle.step_journal.specs.Step.{given, row_after, end_by, settled, with_plan, next_job, with_wait}
-use Rattle.journal_text.specs.Numbers.{IsI64}
+use Rattle.line_fields.specs.Numbers.{IsI64}
 use Rattle.journal_text.specs.Lines.{IsOutcome}
 use Rattle.law_histories.proofs.Members.{In, pending_in, filter_in}
 use Rattle.law_histories.proofs.Lists.{find_some, filter_map_in}

@@ -9,11 +9,11 @@ use Rattle.rt_base.specs.declared.name.Names.{Names}
 use Rattle.rt_base.specs.declared.operation.End.{End}
 use Rattle.rt_base.specs.declared.operation.End.TheVariants as end
 use Rattle.item_model.specs.declared.stored.Stored.{Stored}
-use Rattle.journal_text.specs.Cuts.{word_of, field, Lacks, Ends}
-use Rattle.journal_text.specs.Numbers.{unsigned_of, short_of, signed_of, IsI64}
+use Rattle.line_fields.specs.Cuts.{word_of, field, Lacks, Ends}
+use Rattle.line_fields.specs.Numbers.{unsigned_of, short_of, signed_of, IsI64}
 use Rattle.journal_text.specs.Ids.{name_at, item_of, tx_of, job_text, IsJob}
-use Rattle.journal_text.proofs.CutLaws.{word_again, next_again, next_last, lacks_test, lacks_append}
-use Rattle.journal_text.proofs.NumberLaws.{unsigned_again, unsigned_lacks, short_again, short_lacks, signed_again, signed_lacks as signed_word, decimal_lacks}
+use Rattle.line_fields.proofs.CutLaws.{word_again, next_again, next_last, lacks_test, lacks_append}
+use Rattle.line_fields.proofs.NumberLaws.{unsigned_again, unsigned_lacks, short_again, short_lacks, signed_again, signed_lacks as signed_word, decimal_lacks}
 use Rattle.journal_text.proofs.IdLaws.{item_again, tx_again, id_lacks, name_lacks}
 use Rattle.journal_text.specs.Lines.{◌⊕◌, end_text, IsEnd}
 use Rattle.report_text.specs.Texts.{ceiling_line, bound_line, age_line, final_line}

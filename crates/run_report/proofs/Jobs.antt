@@ -8,11 +8,11 @@ use Rattle.rt_base.specs.declared.name.Names.{Names}
 use Rattle.rt_base.specs.declared.operation.End.{End}
 use Rattle.rt_base.specs.declared.operation.End.TheVariants as end
 use Rattle.job_rows.specs.declared.row.JobRow.{JobRow}
-use Rattle.journal_text.specs.Cuts.{next, word_is, field, Lacks, Ends}
-use Rattle.journal_text.specs.Numbers.{unsigned_of}
+use Rattle.line_fields.specs.Cuts.{next, word_is, field, Lacks, Ends}
+use Rattle.line_fields.specs.Numbers.{unsigned_of}
 use Rattle.journal_text.specs.Ids.{job_text, job_of, IsJob}
-use Rattle.journal_text.proofs.CutLaws.{none_some, field_again, next_again, next_last, given_again, lacks_test, lacks_append}
-use Rattle.journal_text.proofs.NumberLaws.{unsigned_again, unsigned_lacks, decimal_lacks, no_minus}
+use Rattle.line_fields.proofs.CutLaws.{none_some, field_again, next_again, next_last, given_again, lacks_test, lacks_append}
+use Rattle.line_fields.proofs.NumberLaws.{unsigned_again, unsigned_lacks, decimal_lacks, no_minus}
 use Rattle.journal_text.proofs.IdLaws.{job_again, job_lacks}
 use Rattle.journal_text.specs.Lines.{◌⊕◌, end_text, IsEnd}
 use Rattle.journal_text.proofs.PartLaws.{end_again}

@@ -1,6 +1,6 @@
 -- Texts of whole lines, and walks over them by a form.
 use Rattle.std.proofs.Common.{◌≡◌, ℕ, zero, suc, ◌+◌, ◌<◌, List, [], ◌∷◌, ◌++◌, length, drop, get_or, Option, None, Some, refl, sym, ap, subst, ◌∙◌, arith, append_assoc}
-use Rattle.journal_text.specs.Cuts.{Lacks}
+use Rattle.line_fields.specs.Cuts.{Lacks}
 use Rattle.report_text.proofs.PieceLaws.{pieces_cut}
 use Rattle.report_text.specs.Rows.{numbered}
 use Rattle.report_text.specs.Document.{lines_of, front, after}

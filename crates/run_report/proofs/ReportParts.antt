@@ -13,7 +13,7 @@ use Rattle.txn_set.specs.Ceilings.{write_ceiling, absolute_ceiling, may_block, b
 use Rattle.txn_set.specs.declared.decl.TxnDecl.{TxnDecl}
 use Rattle.step_journal.specs.declared.entry.Entry.{Entry}
 use Rattle.job_rows.specs.declared.row.JobRow.{JobRow}
-use Rattle.journal_text.proofs.CutLaws.{lacks_test}
+use Rattle.line_fields.proofs.CutLaws.{lacks_test}
 use Rattle.journal_text.specs.Lines.{entry_line, HasLine}
 use Rattle.journal_text.proofs.EntryLaws.{entry_again}
 use Rattle.report_text.specs.Rows.{numbered}

@@ -4,8 +4,8 @@ use Rattle.std.specs.Prelude.{not, ◌||◌}
 use Rattle.std.specs.Str.{bytes_eq}
 use Rattle.rt_base.specs.declared.name.Names.{Names}
 use Rattle.step_journal.specs.declared.entry.Entry.{Entry}
-use Rattle.journal_text.specs.Cuts.{◌>>=◌, word_of}
-use Rattle.journal_text.proofs.CutLaws.{lacks_test}
+use Rattle.line_fields.specs.Cuts.{◌>>=◌, word_of}
+use Rattle.line_fields.proofs.CutLaws.{lacks_test}
 use Rattle.journal_text.specs.Reading.{form_of}
 use Rattle.report_text.specs.Rows.{numbered}
 use Rattle.report_text.specs.declared.forms.Kind.{Kind}

@@ -30,7 +30,7 @@ use Rattle.law_histories.proofs.Never.{refused_all, refusal_at, legal_sound}
 use Rattle.law_histories.proofs.Pushes.{pushed}
 use Rattle.report_text.specs.Texts.{is_second}
 use Rattle.report_text.specs.Laws.{IsItemDecl}
-use Rattle.journal_text.specs.Numbers.{IsI64}
+use Rattle.line_fields.specs.Numbers.{IsI64}
 use Rattle.law_histories.proofs.Rooms.{tick_limit as plan_limit}
 use Rattle.run_report.specs.Types.{HasValue, EntryHasValue}
 use Rattle.run_report.proofs.Every.{Every, chosen, every_in, every_or, every_all, every_append, every_map, every_filter, every_greatest}

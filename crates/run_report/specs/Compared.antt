@@ -2,7 +2,7 @@
 use Rattle.std.specs.Prelude.{ℕ, ◌+◌, true, false, List, [], ◌∷◌, Option, Some, None, slice_get}
 use Rattle.std.specs.Str.{bytes_eq}
 use Rattle.rt_base.specs.declared.name.Names.{Names}
-use Rattle.journal_text.specs.Cuts.{◌>>=◌}
+use Rattle.line_fields.specs.Cuts.{◌>>=◌}
 use Rattle.report_text.specs.Forms.{final_form}
 use Rattle.run_report.specs.declared.verdict.Verdict.{Verdict}
 use Rattle.run_report.specs.declared.verdict.Verdict.TheVariants.{Legal, WrongLine, WrongItem}

@@ -9,7 +9,7 @@ use Rattle.step_journal.specs.declared.entry.Entry.{Entry}
 use Rattle.step_journal.specs.declared.entry.Entry.TheVariants.{Step, Blocked, Idle}
 use Rattle.step_journal.specs.declared.entry.EndedJob.{EndedJob}
 use Rattle.step_journal.specs.History.{state_of}
-use Rattle.journal_text.specs.Cuts.{field}
+use Rattle.line_fields.specs.Cuts.{field}
 use Rattle.job_rows.specs.Rows.{job_rows}
 use Rattle.job_rows.specs.Upkeep.{is_plan}
 use Rattle.journal_text.specs.Lines.{◌⊕◌}

@@ -6,7 +6,7 @@ use Rattle.rt_base.specs.declared.operation.Op.TheVariants.{Read, Write, Compute
 use Rattle.txn_set.specs.Set.{Set}
 use Rattle.step_journal.specs.declared.entry.Entry.{Entry}
 use Rattle.step_journal.specs.declared.entry.Entry.TheVariants.{Planned, Step, Blocked, Idle}
-use Rattle.journal_text.specs.Numbers.{IsI64}
+use Rattle.line_fields.specs.Numbers.{IsI64}
 use Rattle.report_text.specs.Laws.{IsItemDecl}
 
 -- a value that is written

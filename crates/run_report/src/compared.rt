@@ -6,7 +6,7 @@ ghost use Rattle.report_text.specs.Document.{lines_of};
 ghost use Rattle.run_report.specs.Compared.{final_name as final_name_of, wrong_by as wrong_by_names, wrong as wrong_of, compared as compared_of};
 
 use crate::verdict::Verdict;
-use journal_text::cut;
+use line_fields::cut;
 use name_table::NameTables;
 use report_text::final_item;
 use rt_base::Name;

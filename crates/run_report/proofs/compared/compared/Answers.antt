@@ -1,5 +1,5 @@
 use Rattle.std.proofs.Common.{◌≡◌, ◌∙◌, ◌+◌, ◌≤◌, length, Some, sym, rules, arith}
-use Rattle.journal_text.specs.Cuts.{cut_at}
+use Rattle.line_fields.specs.Cuts.{cut_at}
 use Rattle.report_text.proofs.PieceLaws.{shorter}
 use Rattle.run_report.proofs.Comparing.{from_line, goes_on, differs, report_over, document_over, same_text}
 use Rattle.run_report.proofs.compared.compared.Goals as goal

@@ -1,6 +1,6 @@
 use Rattle.std.proofs.Common.{◌-◌, ◌∙◌, sym, length}
 use Rattle.std.proofs.lemmas.Slice.Eq.{bytes_eq-Decides}
-use Rattle.journal_text.proofs.CutLaws.{rest_of}
+use Rattle.line_fields.proofs.CutLaws.{rest_of}
 use Rattle.run_report.proofs.compared.is_between.Goals as goal
 
 pub returns-then-same-clause-closing : goal.returns-then-same-clause-closing

@@ -1,5 +1,5 @@
 use Rattle.std.proofs.Common.{sym}
-use Rattle.journal_text.proofs.CutLaws.{cut_lacks}
+use Rattle.line_fields.proofs.CutLaws.{cut_lacks}
 use Rattle.journal_text.proofs.next_step.NextStep.first_entry.Goals as goal
 
 pub entry-requires-clause-lacks : goal.entry-requires-clause-lacks

@@ -1,5 +1,5 @@
 use Rattle.std.proofs.Common.{◌≡◌, ◌∙◌, ◌+◌, ◌≤◌, length, Some, Err, sym, rules, arith}
-use Rattle.journal_text.specs.Cuts.{cut_at}
+use Rattle.line_fields.specs.Cuts.{cut_at}
 use Rattle.report_text.specs.Head.{nothing}
 use Rattle.report_text.proofs.PieceLaws.{shorter}
 use Rattle.report_text.proofs.HeadLaws.{rest_of, goes_on, is_bad, is_mode, is_over, given}

@@ -1,4 +1,0 @@
-use Rattle.c_log.proofs.append.put_piece.Given as goal
-
-abbrev pub ghosts-piece_on : goal.ghosts-piece_on
-ghosts-piece_on a = record { base = a.queue.now.base }

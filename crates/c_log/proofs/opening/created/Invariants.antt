@@ -1,4 +1,0 @@
-use Rattle.c_log.proofs.opening.created.Given as goal
-
-abbrev pub ghosts-created_on : goal.ghosts-created_on
-ghosts-created_on a = record { base = a.queue.base }

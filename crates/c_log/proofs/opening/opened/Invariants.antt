@@ -1,4 +1,0 @@
-use Rattle.c_log.proofs.opening.opened.Given as goal
-
-abbrev pub ghosts-opened_on : goal.ghosts-opened_on
-ghosts-opened_on a = record { base = a.queue.base }

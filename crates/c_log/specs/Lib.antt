@@ -1,6 +1,0 @@
-pub mod Calls
-pub mod Device
-pub mod Kept
-pub mod Opening
-pub mod Appending
-pub mod Answering

@@ -1,5 +1,0 @@
-use Rattle.journal_text.proofs.FarLaws.{position_far}
-use Rattle.journal_text.proofs.cuts.find_far.Goals as goal
-
-pub returns-clause-at : goal.returns-clause-at
-returns-clause-at c = position_far c.args.byte c.args.bytes.now c.memchr.result c.memchr.ensures

@@ -1,6 +1,0 @@
-use Rattle.std.proofs.Common.{◌≡◌, take}
-use Rattle.std.specs.Str.Parse.{AllDigits, digits_value}
-use Rattle.journal_text.proofs.numbers.front.Given as goal
-
-abbrev pub invariant-loop-i : goal.invariant-loop-i
-invariant-loop-i l = (l.n ≡ digits_value 10 (take l.i l.bytes)) × AllDigits 10 (take l.i l.bytes)

@@ -1,0 +1,4 @@
+pub mod CutLaws
+pub mod NumberLaws
+pub mod FrontLaws
+pub mod FarLaws
